@@ -1,0 +1,2 @@
+pub use Rattle.bitwords.specs.Fields
+pub mod Memory

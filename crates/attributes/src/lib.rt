@@ -1,0 +1,7 @@
+//! Memory types and shareability of both stages.
+#![tactic(auto)]
+
+mod kinds;
+pub mod types;
+
+pub use kinds::{Cache, Device, MemType, Share};

@@ -1,0 +1,43 @@
+ghost use Rattle.std.specs.Prelude.{◌≡◌, ◌≤◌, ◌<◌, ◌^◌, ◌↔◌, IsSome, IfSome};
+
+use std::marker::Model;
+
+/// A number below `2 ^ N`, with N at most 64.
+#[derive(Clone, Copy, Debug, PartialEq, Eq)]
+pub struct Addr<const N: u32> {
+    value: u64,
+}
+
+impl<const N: u32> Model for Addr<N> {
+    ghost use Rattle.std.specs.Prelude.{ℕ, ◌<◌, ◌^◌};
+
+    ghost Value = { ℕ };
+
+    ghost view = { λ a. a.value };
+
+    ghost invariant = { λ a. a.value < 2 ^ N };
+
+    ghost inverse = { λ n. record { value = n } };
+}
+
+impl<const N: u32> Addr<N> {
+    /// None exactly where the number is `2 ^ N` or more.
+    pub fn of(w: u64) -> Option<Addr<N>>
+        requires { N ≤ 64 }
+        ensures fits { IsSome result ↔ (w < 2 ^ N) }
+        ensures value { IfSome result (λ a. a ≡ w) }
+    {
+        if N == 64 {
+            return Some(Addr { value: w });
+        }
+        if w >> N == 0 { Some(Addr { value: w }) } else { None }
+    }
+
+    /// The number.
+    pub fn get(&self) -> u64
+        ensures value { result ≡ self.now }
+        ensures below { result < 2 ^ N }
+    {
+        self.value
+    }
+}

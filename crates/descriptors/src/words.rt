@@ -1,0 +1,122 @@
+ghost use Rattle.std.specs.Prelude.{◌≡◌, ◌≤◌, ◌<◌, Bool};
+ghost use Rattle.geometry.specs.Tables.{IsGranule, class_of};
+ghost use Rattle.sysregs.specs.Registers.{exponent};
+ghost use Rattle.sysregs.specs.Sides.{tg_of, hpd_of};
+ghost use Rattle.descriptors.specs.Meaning.{address_in, shape_of, seen_shape, table_bits, leaf_bits, means1, means2};
+
+use crate::kinds::{Kind1, Kind2};
+use bitwords::{align_down, field, flag};
+use geometry::{block_allowed, entry_class};
+use permissions::{Bits1, TableBits};
+use sysregs::{Config, Side};
+
+/// The shape of a word, for both stages.
+#[derive(Clone, Copy)]
+enum Shape {
+    Nothing,
+    Pointer,
+    Mapping,
+}
+
+/// Bits 47 to the class of an address. With a granule of 64 KB bits 15:12 of the word are address bits 51:48.
+fn address<const G: u32>(w: u64, class: u32) -> u64
+    requires granule { IsGranule G }
+    requires class { (12 ≤ class) × (class ≤ 47) }
+    ensures { result ≡ address_in G w class }
+{
+    let low = align_down(field::<47, 0>(w), class);
+    if G == 16 { (field::<15, 12>(w) << 48) | low } else { low }
+}
+
+fn shape<const G: u32, const LEFT: u32>(w: u64) -> Shape
+    requires granule { IsGranule G }
+    requires left { LEFT ≤ 3 }
+    ensures { seen_shape result ≡ shape_of G LEFT w }
+{
+    if !flag::<0>(w) {
+        return Shape::Nothing;
+    }
+    if flag::<1>(w) {
+        if LEFT == 0 { Shape::Mapping } else { Shape::Pointer }
+    } else if block_allowed::<G, LEFT>() {
+        Shape::Mapping
+    } else {
+        Shape::Nothing
+    }
+}
+
+/// APTable, PXNTable and UXNTable, all read as 0 with HPD.
+fn table_bits(w: u64, hpd: bool) -> TableBits
+    ensures { result ≡ table_bits hpd w }
+{
+    TableBits {
+        no_el0: flag::<61>(w) & !hpd,
+        read_only: flag::<62>(w) & !hpd,
+        pxn: flag::<59>(w) & !hpd,
+        uxn: flag::<60>(w) & !hpd,
+    }
+}
+
+/// AP[2:1], DBM, PXN and UXN.
+fn leaf_bits(w: u64) -> Bits1
+    ensures { result ≡ leaf_bits w }
+{
+    Bits1 {
+        el0: flag::<6>(w),
+        read_only: flag::<7>(w),
+        dbm: flag::<51>(w),
+        pxn: flag::<53>(w),
+        uxn: flag::<54>(w),
+    }
+}
+
+/// What a stage 1 word means with `LEFT` levels left. The side picks HPD.
+#[tactic(auto, unfolding(crate::specs::Meaning::means1))]
+pub fn decode1<const G: u32, const LEFT: u32>(w: u64, config: &Config, side: Side) -> Kind1
+    requires granule { IsGranule G }
+    requires left { LEFT ≤ 3 }
+    ensures { result ≡ means1 G (hpd_of config.now side) LEFT w }
+{
+    match shape::<G, LEFT>(w) {
+        Shape::Nothing => Kind1::Invalid,
+        Shape::Pointer => Kind1::Table {
+            next: address::<G>(w, G),
+            bits: table_bits(w, config.hpd(side)),
+        },
+        Shape::Mapping => Kind1::Leaf {
+            out: address::<G>(w, entry_class::<G, LEFT>()),
+            attr_index: field::<4, 2>(w) as u32,
+            bits: leaf_bits(w),
+            sh: field::<9, 8>(w) as u32,
+            af: flag::<10>(w),
+            global: !flag::<11>(w),
+            contiguous: flag::<52>(w),
+        },
+    }
+}
+
+/// What a stage 2 word means with `LEFT` levels left.
+#[tactic(auto, unfolding(crate::specs::Meaning::means2))]
+pub fn decode2<const G: u32, const LEFT: u32>(w: u64, config: &Config) -> Kind2
+    requires granule { G ≡ exponent config.now.tg2 }
+    requires left { LEFT ≤ 3 }
+    ensures { result ≡ means2 G LEFT w }
+{
+    match shape::<G, LEFT>(w) {
+        Shape::Nothing => Kind2::Invalid,
+        Shape::Pointer => Kind2::Table {
+            next: address::<G>(w, G),
+        },
+        Shape::Mapping => Kind2::Leaf {
+            out: address::<G>(w, entry_class::<G, LEFT>()),
+            mem_attr: field::<5, 2>(w) as u32,
+            read: flag::<6>(w),
+            write: flag::<7>(w),
+            xn: field::<54, 53>(w) as u32,
+            sh: field::<9, 8>(w) as u32,
+            af: flag::<10>(w),
+            dbm: flag::<51>(w),
+            contiguous: flag::<52>(w),
+        },
+    }
+}

@@ -1,0 +1,5 @@
+pub use Rattle.bitwords.specs.Fields
+pub mod Registers
+pub mod Sides
+pub mod Refused
+pub mod Equality

@@ -1,0 +1,26 @@
+-- The fields that are refused where they are set.
+use Rattle.std.specs.Prelude.{ℕ, List, [], ◌∷◌, Option, Some, None, if◌then◌else◌}
+use Rattle.bitwords.specs.Fields.{bit}
+use Rattle.sysregs.specs.declared.regs.Reg.{Reg}
+use Rattle.sysregs.specs.declared.regs.Reg.TheVariants.{SctlrEl1, TcrEl1, Ttbr0El1, Ttbr1El1, MairEl1, HcrEl2, VtcrEl2, VttbrEl2}
+use Rattle.sysregs.specs.declared.regs.Field.{Field}
+use Rattle.sysregs.specs.declared.regs.Field.TheVariants.{Ee, Dc, Tge, Cd, Id, Fwb, Ds}
+
+-- the refused bits of a register, the lowest first
+abbrev pub refused_bits : Reg → List (ℕ × Field)
+refused_bits SctlrEl1 = (25, Ee) ∷ []
+refused_bits TcrEl1 = (59, Ds) ∷ []
+refused_bits Ttbr0El1 = []
+refused_bits Ttbr1El1 = []
+refused_bits MairEl1 = []
+refused_bits HcrEl2 = (12, Dc) ∷ (27, Tge) ∷ (32, Cd) ∷ (33, Id) ∷ (46, Fwb) ∷ []
+refused_bits VtcrEl2 = (32, Ds) ∷ []
+refused_bits VttbrEl2 = []
+
+abbrev pub first_set : List (ℕ × Field) → ℕ → Option Field
+first_set [] w = None
+first_set (x ∷ xs) w = if bit w x.0 then Some x.1 else first_set xs w
+
+-- the lowest refused field that a value sets
+abbrev pub refused_field : Reg → ℕ → Option Field
+refused_field reg w = first_set (refused_bits reg) w

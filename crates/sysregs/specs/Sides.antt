@@ -1,0 +1,36 @@
+-- The fields of TCR_EL1 that each half of the virtual addresses has of its own.
+use Rattle.std.specs.Prelude.{ℕ, Bool, if◌then◌else◌}
+use Rattle.bitwords.specs.Fields.{bit}
+use Rattle.sysregs.specs.declared.regs.Config.{Config}
+use Rattle.sysregs.specs.declared.regs.Side.{Side}
+use Rattle.sysregs.specs.declared.regs.Side.TheVariants.{Low, High}
+use Rattle.sysregs.specs.declared.regs.Tg.{Tg}
+
+-- VA bit 55 names the side
+abbrev pub side_of : ℕ → Side
+side_of va = if bit va 55 then High else Low
+
+abbrev pub by_side : {A : Type 0} → Side → A → A → A
+by_side Low low high = low
+by_side High low high = high
+
+abbrev pub txsz_of : Config → Side → ℕ
+txsz_of c s = by_side s c.t0sz c.t1sz
+
+abbrev pub tg_of : Config → Side → Tg
+tg_of c s = by_side s c.tg0 c.tg1
+
+abbrev pub epd_of : Config → Side → Bool
+epd_of c s = by_side s c.epd0 c.epd1
+
+abbrev pub tbi_of : Config → Side → Bool
+tbi_of c s = by_side s c.tbi0 c.tbi1
+
+abbrev pub tbid_of : Config → Side → Bool
+tbid_of c s = by_side s c.tbid0 c.tbid1
+
+abbrev pub e0pd_of : Config → Side → Bool
+e0pd_of c s = by_side s c.e0pd0 c.e0pd1
+
+abbrev pub hpd_of : Config → Side → Bool
+hpd_of c s = by_side s c.hpd0 c.hpd1

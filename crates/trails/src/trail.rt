@@ -1,0 +1,57 @@
+ghost use Rattle.std.specs.Prelude.{◌≡◌, ◌<◌, ◌≤◌, [], ◌∷◌, ◌++◌, length, take};
+
+use crate::item::Item;
+use arrayvec::ArrayVec;
+use std::marker::Model;
+
+/// The items of a walk in order, at most 42.
+#[derive(Drop)]
+pub struct Trail {
+    kept: ArrayVec<Item, 42>,
+}
+
+impl Model for Trail {
+    ghost use Rattle.std.specs.Prelude.{List, length, ◌≤◌};
+    ghost use Rattle.trails.specs.declared.item.Item.{Item};
+
+    ghost Value = { List Item };
+
+    ghost view = { λ t. t.kept.items };
+
+    ghost invariant = { λ t. length t.kept.items ≤ 42 };
+}
+
+impl Trail {
+    /// A trail without items.
+    pub fn none() -> Trail
+        ensures { result ≡ [] }
+    {
+        Trail {
+            kept: ArrayVec::new(),
+        }
+    }
+
+    /// The items in order.
+    pub fn items(&self) -> &[Item]
+        ensures items { result.now ≡ self.now }
+        ensures most { length self.now ≤ 42 }
+    {
+        self.kept.as_slice()
+    }
+
+    /// Appends an item.
+    pub fn push(&mut self, item: Item)
+        requires { length self.old < 42 }
+        ensures { self.new ≡ self.old ++ item ∷ [] }
+    {
+        self.kept.push(item);
+    }
+
+    /// Keeps the first `len` items.
+    pub fn cut(&mut self, len: usize)
+        requires { len ≤ length self.old }
+        ensures { self.new ≡ take len self.old }
+    {
+        self.kept.truncate(len);
+    }
+}
