@@ -28,7 +28,7 @@ fn address<const G: u32>(w: u64, class: u32) -> u64
     if G == 16 { (field::<15, 12>(w) << 48) | low } else { low }
 }
 
-fn shape<const G: u32, const LEFT: u32>(w: u64) -> Shape
+fn shape_at<const G: u32, const LEFT: u32>(w: u64) -> Shape
     requires granule { IsGranule G }
     requires left { LEFT ≤ 3 }
     ensures { seen_shape result ≡ shape_of G LEFT w }
@@ -77,7 +77,7 @@ pub fn decode1<const G: u32, const LEFT: u32>(w: u64, config: &Config, side: Sid
     requires left { LEFT ≤ 3 }
     ensures { result ≡ means1 G (hpd_of config.now side) LEFT w }
 {
-    match shape::<G, LEFT>(w) {
+    match shape_at::<G, LEFT>(w) {
         Shape::Nothing => Kind1::Invalid,
         Shape::Pointer => Kind1::Table {
             next: address::<G>(w, G),
@@ -102,7 +102,7 @@ pub fn decode2<const G: u32, const LEFT: u32>(w: u64, config: &Config) -> Kind2
     requires left { LEFT ≤ 3 }
     ensures { result ≡ means2 G LEFT w }
 {
-    match shape::<G, LEFT>(w) {
+    match shape_at::<G, LEFT>(w) {
         Shape::Nothing => Kind2::Invalid,
         Shape::Pointer => Kind2::Table {
             next: address::<G>(w, G),

@@ -1,0 +1,4 @@
+pub mod Standing
+pub mod Feeding
+pub mod Finer
+pub mod Rows

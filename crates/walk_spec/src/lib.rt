@@ -1,0 +1,6 @@
+//! The walk of both stages, as definitions: what is read for an access, in which order, and what it leads to.
+#![tactic(auto)]
+
+mod leaf;
+
+pub use leaf::{Leaf1, Leaf2, Sizes};
