@@ -1,7 +1,8 @@
-ghost use Rattle.std.specs.Prelude.{◌≡◌, ◌≤◌, ◌<◌, Bool};
-ghost use Rattle.geometry.specs.Tables.{IsGranule, class_of};
+ghost use Rattle.std.specs.Prelude.{◌≡◌, ◌≤◌, ◌<◌, ◌*◌, ◌^◌};
+ghost use Rattle.bitwords.specs.Fields.{bits_of};
+ghost use Rattle.geometry.specs.Tables.{IsGranule};
 ghost use Rattle.sysregs.specs.Registers.{exponent};
-ghost use Rattle.sysregs.specs.Sides.{tg_of, hpd_of};
+ghost use Rattle.sysregs.specs.Sides.{hpd_of};
 ghost use Rattle.descriptors.specs.Meaning.{address_in, shape_of, seen_shape, table_bits, leaf_bits, means1, means2};
 
 use crate::kinds::{Kind1, Kind2};
@@ -18,13 +19,23 @@ enum Shape {
     Mapping,
 }
 
-/// Bits 47 to the class of an address. With a granule of 64 KB bits 15:12 of the word are address bits 51:48.
+/// Bits 47 to the class of an address.
+#[tactic(auto, using(crate::proofs::Addresses::low_address))]
+fn low_address(w: u64, class: u32) -> u64
+    requires { class ≤ 47 }
+    ensures value { result ≡ bits_of w 47 class * 2 ^ class }
+    ensures below { result < 2 ^ 48 }
+{
+    align_down(field::<47, 0>(w), class)
+}
+
+/// An address from its class up. With a granule of 64 KB bits 15:12 of the word are address bits 51:48.
 fn address<const G: u32>(w: u64, class: u32) -> u64
     requires granule { IsGranule G }
-    requires class { (12 ≤ class) × (class ≤ 47) }
+    requires class { class ≤ 47 }
     ensures { result ≡ address_in G w class }
 {
-    let low = align_down(field::<47, 0>(w), class);
+    let low = low_address(w, class);
     if G == 16 { (field::<15, 12>(w) << 48) | low } else { low }
 }
 

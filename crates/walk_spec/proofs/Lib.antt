@@ -1,4 +1,6 @@
 pub mod Standing
 pub mod Feeding
 pub mod Finer
-pub mod Rows
+pub mod Worked
+pub mod WorkedOne
+pub mod WorkedTwo
