@@ -8,9 +8,9 @@ use Rattle.std.proofs.lemmas.Grind.{common_steps}
 use Rattle.permissions.specs.Rights.{Rights, perms_of, has, rights1, needed, is_allowed1}
 use Rattle.permissions.specs.declared.set.Perms.{Perms}
 use Rattle.permissions.specs.declared.bits.El.{El}
-use Rattle.permissions.specs.declared.bits.El.TheVariants.{El1}
+use Rattle.permissions.specs.declared.bits.El.TheVariants.{El0, El1}
 use Rattle.permissions.specs.declared.bits.Kind.{Kind}
-use Rattle.permissions.specs.declared.bits.Kind.TheVariants.{Read}
+use Rattle.permissions.specs.declared.bits.Kind.TheVariants.{Read, Write, Fetch}
 use Rattle.permissions.specs.declared.bits.Bits1.{Bits1}
 use Rattle.permissions.specs.declared.bits.TableBits.{TableBits}
 
@@ -41,6 +41,23 @@ has_w1 r = grind (arith, common_steps)
 pub has_x1 : (r : Rights) → has (perms_of r) 5 ≡ r.x1
 unfolding perms_of has
 has_x1 r = grind (arith, common_steps)
+
+-- the right that an access needs
+abbrev pub right_of : Rights → El → Kind → Bool
+right_of r El0 Read = r.r0
+right_of r El0 Write = r.w0
+right_of r El0 Fetch = r.x0
+right_of r El1 Read = r.r1
+right_of r El1 Write = r.w1
+right_of r El1 Fetch = r.x1
+
+pub has_of : (r : Rights) → (el : El) → (kind : Kind) → has (perms_of r) (needed el kind) ≡ right_of r el kind
+has_of r El0 Read = has_r0 r
+has_of r El0 Write = has_w0 r
+has_of r El0 Fetch = has_x0 r
+has_of r El1 Read = has_r1 r
+has_of r El1 Write = has_w1 r
+has_of r El1 Fetch = has_x1 r
 
 -- without PAN a set gives what its rights say
 pub allowed_without_pan : (p : Perms) → (uxn : Bool) → (el : El) → (kind : Kind) → (epan : Bool) → is_allowed1 p uxn el kind false epan ≡ has p (needed el kind)

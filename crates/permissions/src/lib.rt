@@ -2,6 +2,7 @@
 #![tactic(auto)]
 
 mod bits;
+pub mod laws;
 mod rights;
 mod set;
 
