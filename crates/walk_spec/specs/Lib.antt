@@ -1,3 +1,4 @@
+pub use Rattle.bitwords.specs.Causes
 pub use Rattle.bitwords.specs.Fields
 pub use Rattle.geometry.specs.Tables
 pub use Rattle.geometry.specs.Runs
@@ -12,3 +13,4 @@ pub mod Second
 pub mod First
 pub mod Whole
 pub mod Fresh
+pub mod Walked

@@ -35,8 +35,11 @@ pub record Regime : Type 0 where
   pub one : Sizes
   pub two : Sizes
 
+abbrev pub regime_with : Config → Side → Sizes → Regime
+regime_with c s one = record { config = c; side = s; one = one; two = sizes2 c }
+
 abbrev pub regime_of : Config → Side → Regime
-regime_of c s = record { config = c; side = s; one = sizes1 c s; two = sizes2 c }
+regime_of c s = regime_with c s (sizes1 c s)
 
 -- A word of a stage with so many levels left, at a physical place. It carries the mark s1ptw of its faults, the
 -- address that it is read for (VA bits 55 to 0, or the IPA of its chain), and the table that it stands in.

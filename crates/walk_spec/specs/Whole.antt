@@ -87,14 +87,14 @@ is_refused1 c a =
 abbrev pub low : ℕ → ℕ
 low va = va % 2 ^ 56
 
-abbrev pub from_base : Regime → Bool → Access → Item → Ask Need Item (End Landing)
+abbrev pub from_base : Regime → Bool → Access → Item → Ask Need Item (End Leaf1)
 from_base r j a i =
     if nat_le (2 ^ r.one.output) i.value then done (stops (fault_at S1 false AddressSize first_left))
-    else after (first_part r j a (low a.va) r.one.start record { table = i.value; bits = no_bits }) (output r j a)
+    else first_part r j a (low a.va) r.one.start record { table = i.value; bits = no_bits }
 
--- the walk with stage 1 on
-abbrev pub walk_on : Regime → Bool → Access → Ask Need Item (End Landing)
-walk_on r j a = if is_refused1 r.config a then done (stops (fault_at S1 false Translation first_left)) else ask base_one (from_base r j a)
+-- stage 1 while it is on
+abbrev pub stage_on : Regime → Bool → Access → Ask Need Item (End Leaf1)
+stage_on r j a = if is_refused1 r.config a then done (stops (fault_at S1 false Translation first_left)) else ask base_one (from_base r j a)
 
 -- what stage 1 gives while it is off (SCTLR_EL1.M is 0): VA bits 51 to 0, and all rights
 abbrev pub off_leaf : Config → Access → Leaf1
@@ -103,14 +103,17 @@ off_leaf c a = record { level = pos 0; class = 52; out = a.va % 2 ^ 52; perms = 
 abbrev pub is_refused_off : Config → Access → Bool
 is_refused_off c a = not (bits_of a.va (top_bit c a) 52 == 0)
 
--- the walk with stage 1 off
-abbrev pub walk_off : Regime → Bool → Access → Ask Need Item (End Landing)
-walk_off r j a = if is_refused_off r.config a then done (stops (fault_at S1 false AddressSize first_left)) else output r j a (reaches (off_leaf r.config a))
+-- stage 1 while it is off
+abbrev pub stage_off : Regime → Access → Ask Need Item (End Leaf1)
+stage_off r a = done (if is_refused_off r.config a then stops (fault_at S1 false AddressSize first_left) else reaches (off_leaf r.config a))
 
+abbrev pub stage_one : Regime → Bool → Access → Ask Need Item (End Leaf1)
+stage_one r j a = if r.config.m then stage_on r j a else stage_off r a
+
+-- the walk for an access, judged or not: stage 1, and then stage 2 of its output
 abbrev pub walk_by : Regime → Bool → Access → Ask Need Item (End Landing)
-walk_by r j a = if r.config.m then walk_on r j a else walk_off r j a
+walk_by r j a = after (stage_one r j a) (output r j a)
 
--- the walk for an access, judged or not
 abbrev pub walk : Config → Bool → Access → Ask Need Item (End Landing)
 walk c j a = walk_by (regime_of c (side_of a.va)) j a
 

@@ -2,5 +2,7 @@
 #![tactic(auto)]
 
 mod leaf;
+mod supply;
 
 pub use leaf::{Leaf1, Leaf2, Sizes};
+pub use supply::Supply;
