@@ -111,5 +111,8 @@ fits r (word w) i = fits_word (sizes_for r w.stage) w i
 abbrev pub base_item : ℕ → Stage → Sizes → ℕ → Item
 base_item now s n base = record { stage = s; level = level_of n.start; what = Base; pa = base; value = base; moment = now }
 
+abbrev pub read_item : ℕ → Stage → ℕ → ℕ → ℕ → Item
+read_item now s left place value = record { stage = s; level = level_of left; what = Word; pa = place; value = value; moment = now }
+
 abbrev pub word_item : ℕ → WordNeed → ℕ → Item
-word_item now w value = record { stage = w.stage; level = level_of w.left; what = Word; pa = w.place; value = value; moment = now }
+word_item now w value = read_item now w.stage w.left w.place value

@@ -1,15 +1,16 @@
 -- What is said of code that walks over a supply of words.
-use Rattle.std.specs.Prelude.{ℕ, ◌≡◌, ◌++◌, ◌⊎◌, ◌≤◌, List, [], ◌∷◌, Option, Some, None, Result, Ok, Err}
+use Rattle.std.specs.Prelude.{ℕ, Bool, ◌≡◌, ◌++◌, ◌⊎◌, ◌≤◌, List, [], ◌∷◌, Option, Some, None, Result, Ok, Err}
 use Rattle.geometry.specs.Tables.{level_of}
 use Rattle.sysregs.specs.declared.regs.Regs.{Regs}
 use Rattle.sysregs.specs.declared.regs.Side.{Side}
 use Rattle.sysregs.specs.Registers.{config_of}
+use Rattle.fault_codes.specs.declared.fault.Stage.{Stage}
 use Rattle.fault_codes.specs.declared.fault.Stage.TheVariants.{S1, S2}
 use Rattle.trails.specs.declared.item.Item.{Item}
 use Rattle.trails.specs.declared.outcome.Stop.{Stop}
 use Rattle.trails.specs.declared.outcome.Stop.TheVariants.{Fault, Absent, Conflict}
 use Rattle.walk_spec.specs.Ask.{Ask, Fed, ended, lacks, Took}
-use Rattle.walk_spec.specs.Needs.{sizes1, sizes2, Need, base_one, base_two, word, WordNeed, base_item, word_item}
+use Rattle.walk_spec.specs.Needs.{sizes1, sizes2, Need, base_one, base_two, word, WordNeed, base_item, read_item, word_item}
 use Rattle.walk_spec.specs.Second.{End, stops, reaches}
 use Rattle.walk_spec.specs.Fresh.{Memory, base_one_of, base_two_of}
 
@@ -68,7 +69,7 @@ pub record Walked {L : Type 0} (reads : Need → Item → Type 0) (m : Told) (fa
   pub cause : LacksFor m failed end
   pub answer : r ≡ result_of end
 
--- A word was read and appended, or it is lacking.
-abbrev pub HasRead : Told → Type 0 → ℕ → WordNeed → List Item → List Item → Result ℕ Stop → Type 0
-HasRead m failed now w old new (Ok v) = (new ≡ old ++ word_item now w v ∷ []) × Holds m w.place v
-HasRead m failed now w old new (Err s) = (new ≡ old) × (s ≡ Absent w.stage (level_of w.left) w.place w.s1ptw) × Misses m w.place failed
+-- A word of a stage with so many levels left was read at a place and appended, or it is lacking.
+abbrev pub HasRead : Told → Type 0 → ℕ → Stage → ℕ → ℕ → Bool → List Item → List Item → Result ℕ Stop → Type 0
+HasRead m failed now s left p s1ptw old new (Ok v) = (new ≡ old ++ read_item now s left p v ∷ []) × Holds m p v
+HasRead m failed now s left p s1ptw old new (Err stop) = (new ≡ old) × (stop ≡ Absent s (level_of left) p s1ptw) × Misses m p failed

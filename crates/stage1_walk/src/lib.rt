@@ -1,0 +1,8 @@
+//! The walk through stage 1.
+#![tactic(auto)]
+
+mod sizes;
+mod step;
+mod walk;
+
+pub use walk::{From1, walk1};
