@@ -7,3 +7,4 @@ pub use Rattle.walk_spec.specs.Fresh
 pub use Rattle.walk_spec.specs.Walked
 pub mod Steps
 pub mod Sound
+pub mod Outcomes

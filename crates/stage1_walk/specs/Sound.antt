@@ -1,6 +1,6 @@
 -- Sizes that a walk may be done under.
 use Rattle.std.specs.Prelude.{ℕ, ◌<◌, ◌≤◌, ◌^◌, ◌%◌, ◌≡◌}
-use Rattle.geometry.specs.Tables.{IsGranule}
+use Rattle.geometry.specs.Tables.{IsGranule, class_of}
 use Rattle.walk_spec.specs.declared.leaf.Sizes.{Sizes}
 
 pub record AreSound (n : Sizes) : Type 0 where
@@ -9,3 +9,4 @@ pub record AreSound (n : Sizes) : Type 0 where
   pub wide : n.granule < n.input
   pub input : n.input ≤ 52
   pub output : n.output ≤ 52
+  pub entries : class_of n.granule n.start < n.input

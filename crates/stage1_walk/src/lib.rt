@@ -1,6 +1,7 @@
 //! The walk through stage 1.
 #![tactic(auto)]
 
+mod alone;
 mod sizes;
 mod step;
 mod walk;

@@ -1,5 +1,5 @@
 -- What is said of code that walks over a supply of words.
-use Rattle.std.specs.Prelude.{ℕ, Bool, ◌≡◌, ◌++◌, ◌⊎◌, ◌≤◌, List, [], ◌∷◌, Option, Some, None, Result, Ok, Err}
+use Rattle.std.specs.Prelude.{ℕ, Bool, true, ◌≡◌, ◌++◌, ◌⊎◌, ◌≤◌, List, [], ◌∷◌, Option, Some, None, Result, Ok, Err}
 use Rattle.geometry.specs.Tables.{level_of}
 use Rattle.sysregs.specs.declared.regs.Regs.{Regs}
 use Rattle.sysregs.specs.declared.regs.Side.{Side}
@@ -7,12 +7,16 @@ use Rattle.sysregs.specs.Registers.{config_of}
 use Rattle.fault_codes.specs.declared.fault.Stage.{Stage}
 use Rattle.fault_codes.specs.declared.fault.Stage.TheVariants.{S1, S2}
 use Rattle.trails.specs.declared.item.Item.{Item}
+use Rattle.sysregs.specs.Sides.{side_of}
+use Rattle.trails.specs.declared.outcome.Access.{Access}
+use Rattle.trails.specs.declared.outcome.Outcome.{Outcome}
 use Rattle.trails.specs.declared.outcome.Stop.{Stop}
 use Rattle.trails.specs.declared.outcome.Stop.TheVariants.{Fault, Absent, Conflict}
 use Rattle.walk_spec.specs.Ask.{Ask, Fed, ended, lacks, Took}
 use Rattle.walk_spec.specs.Needs.{sizes1, sizes2, Need, base_one, base_two, word, WordNeed, base_item, read_item, word_item}
 use Rattle.walk_spec.specs.Second.{End, stops, reaches}
-use Rattle.walk_spec.specs.Fresh.{Memory, base_one_of, base_two_of}
+use Rattle.walk_spec.specs.Whole.{Landing, walk}
+use Rattle.walk_spec.specs.Fresh.{Memory, base_one_of, base_two_of, fed_outcome, fresh_items, fresh_outcome}
 
 -- the memory that a supply stands for, where it tells that
 abbrev pub Told : Type 0
@@ -73,3 +77,14 @@ pub record Walked {L : Type 0} (reads : Need → Item → Type 0) (m : Told) (fa
 abbrev pub HasRead : Told → Type 0 → ℕ → Stage → ℕ → ℕ → Bool → List Item → List Item → Result ℕ Stop → Type 0
 HasRead m failed now s left p s1ptw old new (Ok v) = (new ≡ old ++ read_item now s left p v ∷ []) × Holds m p v
 HasRead m failed now s left p s1ptw old new (Err stop) = (new ≡ old) × (stop ≡ Absent s (level_of left) p s1ptw) × Misses m p failed
+
+-- The whole walk of an access took these items, each as it may be read, and came out so.
+pub record WalkedWhole (regs : Regs) (a : Access) (now : ℕ) (m : Told) (failed : Type 0) (items : List Item) (o : Outcome) : Type 0 where
+  pub end : Fed Need (End Landing)
+  pub took : Took (ReadNow regs (side_of a.va) now m) (walk (config_of regs) true a) items end
+  pub cause : LacksFor m failed end
+  pub answer : o ≡ fed_outcome end
+
+-- Where the memory is told and the supply did not fail, items and outcome are those of the fresh walk.
+abbrev pub IsFresh : Regs → Access → ℕ → Told → Type 0 → List Item → Outcome → Type 0
+IsFresh regs a now told failed items o = (m : Memory) → told ≡ Some m → (failed → ⊥) → (items ≡ fresh_items m regs a now) × (o ≡ fresh_outcome m regs a now)
