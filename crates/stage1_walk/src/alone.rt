@@ -150,6 +150,8 @@ fn no_bits() -> TableBits
 fn start(sizes: &Sizes, base: u64) -> From1
     requires { AreSound sizes.now }
     ensures level { result.level ≡ level_of sizes.now.start }
+    ensures low { pos 0 ≤ℤ result.level }
+    ensures high { result.level ≤ℤ pos 3 }
     ensures left { left_below result.level ≡ sizes.now.start }
     ensures base { result.base ≡ base }
     ensures tables { result.tables ≡ no_bits }
@@ -187,4 +189,83 @@ fn walk_granule<S: Supply>(
         Tg::K16 => walk1::<14, S>(config, access, from, supply, trail),
         Tg::K64 => walk1::<16, S>(config, access, from, supply, trail),
     }
+}
+
+/// Stage 1 from its base, while it is on and stage 2 is off.
+fn stage1<S: Supply>(
+    regs: &Regs,
+    access: &Access,
+    supply: &mut S,
+    trail: &mut Trail,
+) -> Result<Leaf1, Stop>
+    requires alone { IsFalse (config_of regs.now).vm }
+    requires room { trail.old ≡ [] }
+    ensures same { S.memory supply.new ≡ S.memory supply.old }
+    ensures later { S.faults supply.old ≤ S.faults supply.new }
+    ensures kept { S.keeps supply.old supply.new }
+    ensures walked { Walked (ReadNow regs.now (side_of access.now.va) 0 (S.memory supply.old)) (S.memory supply.old) (Rose (S.faults supply.old) (S.faults supply.new)) (stage_on (regime_of (config_of regs.now) (side_of access.now.va)) true access.now) [] trail.new result }
+{
+    let config = config(regs);
+    if refuses(&config, access) {
+        return Err(Stop::Fault {
+            fault: fault(Class::Translation, 3),
+        });
+    }
+    let side = sysregs::side(access.va);
+    let sizes = sizes1(&config, side);
+    let base = base_one(regs, side, &sizes);
+    keep_base(&sizes, base, trail);
+    if base >= power(sizes.output) {
+        return Err(Stop::Fault {
+            fault: fault(Class::AddressSize, 3),
+        });
+    }
+    let from = start(&sizes, base);
+    walk_granule(&config, access, &from, supply, trail)
+}
+
+/// How an access comes out by what stage 1 answers.
+fn outcome(answer: Result<Leaf1, Stop>) -> Outcome
+    ensures { result ≡ outcome_by answer }
+{
+    match answer {
+        Ok(leaf) => {
+            let (mem, sh) = alone(leaf.mem, leaf.sh);
+            Outcome::Mapped {
+                pa: leaf.out,
+                perms: leaf.perms,
+                mem,
+                sh,
+            }
+        }
+        Err(Stop::Fault { fault }) => Outcome::Faulted { fault },
+        Err(Stop::Absent {
+            stage,
+            level,
+            pa,
+            s1ptw,
+        }) => Outcome::Absent {
+            stage,
+            level,
+            pa,
+            s1ptw,
+        },
+        Err(Stop::Conflict) => Outcome::Conflict,
+    }
+}
+
+/// The walk of an access with stage 1 on and stage 2 off: how it comes out, and the items that it used. Where the
+/// supply tells its memory and does not fail, both are those of the fresh walk.
+pub fn translate1<S: Supply>(regs: &Regs, access: &Access, supply: &mut S) -> (Outcome, Trail)
+    requires on { IsTrue (config_of regs.now).m }
+    requires alone { IsFalse (config_of regs.now).vm }
+    ensures same { S.memory supply.new ≡ S.memory supply.old }
+    ensures later { S.faults supply.old ≤ S.faults supply.new }
+    ensures kept { S.keeps supply.old supply.new }
+    ensures walked { WalkedWhole regs.now access.now 0 (S.memory supply.old) (Rose (S.faults supply.old) (S.faults supply.new)) result.1 result.0 }
+    ensures fresh { IsFresh regs.now access.now 0 (S.memory supply.old) (Rose (S.faults supply.old) (S.faults supply.new)) result.1 result.0 }
+{
+    let mut trail = Trail::none();
+    let answer = stage1(regs, access, supply, &mut trail);
+    (outcome(answer), trail)
 }

@@ -6,4 +6,5 @@ mod sizes;
 mod step;
 mod walk;
 
+pub use alone::translate1;
 pub use walk::{From1, walk1};
