@@ -1,0 +1,5 @@
+pub use Rattle.trails.specs.Texts
+pub mod Causes
+pub mod Written
+pub mod Held
+pub mod FilesInMemory
