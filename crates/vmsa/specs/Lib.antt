@@ -3,3 +3,8 @@ pub mod Causes
 pub mod Written
 pub mod Held
 pub mod FilesInMemory
+pub mod RawText
+pub mod ErrText
+pub mod Numbers
+pub mod Words
+pub mod Image

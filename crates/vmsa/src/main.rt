@@ -2,10 +2,11 @@
 #![tactic(auto)]
 
 mod files;
+mod line;
+mod lines;
+mod numbers;
 mod sink;
+mod word;
+mod words;
 
-use std::process::ExitCode;
-
-fn main(_rt: HostRuntime) -> ExitCode {
-    ExitCode::from(2)
-}
+fn main(_rt: HostRuntime) {}
