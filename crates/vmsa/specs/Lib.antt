@@ -1,0 +1,10 @@
+pub use Rattle.trails.specs.Texts
+pub mod Causes
+pub mod Written
+pub mod Held
+pub mod FilesInMemory
+pub mod RawText
+pub mod ErrText
+pub mod Numbers
+pub mod Words
+pub mod Image

@@ -1,0 +1,280 @@
+ghost use Rattle.std.specs.Prelude.{◌≡◌, ℕ, ◌≤◌, ◌<◌, List, length, IfOk, MatchOption};
+ghost use Rattle.vmsa.specs.Causes.{HasCause};
+ghost use Rattle.vmsa.specs.Held.{Holding, IsSize, IsRead, Untold};
+ghost use Rattle.vmsa.specs.FilesInMemory.{held_of};
+
+use std::alloc::Global;
+use std::fs::OpenFile;
+use std::io::{Read, Seek, SeekFrom};
+use std::{io, rt};
+
+/// A file's size or its bytes could not be read.
+#[derive(Clone, Copy, Debug, PartialEq, Eq)]
+pub struct ReadFailed;
+
+/// Files that are read by name.
+pub trait Files {
+    /// What a name holds, where that is told. No call changes it.
+    ghost holds: { Self → List ℕ → Holding };
+
+    /// How often a call has failed.
+    ghost faults: { Self → ℕ };
+
+    /// How often a name was found missing or a file found ended.
+    ghost missing: { Self → ℕ };
+
+    /// The file's size in bytes, or None where there is no such file. No byte of it is read.
+    fn size(&mut self, name: &str) -> Result<Option<u64>, ReadFailed>
+        ensures same { holds self.new ≡ holds self.old }
+        ensures size { IfOk result (IsSize (holds self.old name.now) (missing self.old) (missing self.new)) }
+        ensures missing { missing self.old ≤ missing self.new }
+        ensures cause { HasCause (faults self.old) (faults self.new) result };
+
+    /// Reads from a place on, counted in bytes. 0 is the file's end.
+    fn read_at(&mut self, name: &str, at: u64, into: &mut [u8]) -> Result<usize, ReadFailed>
+        requires { 0 < length into.old }
+        ensures same { holds self.new ≡ holds self.old }
+        ensures bound { IfOk result (λ n. n ≤ length into.new) }
+        ensures bytes { IfOk result (IsRead (holds self.old name.now) (missing self.old) (missing self.new) at into.new) }
+        ensures missing { missing self.old ≤ missing self.new }
+        ensures cause { HasCause (faults self.old) (faults self.new) result };
+}
+
+/// A file in memory.
+#[derive(Drop)]
+pub struct MemoryFile {
+    pub name: String,
+    pub bytes: Vec<u8>,
+}
+
+/// The first file of that name.
+fn find<'a>(files: &'a [MemoryFile], name: &str) -> Option<&'a MemoryFile>
+    ensures { MatchOption result (held_of files.now name.now ≡ Holding.Absent) (λ f. held_of files.now name.now ≡ Holding.Bytes f.now.bytes.items) }
+{
+    for file in files {
+        if file.name.as_str() == name {
+            return Some(file);
+        }
+    }
+    None
+}
+
+fn size_of(files: &[MemoryFile], name: &str) -> Option<u64>
+    ensures { IsSize (held_of files.now name.now) 0 0 result }
+{
+    match find(files, name) {
+        Some(file) => Some(file.bytes.len() as u64),
+        None => None,
+    }
+}
+
+/// Copies what stands from a place on, as much as fits.
+fn copy_from(bytes: &[u8], at: u64, into: &mut [u8]) -> usize
+    ensures bound { result ≤ length into.new }
+    ensures bytes { IsRead (Holding.Bytes bytes.now) 0 0 at into.new result }
+{
+    let Ok(start) = usize::try_from(at) else {
+        return 0;
+    };
+    if start >= bytes.len() {
+        return 0;
+    }
+    let rest = &bytes[start..];
+    let count = rest.len().min(into.len());
+    into[..count].copy_from_slice(&rest[..count]);
+    count
+}
+
+fn read_from(files: &[MemoryFile], name: &str, at: u64, into: &mut [u8]) -> usize
+    ensures bound { result ≤ length into.new }
+    ensures bytes { IsRead (held_of files.now name.now) 0 0 at into.new result }
+{
+    match find(files, name) {
+        Some(file) => copy_from(file.bytes.as_slice(), at, into),
+        None => 0,
+    }
+}
+
+/// Files in memory, which never fail. They tell what they hold.
+#[derive(Drop)]
+pub struct MemoryFiles {
+    pub files: Vec<MemoryFile>,
+}
+
+impl Files for MemoryFiles {
+    ghost holds = { λ s name. held_of s.files.items name };
+
+    ghost faults = { λ _. 0 };
+
+    ghost missing = { λ _. 0 };
+
+    fn size(&mut self, name: &str) -> Result<Option<u64>, ReadFailed> {
+        Ok(size_of(self.files.as_slice(), name))
+    }
+
+    fn read_at(&mut self, name: &str, at: u64, into: &mut [u8]) -> Result<usize, ReadFailed> {
+        Ok(read_from(self.files.as_slice(), name, at, into))
+    }
+}
+
+/// Files in memory of which the calls of a list fail. They tell what they hold.
+#[derive(Drop)]
+pub struct FailingFiles {
+    pub files: Vec<MemoryFile>,
+    /// The numbers of the calls that fail. Calls of `size` and of `read_at` are counted together, from 0.
+    pub fails: Vec<u64>,
+    pub calls: u64,
+    pub faults: u64,
+}
+
+impl FailingFiles {
+    pub fn new(files: Vec<MemoryFile>, fails: Vec<u64>) -> FailingFiles {
+        FailingFiles {
+            files,
+            fails,
+            calls: 0,
+            faults: 0,
+        }
+    }
+
+    /// Counts a call, and its failure where it is one that fails.
+    fn count(&mut self) -> Result<(), ReadFailed>
+        ensures files { self.new.files ≡ self.old.files }
+        ensures cause { HasCause self.old.faults self.new.faults result }
+    {
+        let fails = self.fails.contains(&self.calls);
+        self.calls = self.calls.saturating_add(1);
+        if fails {
+            self.faults = self.faults.saturating_add(1);
+            return Err(ReadFailed);
+        }
+        Ok(())
+    }
+}
+
+impl Files for FailingFiles {
+    ghost holds = { λ s name. held_of s.files.items name };
+
+    ghost faults = { λ s. s.faults };
+
+    ghost missing = { λ _. 0 };
+
+    fn size(&mut self, name: &str) -> Result<Option<u64>, ReadFailed> {
+        self.count()?;
+        Ok(size_of(self.files.as_slice(), name))
+    }
+
+    fn read_at(&mut self, name: &str, at: u64, into: &mut [u8]) -> Result<usize, ReadFailed> {
+        self.count()?;
+        Ok(read_from(self.files.as_slice(), name, at, into))
+    }
+}
+
+/// An open file and its name.
+#[derive(Drop)]
+struct Open<F> {
+    name: String,
+    file: F,
+}
+
+/// The files of the system. The one that was used last stays open. They don't tell what they hold.
+#[derive(Drop)]
+pub struct RealFiles<R: rt::Files> {
+    rt: R,
+    alloc: Global,
+    held: Option<Open<R::File>>,
+    faults: u64,
+    missing: u64,
+}
+
+impl<R: rt::Files> RealFiles<R> {
+    pub fn new(rt: R, alloc: Global) -> RealFiles<R> {
+        RealFiles {
+            rt,
+            alloc,
+            held: None,
+            faults: 0,
+            missing: 0,
+        }
+    }
+
+    /// Keeps a file open, unless memory for its name is refused.
+    fn hold(&mut self, name: &str, file: R::File)
+        ensures faults { self.new.faults ≡ self.old.faults }
+        ensures missing { self.new.missing ≡ self.old.missing }
+    {
+        self.held = match String::from_str(self.alloc, name) {
+            Ok(name) => Some(Open { name, file }),
+            Err(_) => None,
+        };
+    }
+
+    /// The size by the file's metadata. A directory has none.
+    fn real_size(&mut self, name: &str) -> io::Result<u64>
+        ensures faults { self.new.faults ≡ self.old.faults }
+        ensures missing { self.new.missing ≡ self.old.missing }
+    {
+        let file = std::fs::open(&self.rt, name)?;
+        let metadata = file.metadata()?;
+        if metadata.is_dir() {
+            return Err(io::Error::from(io::ErrorKind::IsADirectory));
+        }
+        self.hold(name, file);
+        Ok(metadata.len())
+    }
+
+    fn real_read(&mut self, name: &str, at: u64, into: &mut [u8]) -> io::Result<usize>
+        ensures bound { IfOk result (λ n. n ≤ length into.new) }
+        ensures faults { self.new.faults ≡ self.old.faults }
+        ensures missing { self.new.missing ≡ self.old.missing }
+    {
+        if let Some(open) = &mut self.held {
+            if open.name.as_str() == name {
+                open.file.seek(SeekFrom::Start(at))?;
+                return open.file.read(into);
+            }
+        }
+        let mut file = std::fs::open(&self.rt, name)?;
+        file.seek(SeekFrom::Start(at))?;
+        let count = file.read(into)?;
+        self.hold(name, file);
+        Ok(count)
+    }
+}
+
+impl<R: rt::Files> Files for RealFiles<R> {
+    ghost holds = { λ _ _. Untold };
+
+    ghost faults = { λ s. s.faults };
+
+    ghost missing = { λ s. s.missing };
+
+    fn size(&mut self, name: &str) -> Result<Option<u64>, ReadFailed> {
+        match self.real_size(name) {
+            Ok(size) => Ok(Some(size)),
+            Err(e) => {
+                if e.kind() == io::ErrorKind::NotFound {
+                    self.missing = self.missing.saturating_add(1);
+                    return Ok(None);
+                }
+                self.faults = self.faults.saturating_add(1);
+                Err(ReadFailed)
+            }
+        }
+    }
+
+    fn read_at(&mut self, name: &str, at: u64, into: &mut [u8]) -> Result<usize, ReadFailed> {
+        match self.real_read(name, at, into) {
+            Ok(count) => {
+                if count == 0 {
+                    self.missing = self.missing.saturating_add(1);
+                }
+                Ok(count)
+            }
+            Err(_) => {
+                self.faults = self.faults.saturating_add(1);
+                Err(ReadFailed)
+            }
+        }
+    }
+}

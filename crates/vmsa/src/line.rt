@@ -1,0 +1,229 @@
+ghost use Rattle.std.specs.Prelude.{◌≡◌, ◌++◌, ℕ, ◌≤◌, ◌<◌, ◌+◌, ◌^◌, List, [], drop, take, length, map, false, decimal, if◌then◌else◌};
+ghost use Rattle.std.specs.Fmt.{digits, digit_glyph};
+ghost use Rattle.trails.specs.Texts.{hex_text, byte_text, level_text, stage_digit, class_text};
+ghost use Rattle.vmsa.specs.ErrText.{shown, shown_byte};
+
+use fault_codes::{Class, Stage};
+use std::marker::Model;
+
+/// A text of at most 160 bytes that stands at the end of an array and grows at its front.
+#[derive(Drop)]
+pub struct Line {
+    bytes: [u8; 160],
+    start: usize,
+}
+
+impl Model for Line {
+    ghost use Rattle.std.specs.Prelude.{List, ℕ, drop, ◌≤◌};
+
+    ghost Value = { List ℕ };
+
+    ghost view = { λ s. drop s.start s.bytes };
+
+    ghost invariant = { λ s. s.start ≤ 160 };
+}
+
+#[inline]
+fn glyph(digit: u8) -> u8
+    requires { digit < 16 }
+    ensures { result ≡ digit_glyph false digit }
+{
+    if digit < 10 {
+        b'0' + digit
+    } else {
+        b'a' + (digit - 10)
+    }
+}
+
+/// Writes the digits of a number of at most `most` digits so that they end before `end`. Answers where they start.
+#[inline(always)]
+fn digits_before(bytes: &mut [u8; 160], end: usize, n: u64, radix: u64, most: usize) -> usize
+    requires radix { (2 ≤ radix) × (radix ≤ 16) }
+    requires most { (0 < most) × (most ≤ 64) × (n < radix ^ most) }
+    requires end { (most ≤ end) × (end ≤ 160) }
+    ensures text { drop result bytes.new ≡ digits radix false n ++ drop end bytes.old }
+    ensures room { length (drop result bytes.new) ≤ most + length (drop end bytes.old) }
+    ensures starts { end ≤ result + most }
+    ensures within { result ≤ end }
+{
+    let mut start = end;
+    let mut left = most;
+    let mut rest = n;
+    while left > 0 {
+        left -= 1;
+        start -= 1;
+        bytes[start] = glyph((rest % radix) as u8);
+        rest /= radix;
+        if rest == 0 {
+            break;
+        }
+    }
+    start
+}
+
+/// Writes a text so that it ends before `end`. Answers where it starts.
+#[inline]
+fn text_before(bytes: &mut [u8; 160], end: usize, text: &[u8]) -> usize
+    requires { (length text.now ≤ end) × (end ≤ 160) }
+    ensures text { drop result bytes.new ≡ text.now ++ drop end bytes.old }
+    ensures room { length (drop result bytes.new) ≡ length text.now + length (drop end bytes.old) }
+    ensures starts { result + length text.now ≡ end }
+{
+    let start = end - text.len();
+    bytes[start..end].copy_from_slice(text);
+    start
+}
+
+#[inline]
+fn shown_byte(byte: u8) -> u8
+    ensures { result ≡ Rattle.vmsa.specs.ErrText.shown_byte byte }
+{
+    if byte >= 0x21 && byte <= 0x7e {
+        byte
+    } else {
+        b'?'
+    }
+}
+
+/// Puts a name as it is shown at the front of an array. Answers its length.
+fn shown_name(name: &[u8], room: &mut [u8; 64]) -> usize
+    ensures most { result ≤ 64 }
+    ensures text { take result room.new ≡ shown name.now }
+{
+    let count = name.len().min(64);
+    let name = &name[..count];
+    for (i, byte) in name.iter().enumerate() {
+        room[i] = shown_byte(*byte);
+    }
+    count
+}
+
+impl Line {
+    /// A line without text.
+    #[inline]
+    pub fn new() -> Line
+        ensures { result ≡ [] }
+    {
+        Line {
+            bytes: [0; 160],
+            start: 160,
+        }
+    }
+
+    /// The text so far.
+    #[inline]
+    pub fn bytes(&self) -> &[u8]
+        ensures { result.now ≡ self.now }
+    {
+        &self.bytes[self.start..]
+    }
+
+    /// Puts a text before what stands.
+    #[inline]
+    pub fn text(&mut self, text: &[u8])
+        requires { length text.now + length self.old ≤ 160 }
+        ensures text { self.new ≡ text.now ++ self.old }
+        ensures room { length self.new ≡ length text.now + length self.old }
+    {
+        self.start = text_before(&mut self.bytes, self.start, text);
+    }
+
+    /// Puts a text that is shown or not.
+    #[inline]
+    pub fn when(&mut self, is_shown: bool, text: &[u8])
+        requires { length text.now + length self.old ≤ 160 }
+        ensures text { self.new ≡ (if is_shown then text.now else []) ++ self.old }
+        ensures room { length self.new ≤ length text.now + length self.old }
+    {
+        if is_shown {
+            self.text(text);
+        }
+    }
+
+    /// Puts a byte as `0x` and two hexadecimal digits.
+    #[inline]
+    pub fn byte(&mut self, n: u8)
+        requires { 4 + length self.old ≤ 160 }
+        ensures text { self.new ≡ byte_text n ++ self.old }
+        ensures room { length self.new ≡ 4 + length self.old }
+    {
+        self.text(&[b'0', b'x', glyph(n / 16), glyph(n % 16)]);
+    }
+
+    /// Puts a number as `0x` and hexadecimal digits without leading zeros.
+    #[inline]
+    pub fn hex(&mut self, n: u64)
+        requires { 18 + length self.old ≤ 160 }
+        ensures text { self.new ≡ hex_text n ++ self.old }
+        ensures room { length self.new ≤ 18 + length self.old }
+    {
+        self.start = digits_before(&mut self.bytes, self.start, n, 16, 16);
+        self.start = text_before(&mut self.bytes, self.start, b"0x");
+    }
+
+    /// Puts a number in decimal.
+    #[inline]
+    pub fn decimal(&mut self, n: u64)
+        requires { 20 + length self.old ≤ 160 }
+        ensures text { self.new ≡ decimal n ++ self.old }
+        ensures room { length self.new ≤ 20 + length self.old }
+    {
+        self.start = digits_before(&mut self.bytes, self.start, n, 10, 20);
+    }
+
+    /// Puts a level in decimal, also one below 0.
+    #[inline]
+    pub fn level(&mut self, level: i8)
+        requires { 21 + length self.old ≤ 160 }
+        ensures text { self.new ≡ level_text level ++ self.old }
+        ensures room { length self.new ≤ 21 + length self.old }
+    {
+        if level >= 0 {
+            self.decimal(level as u64);
+        } else {
+            self.decimal((0 - level as i64) as u64);
+            self.text(b"-");
+        }
+    }
+
+    /// Puts a stage's digit.
+    #[inline]
+    pub fn stage(&mut self, stage: Stage)
+        requires { 1 + length self.old ≤ 160 }
+        ensures text { self.new ≡ stage_digit stage ++ self.old }
+        ensures room { length self.new ≡ 1 + length self.old }
+    {
+        match stage {
+            Stage::S1 => self.text(b"1"),
+            Stage::S2 => self.text(b"2"),
+        }
+    }
+
+    /// Puts the word for a class of faults.
+    #[inline]
+    pub fn class(&mut self, class: Class)
+        requires { 12 + length self.old ≤ 160 }
+        ensures text { self.new ≡ class_text class ++ self.old }
+        ensures room { length self.new ≤ 12 + length self.old }
+    {
+        match class {
+            Class::Translation => self.text(b"translation"),
+            Class::AddressSize => self.text(b"address-size"),
+            Class::AccessFlag => self.text(b"access-flag"),
+            Class::Permission => self.text(b"permission"),
+            Class::External => self.text(b"external"),
+            Class::Conflict => self.text(b"conflict"),
+        }
+    }
+
+    /// Puts a name as it is shown: its first 64 bytes, with `?` for each that is not visible.
+    pub fn shown(&mut self, name: &[u8])
+        requires { 64 + length self.old ≤ 160 }
+        ensures text { self.new ≡ shown name.now ++ self.old }
+        ensures room { length self.new ≤ 64 + length self.old }
+    {
+        let mut room = [0u8; 64];
+        let count = shown_name(name, &mut room);
+        self.text(&room[..count]);
+    }
+}

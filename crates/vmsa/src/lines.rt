@@ -1,0 +1,154 @@
+ghost use Rattle.std.specs.Prelude.{◌≡◌, ◌≤◌, flat_map};
+ghost use Rattle.fault_codes.specs.Status.{HasStatus};
+ghost use Rattle.trails.specs.Texts.{item_text, item_text_by, fault_text, absent_text};
+ghost use Rattle.trails.specs.declared.item.What.{What};
+ghost use Rattle.vmsa.specs.Causes.{HasCause};
+ghost use Rattle.vmsa.specs.Written.{Wrote};
+ghost use Rattle.vmsa.specs.RawText.{raw_access_text, raw_mapped_text};
+ghost use Rattle.vmsa.specs.ErrText.{no_file_text};
+
+use crate::line::Line;
+use crate::sink::{Sink, WriteFailed};
+use fault_codes::{Fault, Stage, fsc};
+use trails::{Item, What};
+
+/// The first line of an EL1 read over an image.
+pub fn raw_access_line<O: Sink>(out: &mut O, va: u64) -> Result<(), WriteFailed>
+    ensures text { Wrote (O.written out.old) (O.written out.new) result (raw_access_text va) }
+    ensures cause { HasCause (O.faults out.old) (O.faults out.new) result }
+{
+    let mut line = Line::new();
+    line.text(b" el1 read\n");
+    line.hex(va);
+    line.text(b"access ");
+    out.put(line.bytes())
+}
+
+/// The last line of an EL1 read over an image that was mapped.
+pub fn raw_mapped_line<O: Sink>(out: &mut O, pa: u64) -> Result<(), WriteFailed>
+    ensures text { Wrote (O.written out.old) (O.written out.new) result (raw_mapped_text pa) }
+    ensures cause { HasCause (O.faults out.old) (O.faults out.new) result }
+{
+    let mut line = Line::new();
+    line.text(b"\n");
+    line.hex(pa);
+    line.text(b"mapped ");
+    out.put(line.bytes())
+}
+
+fn base_line<O: Sink>(out: &mut O, item: &Item) -> Result<(), WriteFailed>
+    ensures text { Wrote (O.written out.old) (O.written out.new) result (item_text_by What.Base item.now) }
+    ensures cause { HasCause (O.faults out.old) (O.faults out.new) result }
+{
+    let mut line = Line::new();
+    line.text(b"\n");
+    line.hex(item.pa);
+    line.text(b" at ");
+    line.level(item.level);
+    line.text(b" base level ");
+    line.stage(item.stage);
+    line.text(b"s");
+    out.put(line.bytes())
+}
+
+fn word_line<O: Sink>(out: &mut O, item: &Item) -> Result<(), WriteFailed>
+    ensures text { Wrote (O.written out.old) (O.written out.new) result (item_text_by What.Word item.now) }
+    ensures cause { HasCause (O.faults out.old) (O.faults out.new) result }
+{
+    let mut line = Line::new();
+    line.text(b"\n");
+    line.hex(item.value);
+    line.text(b" value ");
+    line.hex(item.pa);
+    line.text(b" at ");
+    line.level(item.level);
+    line.text(b" word level ");
+    line.stage(item.stage);
+    line.text(b"s");
+    out.put(line.bytes())
+}
+
+/// The line of an item.
+pub fn item_line<O: Sink>(out: &mut O, item: &Item) -> Result<(), WriteFailed>
+    ensures text { Wrote (O.written out.old) (O.written out.new) result (item_text item.now) }
+    ensures cause { HasCause (O.faults out.old) (O.faults out.new) result }
+{
+    match item.what {
+        What::Base => base_line(out, item),
+        What::Word => word_line(out, item),
+    }
+}
+
+/// The lines of items, in order.
+pub fn item_lines<O: Sink>(out: &mut O, items: &[Item]) -> Result<(), WriteFailed>
+    ensures text { Wrote (O.written out.old) (O.written out.new) result (flat_map item_text items.now) }
+    ensures cause { HasCause (O.faults out.old) (O.faults out.new) result }
+{
+    for item in items {
+        item_line(out, item)?;
+    }
+    Ok(())
+}
+
+/// The line of a fault.
+pub fn fault_line<O: Sink>(out: &mut O, fault: &Fault) -> Result<(), WriteFailed>
+    requires { HasStatus fault.now }
+    ensures text { Wrote (O.written out.old) (O.written out.new) result (fault_text fault.now) }
+    ensures cause { HasCause (O.faults out.old) (O.faults out.new) result }
+{
+    let mut line = Line::new();
+    line.text(b"\n");
+    line.when(fault.s1ptw, b" s1ptw");
+    line.byte(fsc(fault));
+    line.text(b" fsc ");
+    line.class(fault.class);
+    line.text(b" ");
+    line.level(fault.level);
+    line.text(b" level ");
+    line.stage(fault.stage);
+    line.text(b"fault stage ");
+    out.put(line.bytes())
+}
+
+/// The line of a place that memory lacks.
+pub fn absent_line<O: Sink>(
+    out: &mut O,
+    stage: Stage,
+    level: i8,
+    pa: u64,
+    s1ptw: bool,
+) -> Result<(), WriteFailed>
+    ensures text { Wrote (O.written out.old) (O.written out.new) result (absent_text stage level pa s1ptw) }
+    ensures cause { HasCause (O.faults out.old) (O.faults out.new) result }
+{
+    let mut line = Line::new();
+    line.text(b"\n");
+    line.when(s1ptw, b" s1ptw");
+    line.hex(pa);
+    line.text(b" at ");
+    line.level(level);
+    line.text(b" level ");
+    line.stage(stage);
+    line.text(b"absent stage ");
+    out.put(line.bytes())
+}
+
+/// A line that is one fixed text.
+pub fn static_line<E: Sink>(err: &mut E, text: &[u8]) -> Result<(), WriteFailed>
+    ensures text { Wrote (E.written err.old) (E.written err.new) result text.now }
+    ensures cause { HasCause (E.faults err.old) (E.faults err.new) result }
+{
+    err.put(text)
+}
+
+/// The line for a file that is not there.
+pub fn no_file_line<E: Sink>(err: &mut E, name: &str) -> Result<(), WriteFailed>
+    ensures text { Wrote (E.written err.old) (E.written err.new) result (no_file_text name.now) }
+    ensures cause { HasCause (E.faults err.old) (E.faults err.new) result }
+{
+    let mut line = Line::new();
+    line.text(b"\n");
+    line.shown(name.as_bytes());
+    line.text(b"vmsa: no file ");
+    err.put(line.bytes())
+}
