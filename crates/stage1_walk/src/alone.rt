@@ -1,4 +1,4 @@
-ghost use Rattle.std.specs.Prelude.{◌≡◌, ◌≤◌, ◌<◌, ◌+◌, ◌-◌, ◌*◌, ◌/◌, ◌%◌, ◌^◌, ◌==◌, [], ◌∷◌, ◌++◌, length, true, false, IsFalse, IsTrue, if◌then◌else◌, pos, ◌≤ℤ◌};
+ghost use Rattle.std.specs.Prelude.{◌≡◌, ◌≤◌, ◌<◌, ◌+◌, ◌-◌, ◌*◌, ◌/◌, ◌%◌, ◌^◌, ◌==◌, [], ◌∷◌, ◌++◌, length, true, false, IsFalse, IsTrue, if◌then◌else◌, pos, ◌≤ℤ◌, IfErr};
 ghost use Rattle.bitwords.specs.Causes.{Rose};
 ghost use Rattle.bitwords.specs.Fields.{bits_of, bit};
 ghost use Rattle.geometry.specs.Tables.{is_txsz, left_below, level_of};
@@ -10,7 +10,7 @@ ghost use Rattle.walk_spec.specs.Needs.{regime_of, sizes1, base_item};
 ghost use Rattle.walk_spec.specs.First.{first_part};
 ghost use Rattle.walk_spec.specs.Whole.{low, top_bit, is_refused1, is_fetch, is_el0, stage_on};
 ghost use Rattle.walk_spec.specs.Fresh.{aligned_base, base_one_of};
-ghost use Rattle.walk_spec.specs.Walked.{Walked, ReadWord, ReadNow, WalkedWhole, IsFresh};
+ghost use Rattle.walk_spec.specs.Walked.{Walked, ReadWord, ReadNow, WalkedWhole, IsFresh, IsToldStop, IsToldOutcome};
 ghost use Rattle.stage1_walk.specs.Sound.{AreSound};
 ghost use Rattle.stage1_walk.specs.Outcomes.{outcome_by};
 
@@ -182,6 +182,7 @@ fn walk_granule<S: Supply>(
     ensures same { S.memory supply.new ≡ S.memory supply.old }
     ensures later { S.faults supply.old ≤ S.faults supply.new }
     ensures kept { S.keeps supply.old supply.new }
+    ensures told { IfErr result IsToldStop }
     ensures walked { Walked (ReadWord 0 (S.memory supply.old)) (S.memory supply.old) (Rose (S.faults supply.old) (S.faults supply.new)) (first_part (regime_of config.now (side_of access.now.va)) true access.now (low access.now.va) (left_below from.now.level) (record { table = from.now.base; bits = from.now.tables })) trail.old trail.new result }
 {
     match config.tg(sysregs::side(access.va)) {
@@ -203,6 +204,7 @@ fn stage1<S: Supply>(
     ensures same { S.memory supply.new ≡ S.memory supply.old }
     ensures later { S.faults supply.old ≤ S.faults supply.new }
     ensures kept { S.keeps supply.old supply.new }
+    ensures told { IfErr result IsToldStop }
     ensures walked { Walked (ReadNow regs.now (side_of access.now.va) 0 (S.memory supply.old)) (S.memory supply.old) (Rose (S.faults supply.old) (S.faults supply.new)) (stage_on (regime_of (config_of regs.now) (side_of access.now.va)) true access.now) [] trail.new result }
 {
     let config = config(regs);
@@ -226,7 +228,9 @@ fn stage1<S: Supply>(
 
 /// How an access comes out by what stage 1 answers.
 fn outcome(answer: Result<Leaf1, Stop>) -> Outcome
-    ensures { result ≡ outcome_by answer }
+    requires { IfErr answer IsToldStop }
+    ensures value { result ≡ outcome_by answer }
+    ensures told { IsToldOutcome result }
 {
     match answer {
         Ok(leaf) => {
@@ -262,6 +266,7 @@ pub fn translate1<S: Supply>(regs: &Regs, access: &Access, supply: &mut S) -> (O
     ensures same { S.memory supply.new ≡ S.memory supply.old }
     ensures later { S.faults supply.old ≤ S.faults supply.new }
     ensures kept { S.keeps supply.old supply.new }
+    ensures told { IsToldOutcome result.0 }
     ensures walked { WalkedWhole regs.now access.now 0 (S.memory supply.old) (Rose (S.faults supply.old) (S.faults supply.new)) result.1 result.0 }
     ensures fresh { IsFresh regs.now access.now 0 (S.memory supply.old) (Rose (S.faults supply.old) (S.faults supply.new)) result.1 result.0 }
 {

@@ -5,6 +5,7 @@ ghost use Rattle.sysregs.specs.Registers.{InRange};
 ghost use Rattle.sysregs.specs.Sides.{hpd_of};
 ghost use Rattle.permissions.specs.Rights.{joined, is_uxn};
 ghost use Rattle.attributes.specs.Memory.{attr_byte};
+ghost use Rattle.fault_codes.specs.Status.{HasStatus};
 ghost use Rattle.fault_codes.specs.declared.fault.Stage.TheVariants.{S1};
 ghost use Rattle.descriptors.specs.Meaning.{means1};
 ghost use Rattle.descriptors.specs.Bounds.{IsBounded1};
@@ -62,7 +63,8 @@ pub(crate) fn level(left: u32) -> i8
 /// A fault of stage 1 with so many levels left.
 pub(crate) fn fault(class: Class, left: u32) -> Fault
     requires { left ≤ 3 }
-    ensures { result ≡ fault_at S1 false class left }
+    ensures value { result ≡ fault_at S1 false class left }
+    ensures status { HasStatus result }
 {
     Fault {
         stage: Stage::S1,

@@ -1,4 +1,4 @@
-ghost use Rattle.std.specs.Prelude.{◌≡◌, ◌+◌, ◌-◌, ◌≤◌, ◌<◌, ◌^◌, ◌%◌, length, true, false, pos, ◌≤ℤ◌, IsFalse, IsTrue};
+ghost use Rattle.std.specs.Prelude.{◌≡◌, ◌+◌, ◌-◌, ◌≤◌, ◌<◌, ◌^◌, ◌%◌, length, true, false, pos, ◌≤ℤ◌, IsFalse, IsTrue, IfErr};
 ghost use Rattle.bitwords.specs.Causes.{Rose};
 ghost use Rattle.geometry.specs.Tables.{IsGranule, left_below, is_txsz};
 ghost use Rattle.sysregs.specs.Registers.{InRange, exponent};
@@ -8,7 +8,7 @@ ghost use Rattle.walk_spec.specs.Needs.{regime_with, regime_of, sizes1};
 ghost use Rattle.walk_spec.specs.Second.{place_of};
 ghost use Rattle.walk_spec.specs.First.{first_part};
 ghost use Rattle.walk_spec.specs.Whole.{low, is_refused1};
-ghost use Rattle.walk_spec.specs.Walked.{Walked, ReadWord, HasRead};
+ghost use Rattle.walk_spec.specs.Walked.{Walked, ReadWord, HasRead, IsToldStop};
 ghost use Rattle.stage1_walk.specs.Sound.{AreSound};
 
 use crate::sizes::sizes1;
@@ -95,6 +95,7 @@ fn walk_left<const G: u32, S: Supply>(
     ensures same { S.memory supply.new ≡ S.memory supply.old }
     ensures later { S.faults supply.old ≤ S.faults supply.new }
     ensures kept { S.keeps supply.old supply.new }
+    ensures told { IfErr result IsToldStop }
     ensures walked { Walked (ReadWord 0 (S.memory supply.old)) (S.memory supply.old) (Rose (S.faults supply.old) (S.faults supply.new)) (first_part (regime_with config.now side sizes.now) true access.now x left (record { table = table; bits = bits })) trail.old trail.new result }
 {
     let pa = place::<G>(sizes, left, table, x);
@@ -158,6 +159,7 @@ pub fn walk1<const G: u32, S: Supply>(
     ensures same { S.memory supply.new ≡ S.memory supply.old }
     ensures later { S.faults supply.old ≤ S.faults supply.new }
     ensures kept { S.keeps supply.old supply.new }
+    ensures told { IfErr result IsToldStop }
     ensures walked { Walked (ReadWord 0 (S.memory supply.old)) (S.memory supply.old) (Rose (S.faults supply.old) (S.faults supply.new)) (first_part (regime_of config.now (side_of access.now.va)) true access.now (low access.now.va) (left_below from.now.level) (record { table = from.now.base; bits = from.now.tables })) trail.old trail.new result }
 {
     let side = sysregs::side(access.va);

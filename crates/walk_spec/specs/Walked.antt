@@ -4,12 +4,14 @@ use Rattle.geometry.specs.Tables.{level_of}
 use Rattle.sysregs.specs.declared.regs.Regs.{Regs}
 use Rattle.sysregs.specs.declared.regs.Side.{Side}
 use Rattle.sysregs.specs.Registers.{config_of}
+use Rattle.fault_codes.specs.Status.{HasStatus}
 use Rattle.fault_codes.specs.declared.fault.Stage.{Stage}
 use Rattle.fault_codes.specs.declared.fault.Stage.TheVariants.{S1, S2}
 use Rattle.trails.specs.declared.item.Item.{Item}
 use Rattle.sysregs.specs.Sides.{side_of}
 use Rattle.trails.specs.declared.outcome.Access.{Access}
 use Rattle.trails.specs.declared.outcome.Outcome.{Outcome}
+use Rattle.trails.specs.declared.outcome.Outcome.TheVariants.{Mapped, Faulted, Absent as IsAbsent, Conflict as IsConflict}
 use Rattle.trails.specs.declared.outcome.Stop.{Stop}
 use Rattle.trails.specs.declared.outcome.Stop.TheVariants.{Fault, Absent, Conflict}
 use Rattle.walk_spec.specs.Ask.{Ask, Fed, ended, lacks, Took}
@@ -88,3 +90,15 @@ pub record WalkedWhole (regs : Regs) (a : Access) (now : ℕ) (m : Told) (failed
 -- Where the memory is told and the supply did not fail, items and outcome are those of the fresh walk.
 abbrev pub IsFresh : Regs → Access → ℕ → Told → Type 0 → List Item → Outcome → Type 0
 IsFresh regs a now told failed items o = (m : Memory) → told ≡ Some m → (failed → ⊥) → (items ≡ fresh_items m regs a now) × (o ≡ fresh_outcome m regs a now)
+
+-- A stop or an outcome that can be told: its fault has a status code, and it is no conflict.
+abbrev pub IsToldStop : Stop → Type 0
+IsToldStop (Fault f) = HasStatus f
+IsToldStop (Absent s level pa s1ptw) = Unit {0}
+IsToldStop Conflict = ⊥
+
+abbrev pub IsToldOutcome : Outcome → Type 0
+IsToldOutcome (Mapped pa perms mem sh) = Unit {0}
+IsToldOutcome (Faulted f) = HasStatus f
+IsToldOutcome (IsAbsent s level pa s1ptw) = Unit {0}
+IsToldOutcome IsConflict = ⊥

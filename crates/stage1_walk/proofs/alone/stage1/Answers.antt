@@ -13,7 +13,7 @@ use Rattle.stage1_walk.proofs.alone.stage1.Goals as goal
 pub returns-then-refuses-clause-walked : goal.returns-then-refuses-clause-walked
 returns-then-refuses-clause-walked g c =
     let refused : is_refused1 (config_of c.args.regs.now) c.args.access.now ≡ true = rw c.config-config.ensures.is at (sym c.if-refuses.ensures) in
-    stage_refused _ _ _ _ _ _ refused c.requires.room (ap (λ f. Err (Fault f)) c.fault.ensures)
+    stage_refused _ _ _ _ _ _ refused c.requires.room (ap (λ f. Err (Fault f)) c.fault.ensures.value)
 
 pub sizes1-sizes-requires-clause-txsz : goal.sizes1-sizes-requires-clause-txsz
 sizes1-sizes-requires-clause-txsz g c = rw c.side-side.ensures (accepted_size c.config-config.result c.args.access.now (sym c.if-refuses.ensures))
@@ -23,7 +23,7 @@ returns-then-base-power-clause-walked g c =
     let ok : is_refused1 (config_of c.args.regs.now) c.args.access.now ≡ false = rw c.config-config.ensures.is at (sym c.if-refuses.ensures) in
     let kept : c.keep_base.new.trail ≡ base_item 0 S1 c.sizes1-sizes.result c.base_one-base.result ∷ [] = rw c.requires.room at c.keep_base.ensures in
     let big : 2 ^ c.sizes1-sizes.result.output ≤ c.base_one-base.result = rw c.power.ensures at c.if-base-power.true in
-    stage_big _ _ _ ok _ (rw (c.sizes1-sizes.ensures.value, c.base_one-base.ensures.value, c.side-side.ensures, c.config-config.ensures.is) at kept) _ _ (rw (c.sizes1-sizes.ensures.value, c.base_one-base.ensures.value, c.side-side.ensures, c.config-config.ensures.is) at big) (ap (λ f. Err (Fault f)) c.fault-then-base-power.ensures)
+    stage_big _ _ _ ok _ (rw (c.sizes1-sizes.ensures.value, c.base_one-base.ensures.value, c.side-side.ensures, c.config-config.ensures.is) at kept) _ _ (rw (c.sizes1-sizes.ensures.value, c.base_one-base.ensures.value, c.side-side.ensures, c.config-config.ensures.is) at big) (ap (λ f. Err (Fault f)) c.fault-then-base-power.ensures.value)
 
 pub returns-clause-walked : goal.returns-clause-walked
 returns-clause-walked g c =
