@@ -8,3 +8,8 @@ pub mod ErrText
 pub mod Numbers
 pub mod Words
 pub mod Image
+pub mod ImageSupply
+pub mod Raw
+pub mod Keeping
+pub mod Status
+pub mod Answers

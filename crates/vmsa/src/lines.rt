@@ -1,15 +1,16 @@
-ghost use Rattle.std.specs.Prelude.{◌≡◌, ◌≤◌, flat_map};
+ghost use Rattle.std.specs.Prelude.{◌≡◌, ◌≤◌, length, flat_map};
 ghost use Rattle.fault_codes.specs.Status.{HasStatus};
 ghost use Rattle.trails.specs.Texts.{item_text, item_text_by, fault_text, absent_text};
 ghost use Rattle.trails.specs.declared.item.What.{What};
 ghost use Rattle.vmsa.specs.Causes.{HasCause};
 ghost use Rattle.vmsa.specs.Written.{Wrote};
 ghost use Rattle.vmsa.specs.RawText.{raw_access_text, raw_mapped_text};
-ghost use Rattle.vmsa.specs.ErrText.{no_file_text};
+ghost use Rattle.vmsa.specs.ErrText.{no_file_text, reg_text, field_text, unsupported_text};
 
 use crate::line::Line;
 use crate::sink::{Sink, WriteFailed};
 use fault_codes::{Fault, Stage, fsc};
+use sysregs::{Field, Reg, Unsupported};
 use trails::{Item, What};
 
 /// The first line of an EL1 read over an image.
@@ -150,5 +151,53 @@ pub fn no_file_line<E: Sink>(err: &mut E, name: &str) -> Result<(), WriteFailed>
     line.text(b"\n");
     line.shown(name.as_bytes());
     line.text(b"vmsa: no file ");
+    err.put(line.bytes())
+}
+
+/// A register's name in capitals.
+fn reg_name(reg: Reg) -> &'static [u8]
+    ensures text { result.now ≡ reg_text reg }
+    ensures short { length result.now ≤ 9 }
+{
+    match reg {
+        Reg::SctlrEl1 => b"SCTLR_EL1",
+        Reg::TcrEl1 => b"TCR_EL1",
+        Reg::Ttbr0El1 => b"TTBR0_EL1",
+        Reg::Ttbr1El1 => b"TTBR1_EL1",
+        Reg::MairEl1 => b"MAIR_EL1",
+        Reg::HcrEl2 => b"HCR_EL2",
+        Reg::VtcrEl2 => b"VTCR_EL2",
+        Reg::VttbrEl2 => b"VTTBR_EL2",
+    }
+}
+
+fn field_name(field: Field) -> &'static [u8]
+    ensures text { result.now ≡ field_text field }
+    ensures short { length result.now ≤ 3 }
+{
+    match field {
+        Field::Ee => b"EE",
+        Field::Dc => b"DC",
+        Field::Tge => b"TGE",
+        Field::Cd => b"CD",
+        Field::Id => b"ID",
+        Field::Fwb => b"FWB",
+        Field::Ds => b"DS",
+        Field::Ha => b"HA",
+        Field::Hd => b"HD",
+    }
+}
+
+/// The line for a register value of the command line that sets a refused field.
+pub fn unsupported_line<E: Sink>(err: &mut E, at: &Unsupported) -> Result<(), WriteFailed>
+    ensures text { Wrote (E.written err.old) (E.written err.new) result (unsupported_text at.now) }
+    ensures cause { HasCause (E.faults err.old) (E.faults err.new) result }
+{
+    let mut line = Line::new();
+    line.text(b"\n");
+    line.text(field_name(at.field));
+    line.text(b".");
+    line.text(reg_name(at.reg));
+    line.text(b"vmsa: raw: unsupported ");
     err.put(line.bytes())
 }

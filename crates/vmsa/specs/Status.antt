@@ -1,0 +1,13 @@
+-- Exit statuses. The numbers are this project's own rule.
+use Rattle.std.specs.Prelude.{ℕ}
+use Rattle.vmsa.specs.declared.status.Status.{Status}
+use Rattle.vmsa.specs.declared.status.Status.TheVariants.{Done, Usage, NoFile, Refused, ReadFault, WriteFault, NoMemory}
+
+abbrev pub number_of_status : Status → ℕ
+number_of_status Done = 0
+number_of_status Usage = 2
+number_of_status (NoFile name) = 3
+number_of_status (Refused why) = 4
+number_of_status ReadFault = 5
+number_of_status WriteFault = 6
+number_of_status NoMemory = 7
