@@ -30,7 +30,11 @@ impl<const N: u32> Addr<N> {
         if N == 64 {
             return Some(Addr { value: w });
         }
-        if w >> N == 0 { Some(Addr { value: w }) } else { None }
+        if w >> N == 0 {
+            Some(Addr { value: w })
+        } else {
+            None
+        }
     }
 
     /// The number.
