@@ -10,3 +10,6 @@ pub use fields::{align_down, field, flag};
 /// Memory was refused. No contract says when.
 #[derive(Clone, Copy, Debug, PartialEq, Eq)]
 pub struct NoMemory;
+
+#[cfg(test)]
+mod tests;

@@ -35,7 +35,11 @@ fn code(level: i8, first: u8, below: u8) -> u8
     requires first { first ≤ 0x14 }
     ensures { result ≡ by_level level first below }
 {
-    if level < 0 { below } else { first + level as u8 }
+    if level < 0 {
+        below
+    } else {
+        first + level as u8
+    }
 }
 
 /// The fault status code (DDI 0487, the fault status codes of `ESR_ELx`).

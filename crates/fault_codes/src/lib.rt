@@ -4,3 +4,6 @@
 mod fault;
 
 pub use fault::{Class, Fault, Stage, fsc};
+
+#[cfg(test)]
+mod tests;

@@ -9,3 +9,6 @@ mod sides;
 pub use equality::same_config;
 pub use regs::{Config, Field, Op, Reg, Regs, Side, Tg, Unsupported};
 pub use sides::side;
+
+#[cfg(test)]
+mod tests;
