@@ -1,2 +1,3 @@
 pub use Rattle.bitwords.specs.Fields
 pub mod Memory
+pub mod Laws

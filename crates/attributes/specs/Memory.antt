@@ -1,6 +1,6 @@
 -- Memory types and shareability (DDI 0487, MAIR_EL1, the stage 2 memory attributes, and their combination).
-use Rattle.std.specs.Prelude.{ℕ, ◌+◌, ◌*◌, ◌/◌, ◌%◌, ◌^◌, Bool, true, false, ◌==◌, ◌&&◌, nat_lt, nat_le, Option, Some, None, if◌then◌else◌}
-use Rattle.bitwords.specs.Fields.{bits_of, bit}
+use Rattle.std.specs.Prelude.{ℕ, ◌*◌, ◌/◌, ◌%◌, ◌^◌, Bool, true, false, ◌==◌, ◌&&◌, nat_lt, Option, Some, None, if◌then◌else◌}
+use Rattle.bitwords.specs.Fields.{bit}
 use Rattle.attributes.specs.declared.kinds.Cache.{Cache}
 use Rattle.attributes.specs.declared.kinds.Cache.TheVariants.{Nc, Wt, Wb}
 use Rattle.attributes.specs.declared.kinds.Device.{Device}

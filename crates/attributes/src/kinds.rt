@@ -2,8 +2,16 @@
 #[derive(Clone, Copy, Debug, PartialEq, Eq)]
 pub enum Cache {
     Nc,
-    Wt { transient: bool, read: bool, write: bool },
-    Wb { transient: bool, read: bool, write: bool },
+    Wt {
+        transient: bool,
+        read: bool,
+        write: bool,
+    },
+    Wb {
+        transient: bool,
+        read: bool,
+        write: bool,
+    },
 }
 
 /// The kinds of Device memory, the strongest first.
@@ -18,8 +26,14 @@ pub enum Device {
 /// A memory type.
 #[derive(Clone, Copy, Debug, PartialEq, Eq)]
 pub enum MemType {
-    Device { kind: Device },
-    Normal { outer: Cache, inner: Cache, tagged: bool },
+    Device {
+        kind: Device,
+    },
+    Normal {
+        outer: Cache,
+        inner: Cache,
+        tagged: bool,
+    },
 }
 
 /// Shareability: Non-shareable, Inner Shareable or Outer Shareable.

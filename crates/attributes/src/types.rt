@@ -24,26 +24,17 @@ fn cache(code: u8) -> Option<Cache>
 {
     let read = code / 2 % 2 == 1;
     let write = code % 2 == 1;
+    let transient = code < 8;
     match code {
         0 => None,
         4 => Some(Cache::Nc),
-        1..=3 => Some(Cache::Wt {
-            transient: true,
-            read,
-            write,
-        }),
-        5..=7 => Some(Cache::Wb {
-            transient: true,
-            read,
-            write,
-        }),
-        8..=11 => Some(Cache::Wt {
-            transient: false,
+        1..=3 | 8..=11 => Some(Cache::Wt {
+            transient,
             read,
             write,
         }),
         _ => Some(Cache::Wb {
-            transient: false,
+            transient,
             read,
             write,
         }),

@@ -1,0 +1,3 @@
+pub mod Addresses
+pub mod Granules
+pub mod Bounds

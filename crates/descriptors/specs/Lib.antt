@@ -4,3 +4,4 @@ pub use Rattle.sysregs.specs.Registers
 pub use Rattle.sysregs.specs.Sides
 pub use Rattle.bitwords.specs.Fields
 pub mod Meaning
+pub mod Bounds

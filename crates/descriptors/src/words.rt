@@ -1,7 +1,8 @@
-ghost use Rattle.std.specs.Prelude.{◌≡◌, ◌≤◌, ◌<◌, Bool};
-ghost use Rattle.geometry.specs.Tables.{IsGranule, class_of};
+ghost use Rattle.std.specs.Prelude.{◌≡◌, ◌≤◌, ◌<◌, ◌*◌, ◌^◌};
+ghost use Rattle.bitwords.specs.Fields.{bits_of};
+ghost use Rattle.geometry.specs.Tables.{IsGranule};
 ghost use Rattle.sysregs.specs.Registers.{exponent};
-ghost use Rattle.sysregs.specs.Sides.{tg_of, hpd_of};
+ghost use Rattle.sysregs.specs.Sides.{hpd_of};
 ghost use Rattle.descriptors.specs.Meaning.{address_in, shape_of, seen_shape, table_bits, leaf_bits, means1, means2};
 
 use crate::kinds::{Kind1, Kind2};
@@ -18,17 +19,27 @@ enum Shape {
     Mapping,
 }
 
-/// Bits 47 to the class of an address. With a granule of 64 KB bits 15:12 of the word are address bits 51:48.
+/// Bits 47 to the class of an address.
+#[tactic(auto, using(crate::proofs::Addresses::low_address))]
+fn low_address(w: u64, class: u32) -> u64
+    requires { class ≤ 47 }
+    ensures value { result ≡ bits_of w 47 class * 2 ^ class }
+    ensures below { result < 2 ^ 48 }
+{
+    align_down(field::<47, 0>(w), class)
+}
+
+/// An address from its class up. With a granule of 64 KB bits 15:12 of the word are address bits 51:48.
 fn address<const G: u32>(w: u64, class: u32) -> u64
     requires granule { IsGranule G }
-    requires class { (12 ≤ class) × (class ≤ 47) }
+    requires class { class ≤ 47 }
     ensures { result ≡ address_in G w class }
 {
-    let low = align_down(field::<47, 0>(w), class);
+    let low = low_address(w, class);
     if G == 16 { (field::<15, 12>(w) << 48) | low } else { low }
 }
 
-fn shape<const G: u32, const LEFT: u32>(w: u64) -> Shape
+fn shape_at<const G: u32, const LEFT: u32>(w: u64) -> Shape
     requires granule { IsGranule G }
     requires left { LEFT ≤ 3 }
     ensures { seen_shape result ≡ shape_of G LEFT w }
@@ -77,7 +88,7 @@ pub fn decode1<const G: u32, const LEFT: u32>(w: u64, config: &Config, side: Sid
     requires left { LEFT ≤ 3 }
     ensures { result ≡ means1 G (hpd_of config.now side) LEFT w }
 {
-    match shape::<G, LEFT>(w) {
+    match shape_at::<G, LEFT>(w) {
         Shape::Nothing => Kind1::Invalid,
         Shape::Pointer => Kind1::Table {
             next: address::<G>(w, G),
@@ -102,7 +113,7 @@ pub fn decode2<const G: u32, const LEFT: u32>(w: u64, config: &Config) -> Kind2
     requires left { LEFT ≤ 3 }
     ensures { result ≡ means2 G LEFT w }
 {
-    match shape::<G, LEFT>(w) {
+    match shape_at::<G, LEFT>(w) {
         Shape::Nothing => Kind2::Invalid,
         Shape::Pointer => Kind2::Table {
             next: address::<G>(w, G),

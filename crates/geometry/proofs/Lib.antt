@@ -1,0 +1,3 @@
+pub mod Indices
+pub mod Sizes
+pub mod Fits

@@ -1,2 +1,3 @@
 pub use Rattle.bitwords.specs.Fields
 pub mod Rights
+pub mod Laws

@@ -46,6 +46,7 @@ pub fn perms2(read: bool, write: bool, xn: u32, dbm: bool, dirty: bool) -> Perms
 }
 
 /// The right that an access needs.
+#[tactic(auto, unfolding(crate::specs::Rights::set_bits))]
 fn right(el: El, kind: Kind) -> Perms
     ensures { set_bits result ≡ 2 ^ needed el kind }
 {
@@ -70,6 +71,7 @@ fn guarded(el: El, kind: Kind) -> bool
 }
 
 /// Whether a set has the right that an access needs.
+#[tactic(auto, unfolding(crate::specs::Rights::has, crate::specs::Rights::set_bits), using(crate::proofs::Sets::one_bit))]
 fn gives(perms: Perms, el: El, kind: Kind) -> bool
     ensures { result ≡ has perms (needed el kind) }
 {

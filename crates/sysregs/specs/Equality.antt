@@ -39,10 +39,12 @@ pub record SameHigh (a b : Config) : Type 0 where
   pub e0pd1 : a.e0pd1 ≡ b.e0pd1
   pub hpd1 : a.hpd1 ≡ b.hpd1
 
-pub record SameStages (a b : Config) : Type 0 where
+pub record SameUpdates (a b : Config) : Type 0 where
   pub ha1 : a.ha1 ≡ b.ha1
   pub hd1 : a.hd1 ≡ b.hd1
-  pub vm : a.vm ≡ b.vm
-  pub ptw : a.ptw ≡ b.ptw
   pub ha2 : a.ha2 ≡ b.ha2
   pub hd2 : a.hd2 ≡ b.hd2
+
+pub record SameStage2 (a b : Config) : Type 0 where
+  pub vm : a.vm ≡ b.vm
+  pub ptw : a.ptw ≡ b.ptw

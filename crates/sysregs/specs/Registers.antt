@@ -1,6 +1,6 @@
 -- The fields of the registers that steer translation (DDI 0487, SCTLR_EL1, TCR_EL1, TTBR0_EL1, TTBR1_EL1, MAIR_EL1,
 -- HCR_EL2, VTCR_EL2, VTTBR_EL2).
-use Rattle.std.specs.Prelude.{ℕ, ◌*◌, ◌+◌, ◌-◌, ◌<◌, ◌^◌, Bool, ◌==◌, ◌&&◌, nat_le, nat_lt, min, if◌then◌else◌}
+use Rattle.std.specs.Prelude.{ℕ, ◌*◌, ◌+◌, ◌<◌, ◌^◌, Bool, ◌==◌, ◌&&◌, nat_le, min, if◌then◌else◌}
 use Rattle.bitwords.specs.Fields.{bits_of, bit}
 use Rattle.sysregs.specs.declared.regs.Reg.{Reg}
 use Rattle.sysregs.specs.declared.regs.Reg.TheVariants.{SctlrEl1, TcrEl1, Ttbr0El1, Ttbr1El1, MairEl1, HcrEl2, VtcrEl2, VttbrEl2}

@@ -1,5 +1,5 @@
 ghost use Rattle.std.specs.Prelude.{◌≡◌, ◌↔◌, IsTrue};
-ghost use Rattle.sysregs.specs.Equality.{SameNumbers, SameGranules, SameSwitches, SameLow, SameHigh, SameStages};
+ghost use Rattle.sysregs.specs.Equality.{SameNumbers, SameGranules, SameSwitches, SameLow, SameHigh, SameUpdates, SameStage2};
 
 use crate::regs::Config;
 
@@ -54,19 +54,22 @@ fn same_high(a: &Config, b: &Config) -> bool
         & (a.hpd1 == b.hpd1)
 }
 
-/// The management of access flags and dirty state and the switches of stage 2 are equal.
-fn same_stages(a: &Config, b: &Config) -> bool
-    ensures { IsTrue result ↔ SameStages a.now b.now }
+/// The management of access flags and dirty state is the same.
+fn same_updates(a: &Config, b: &Config) -> bool
+    ensures { IsTrue result ↔ SameUpdates a.now b.now }
 {
-    (a.ha1 == b.ha1)
-        & (a.hd1 == b.hd1)
-        & (a.vm == b.vm)
-        & (a.ptw == b.ptw)
-        & (a.ha2 == b.ha2)
-        & (a.hd2 == b.hd2)
+    (a.ha1 == b.ha1) & (a.hd1 == b.hd1) & (a.ha2 == b.ha2) & (a.hd2 == b.hd2)
+}
+
+/// The fields of `HCR_EL2` are equal.
+fn same_stage2(a: &Config, b: &Config) -> bool
+    ensures { IsTrue result ↔ SameStage2 a.now b.now }
+{
+    (a.vm == b.vm) & (a.ptw == b.ptw)
 }
 
 /// Whether two records of fields are equal.
+#[tactic(auto, using(crate::proofs::Configs::equal_configs))]
 pub fn same_config(a: &Config, b: &Config) -> bool
     ensures { IsTrue result ↔ (a.now ≡ b.now) }
 {
@@ -75,5 +78,6 @@ pub fn same_config(a: &Config, b: &Config) -> bool
         & same_switches(a, b)
         & same_low(a, b)
         & same_high(a, b)
-        & same_stages(a, b)
+        & same_updates(a, b)
+        & same_stage2(a, b)
 }

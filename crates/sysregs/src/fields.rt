@@ -1,5 +1,5 @@
 //! The fields of the registers.
-ghost use Rattle.std.specs.Prelude.{◌≡◌, ◌<◌, ◌≤◌, Some, None, MatchResult};
+ghost use Rattle.std.specs.Prelude.{◌≡◌, ◌<◌, ◌≤◌, ◌^◌, Some, None, MatchResult};
 ghost use Rattle.sysregs.specs.Registers.{tg0_of, tg1_of, exponent, config_of, InRange, id_in, asid_of, vmid_of, size_named, output_size, base_in, base1_of, base2_of};
 ghost use Rattle.sysregs.specs.Refused.{refused_field};
 
@@ -28,6 +28,14 @@ fn tg1(code: u64) -> Tg
     }
 }
 
+/// The eight attributes of `MAIR_EL1`, a byte each.
+fn mair(regs: &Regs) -> u64
+    ensures is { result ≡ regs.now.mair_el1 }
+    ensures in_word { result < 2 ^ 64 }
+{
+    regs.mair_el1
+}
+
 /// The fields that steer a walk.
 pub fn config(regs: &Regs) -> Config
     ensures is { result ≡ config_of regs.now }
@@ -36,7 +44,7 @@ pub fn config(regs: &Regs) -> Config
     let tcr = regs.tcr_el1;
     let vtcr = regs.vtcr_el2;
     Config {
-        mair: regs.mair_el1,
+        mair: mair(regs),
         t0sz: field::<5, 0>(tcr) as u32,
         t1sz: field::<21, 16>(tcr) as u32,
         sh0: field::<13, 12>(tcr) as u32,
@@ -76,14 +84,22 @@ pub fn config(regs: &Regs) -> Config
 fn id(w: u64, wide: bool) -> u16
     ensures { result ≡ id_in w wide }
 {
-    if wide { field::<63, 48>(w) as u16 } else { field::<55, 48>(w) as u16 }
+    if wide {
+        field::<63, 48>(w) as u16
+    } else {
+        field::<55, 48>(w) as u16
+    }
 }
 
 /// The ASID in force.
 pub fn asid(regs: &Regs) -> u16
     ensures { result ≡ asid_of regs.now }
 {
-    let ttbr = if flag::<22>(regs.tcr_el1) { regs.ttbr1_el1 } else { regs.ttbr0_el1 };
+    let ttbr = if flag::<22>(regs.tcr_el1) {
+        regs.ttbr1_el1
+    } else {
+        regs.ttbr0_el1
+    };
     id(ttbr, flag::<36>(regs.tcr_el1))
 }
 

@@ -8,7 +8,11 @@ use bitwords::flag;
 pub fn side(va: u64) -> Side
     ensures { result ≡ side_of va }
 {
-    if flag::<55>(va) { Side::High } else { Side::Low }
+    if flag::<55>(va) {
+        Side::High
+    } else {
+        Side::Low
+    }
 }
 
 impl Config {

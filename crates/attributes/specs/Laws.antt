@@ -1,0 +1,90 @@
+-- Laws of the combination of both stages' memory types (DDI 0487, combining stage 1 and stage 2 attributes).
+use Rattle.std.specs.Prelude.{ℕ, ◌≡◌, ◌<◌, ◌≤◌, Bool, false, ◌&&◌, ◌==◌, min, max}
+use Rattle.attributes.specs.Memory.{combined, alone, mair_of, s2_attr_of}
+use Rattle.attributes.specs.declared.kinds.Cache.{Cache}
+use Rattle.attributes.specs.declared.kinds.Cache.TheVariants.{Nc, Wt, Wb}
+use Rattle.attributes.specs.declared.kinds.Device.{Device}
+use Rattle.attributes.specs.declared.kinds.Device.TheVariants.{NGnRnE, NGnRE, NGRE, GRE}
+use Rattle.attributes.specs.declared.kinds.MemType.{MemType}
+use Rattle.attributes.specs.declared.kinds.MemType.TheVariants.{Device as AsDevice, Normal}
+use Rattle.attributes.specs.declared.kinds.Share.{Share}
+use Rattle.attributes.specs.declared.kinds.Share.TheVariants.{Nsh, Ish, Osh}
+
+-- cacheability from the weakest up
+abbrev pub cache_rank : Cache → ℕ
+cache_rank Nc = 1
+cache_rank (Wt _ _ _) = 2
+cache_rank (Wb _ _ _) = 3
+
+-- the outer cacheability of a type, Device below all
+abbrev pub outer_rank : MemType → ℕ
+outer_rank (AsDevice _) = 0
+outer_rank (Normal outer _ _) = cache_rank outer
+
+-- the inner cacheability of a type, Device below all
+abbrev pub inner_rank : MemType → ℕ
+inner_rank (AsDevice _) = 0
+inner_rank (Normal _ inner _) = cache_rank inner
+
+abbrev pub device_rank : Device → ℕ
+device_rank NGnRnE = 0
+device_rank NGnRE = 1
+device_rank NGRE = 2
+device_rank GRE = 3
+
+-- the kinds of Device memory from the strongest up, and Normal memory above them
+abbrev pub kind_rank : MemType → ℕ
+kind_rank (AsDevice kind) = device_rank kind
+kind_rank (Normal _ _ _) = 4
+
+abbrev pub is_tagged : MemType → Bool
+is_tagged (AsDevice _) = false
+is_tagged (Normal _ _ tagged) = tagged
+
+-- shareability from the narrowest up
+abbrev pub share_rank : Share → ℕ
+share_rank Nsh = 0
+share_rank Ish = 1
+share_rank Osh = 2
+
+-- transience, read allocation and write allocation
+abbrev pub hints_of : Cache → Bool × Bool × Bool
+hints_of Nc = (false, false, false)
+hints_of (Wt t r w) = (t, r, w)
+hints_of (Wb t r w) = (t, r, w)
+
+abbrev pub outer_hints : MemType → Bool × Bool × Bool
+outer_hints (AsDevice _) = (false, false, false)
+outer_hints (Normal outer _ _) = hints_of outer
+
+abbrev pub inner_hints : MemType → Bool × Bool × Bool
+inner_hints (AsDevice _) = (false, false, false)
+inner_hints (Normal _ inner _) = hints_of inner
+
+-- The outer and the inner cacheability are the weaker of both stages, and Device where either is Device.
+abbrev pub WeakerCacheability : Type 0
+WeakerCacheability = (m1 m2 : MemType) → (s1 s2 : Share) → (outer_rank (combined m1 s1 m2 s2).0 ≡ min (outer_rank m1) (outer_rank m2)) × (inner_rank (combined m1 s1 m2 s2).0 ≡ min (inner_rank m1) (inner_rank m2))
+
+-- The kind of Device memory is the stronger of both stages, and Normal memory counts as weaker than all.
+abbrev pub StrongerDevice : Type 0
+StrongerDevice = (m1 m2 : MemType) → (s1 s2 : Share) → kind_rank (combined m1 s1 m2 s2).0 ≡ min (kind_rank m1) (kind_rank m2)
+
+-- The hints are those of stage 1 wherever the memory is still cached.
+abbrev pub HintsOfStage1 : Type 0
+HintsOfStage1 = (m1 m2 : MemType) → (s1 s2 : Share) → (1 < outer_rank (combined m1 s1 m2 s2).0 → outer_hints (combined m1 s1 m2 s2).0 ≡ outer_hints m1) × (1 < inner_rank (combined m1 s1 m2 s2).0 → inner_hints (combined m1 s1 m2 s2).0 ≡ inner_hints m1)
+
+-- Memory is tagged exactly where stage 1 is tagged and both cacheabilities of the result are write-back.
+abbrev pub TaggedWriteBack : Type 0
+TaggedWriteBack = (m1 m2 : MemType) → (s1 s2 : Share) → is_tagged (combined m1 s1 m2 s2).0 ≡ (is_tagged m1 && outer_rank (combined m1 s1 m2 s2).0 == 3 && inner_rank (combined m1 s1 m2 s2).0 == 3)
+
+-- Device memory and wholly Non-cacheable memory is Outer Shareable.
+abbrev pub UncachedIsOuterShareable : Type 0
+UncachedIsOuterShareable = (m1 m2 : MemType) → (s1 s2 : Share) → outer_rank (combined m1 s1 m2 s2).0 ≤ 1 → inner_rank (combined m1 s1 m2 s2).0 ≤ 1 → (combined m1 s1 m2 s2).1 ≡ Osh
+
+-- Other memory has the wider shareability of both stages.
+abbrev pub CachedIsWider : Type 0
+CachedIsWider = (m1 m2 : MemType) → (s1 s2 : Share) → 1 < max (outer_rank (combined m1 s1 m2 s2).0) (inner_rank (combined m1 s1 m2 s2).0) → share_rank (combined m1 s1 m2 s2).1 ≡ max (share_rank s1) (share_rank s2)
+
+-- A stage 2 that is write-back and Non-shareable leaves what stage 1 says.
+abbrev pub WriteBackLeavesStage1 : Type 0
+WriteBackLeavesStage1 = (byte : ℕ) → (s : Share) → combined (mair_of byte) s (s2_attr_of 15) Nsh ≡ alone (mair_of byte) s

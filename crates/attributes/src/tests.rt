@@ -1,0 +1,211 @@
+ghost use Rattle.std.specs.Prelude.{◌<◌};
+
+use crate::types::{alone, combine, mair, mmu_off, s2_attr, share};
+use crate::{Cache, Device, MemType, Share};
+
+fn letter(given: bool, name: u8) -> u8 {
+    if given { name } else { b'-' }
+}
+
+/// N, T or B for Non-cacheable, write-through and write-back, then t for transient, and R and W for allocation.
+fn cache_text(cache: Cache) -> [u8; 4] {
+    let (kind, transient, read, write) = match cache {
+        Cache::Nc => (b'N', false, false, false),
+        Cache::Wt {
+            transient,
+            read,
+            write,
+        } => (b'T', transient, read, write),
+        Cache::Wb {
+            transient,
+            read,
+            write,
+        } => (b'B', transient, read, write),
+    };
+    [
+        kind,
+        letter(transient, b't'),
+        letter(read, b'R'),
+        letter(write, b'W'),
+    ]
+}
+
+/// The outer and the inner cacheability, and G for tagged.
+fn normal_text(outer: [u8; 4], inner: [u8; 4], tagged: bool) -> [u8; 9] {
+    let [a, b, c, d] = outer;
+    let [e, f, g, h] = inner;
+    [a, b, c, d, e, f, g, h, letter(tagged, b'G')]
+}
+
+fn text(m: MemType) -> [u8; 9] {
+    match m {
+        MemType::Device {
+            kind: Device::NGnRnE,
+        } => *b"nGnRnE   ",
+        MemType::Device {
+            kind: Device::NGnRE,
+        } => *b"nGnRE    ",
+        MemType::Device { kind: Device::NGRE } => *b"nGRE     ",
+        MemType::Device { kind: Device::GRE } => *b"GRE      ",
+        MemType::Normal {
+            outer,
+            inner,
+            tagged,
+        } => normal_text(cache_text(outer), cache_text(inner), tagged),
+    }
+}
+
+/// The manual's row for one half of a byte of `MAIR_EL1`, where it names a cacheability.
+fn mair_row(half: u8) -> [u8; 4] {
+    match half {
+        0b0001 => *b"Tt-W",
+        0b0010 => *b"TtR-",
+        0b0011 => *b"TtRW",
+        0b0100 => *b"N---",
+        0b0101 => *b"Bt-W",
+        0b0110 => *b"BtR-",
+        0b0111 => *b"BtRW",
+        0b1000 => *b"T---",
+        0b1001 => *b"T--W",
+        0b1010 => *b"T-R-",
+        0b1011 => *b"T-RW",
+        0b1100 => *b"B---",
+        0b1101 => *b"B--W",
+        0b1110 => *b"B-R-",
+        0b1111 => *b"B-RW",
+        _ => *b"none",
+    }
+}
+
+/// The manual's type for a byte of `MAIR_EL1`, Device-nGnRnE for a reserved one.
+fn mair_text(byte: u8) -> [u8; 9] {
+    match byte {
+        0x04 => *b"nGnRE    ",
+        0x08 => *b"nGRE     ",
+        0x0c => *b"GRE      ",
+        0xf0 => *b"B-RWB-RWG",
+        0x00..=0x0f => *b"nGnRnE   ",
+        _ if byte % 16 == 0 => *b"nGnRnE   ",
+        _ => normal_text(mair_row(byte / 16), mair_row(byte % 16), false),
+    }
+}
+
+/// The manual's type for a stage 2 MemAttr[3:0], with inner Non-cacheable for a reserved inner code.
+fn s2_row(code: u32) -> [u8; 9] {
+    match code {
+        0b0000 => *b"nGnRnE   ",
+        0b0001 => *b"nGnRE    ",
+        0b0010 => *b"nGRE     ",
+        0b0011 => *b"GRE      ",
+        0b0100 => *b"N---N----",
+        0b0101 => *b"N---N----",
+        0b0110 => *b"N---T----",
+        0b0111 => *b"N---B----",
+        0b1000 => *b"T---N----",
+        0b1001 => *b"T---N----",
+        0b1010 => *b"T---T----",
+        0b1011 => *b"T---B----",
+        0b1100 => *b"B---N----",
+        0b1101 => *b"B---N----",
+        0b1110 => *b"B---T----",
+        _ => *b"B---B----",
+    }
+}
+
+#[test]
+fn bytes_of_mair(rt: HostRuntime) {
+    for (byte, want) in [
+        (0xbb, *b"T-RWT-RW-"),
+        (0x40, *b"nGnRnE   "),
+        (0xf0, *b"B-RWB-RWG"),
+    ] {
+        assert_eq!(rt; text(mair(byte)), want, "byte {byte}");
+    }
+}
+
+#[test]
+fn all_bytes_of_mair(rt: HostRuntime) {
+    for byte in 0..=255 {
+        assert_eq!(rt; text(mair(byte)), mair_text(byte), "byte {byte}");
+    }
+}
+
+#[test]
+fn all_codes_of_stage_2(rt: HostRuntime) {
+    for code in 0..16 {
+        assert_eq!(rt; text(s2_attr(code)), s2_row(code), "code {code}");
+    }
+    assert!(rt; share(0) == Share::Nsh);
+    assert!(rt; share(1) == Share::Nsh);
+    assert!(rt; share(2) == Share::Osh);
+    assert!(rt; share(3) == Share::Ish);
+}
+
+#[test]
+fn both_stages_combine(rt: HostRuntime) {
+    for (place, ((m, share), want, wider)) in [
+        (
+            combine(mair(0xff), Share::Ish, s2_attr(0b0110), Share::Nsh),
+            *b"N---T-RW-",
+            Share::Ish,
+        ),
+        (
+            combine(mair(0xff), Share::Nsh, s2_attr(0b0001), Share::Nsh),
+            *b"nGnRE    ",
+            Share::Osh,
+        ),
+        (
+            combine(mair(0x04), Share::Ish, s2_attr(0b0010), Share::Nsh),
+            *b"nGnRE    ",
+            Share::Osh,
+        ),
+        (
+            combine(mair(0x0c), Share::Ish, s2_attr(0b1111), Share::Ish),
+            *b"GRE      ",
+            Share::Osh,
+        ),
+        (
+            combine(mair(0xf0), Share::Nsh, s2_attr(0b1111), Share::Ish),
+            *b"B-RWB-RWG",
+            Share::Ish,
+        ),
+        (
+            combine(mair(0xf0), Share::Nsh, s2_attr(0b1011), Share::Nsh),
+            *b"T-RWB-RW-",
+            Share::Nsh,
+        ),
+        (
+            combine(mair(0x7e), Share::Ish, s2_attr(0b0101), Share::Ish),
+            *b"N---N----",
+            Share::Osh,
+        ),
+        (
+            combine(mair(0x1b), Share::Ish, s2_attr(0b1111), Share::Osh),
+            *b"Tt-WT-RW-",
+            Share::Osh,
+        ),
+        (alone(mair(0x44), Share::Nsh), *b"N---N----", Share::Osh),
+        (alone(mair(0x4f), Share::Nsh), *b"N---B-RW-", Share::Nsh),
+        (alone(mair(0x08), Share::Ish), *b"nGRE     ", Share::Osh),
+    ]
+    .iter()
+    .enumerate()
+    {
+        assert_eq!(rt; text(*m), *want, "row {place}");
+        assert!(rt; *share == *wider, "row {place}");
+    }
+}
+
+#[test]
+fn stage_1_off(rt: HostRuntime) {
+    for (fetch, cached, want) in [
+        (false, false, *b"nGnRnE   "),
+        (false, true, *b"nGnRnE   "),
+        (true, false, *b"N---N----"),
+        (true, true, *b"T-R-T-R--"),
+    ] {
+        let (m, share) = mmu_off(fetch, cached);
+        assert_eq!(rt; text(m), want, "fetch {fetch}, cached {cached}");
+        assert!(rt; share == Share::Osh, "fetch {fetch}, cached {cached}");
+    }
+}

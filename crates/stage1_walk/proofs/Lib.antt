@@ -1,0 +1,4 @@
+pub mod Firsts
+pub mod Refusals
+pub mod Bases
+pub mod Wholes

@@ -1,0 +1,10 @@
+pub use Rattle.walk_spec.specs.Ask
+pub use Rattle.walk_spec.specs.Needs
+pub use Rattle.walk_spec.specs.Second
+pub use Rattle.walk_spec.specs.First
+pub use Rattle.walk_spec.specs.Whole
+pub use Rattle.walk_spec.specs.Fresh
+pub use Rattle.walk_spec.specs.Walked
+pub mod Steps
+pub mod Sound
+pub mod Outcomes

@@ -1,0 +1,16 @@
+pub use Rattle.bitwords.specs.Causes
+pub use Rattle.bitwords.specs.Fields
+pub use Rattle.geometry.specs.Tables
+pub use Rattle.geometry.specs.Runs
+pub use Rattle.sysregs.specs.Registers
+pub use Rattle.sysregs.specs.Sides
+pub use Rattle.permissions.specs.Rights
+pub use Rattle.attributes.specs.Memory
+pub use Rattle.descriptors.specs.Meaning
+pub mod Ask
+pub mod Needs
+pub mod Second
+pub mod First
+pub mod Whole
+pub mod Fresh
+pub mod Walked
