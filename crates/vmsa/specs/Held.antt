@@ -1,6 +1,6 @@
 -- What files hold, where that is told, and what their calls then answer.
 use Rattle.std.specs.Prelude.{◌≡◌, ℕ, ◌-◌, List, length, take, drop, min, Option, Some, None}
-use Rattle.vmsa.specs.Causes.{Rose}
+use Rattle.bitwords.specs.Causes.{Rose}
 
 -- what a name holds: not told, no file, or a file with these bytes
 pub data Holding : Type 0 where

@@ -1,7 +1,7 @@
 -- A file whose bytes are memory from address 0. Which word it holds is this project's own rule.
 use Rattle.std.specs.Prelude.{◌≡◌, ℕ, ◌+◌, ◌-◌, ◌≤◌, ◌<◌, List, length, take, drop, min, Option, Some, None, nat_le, if◌then◌else◌}
 use Rattle.byteorder.specs.Endian.{little_number}
-use Rattle.vmsa.specs.Causes.{Rose}
+use Rattle.bitwords.specs.Causes.{Rose}
 use Rattle.vmsa.specs.Held.{Holding, Untold, Absent, Bytes}
 
 -- the word at a place, where all its eight bytes are there

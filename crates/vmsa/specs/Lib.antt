@@ -1,5 +1,7 @@
+pub use Rattle.bitwords.specs.Causes
 pub use Rattle.trails.specs.Texts
-pub mod Causes
+pub use Rattle.sysregs.specs.Refused
+pub use Rattle.walk_spec.specs.Fresh
 pub mod Written
 pub mod Held
 pub mod FilesInMemory

@@ -1,7 +1,7 @@
 ghost use Rattle.std.specs.Prelude.{◌≡◌, ◌⊎◌, ◌≤◌, ◌<◌, ◌++◌, map, flat_map, string_bytes, IfOk, IfErr, Some};
 ghost use Rattle.bitwords.specs.Causes.{Rose};
 ghost use Rattle.walk_spec.specs.Walked.{IsToldOutcome, IsFresh};
-ghost use Rattle.vmsa.specs.Causes.{HasCause};
+ghost use Rattle.bitwords.specs.Causes.{HasCause};
 ghost use Rattle.vmsa.specs.Written.{Wrote};
 ghost use Rattle.trails.specs.Texts.{item_text};
 ghost use Rattle.vmsa.specs.ErrText.{err_text, why_text, unsupported_text};

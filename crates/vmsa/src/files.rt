@@ -1,5 +1,5 @@
 ghost use Rattle.std.specs.Prelude.{◌≡◌, ℕ, ◌≤◌, ◌<◌, List, length, IfOk, MatchOption};
-ghost use Rattle.vmsa.specs.Causes.{HasCause};
+ghost use Rattle.bitwords.specs.Causes.{HasCause, Rose};
 ghost use Rattle.vmsa.specs.Held.{Holding, IsSize, IsRead, Untold};
 ghost use Rattle.vmsa.specs.FilesInMemory.{held_of};
 
@@ -198,6 +198,25 @@ impl<R: rt::Files> RealFiles<R> {
         }
     }
 
+    /// Counts a name that is missing or a file that has ended.
+    fn count_missing(&mut self)
+        ensures faults { self.new.faults ≡ self.old.faults }
+        ensures later { self.old.missing ≤ self.new.missing }
+        ensures rose { Rose self.old.missing self.new.missing }
+    {
+        self.missing = self.missing.saturating_add(1);
+    }
+
+    /// Counts a failure.
+    fn failed(&mut self) -> ReadFailed
+        ensures later { self.old.faults ≤ self.new.faults }
+        ensures rose { Rose self.old.faults self.new.faults }
+        ensures missing { self.new.missing ≡ self.old.missing }
+    {
+        self.faults = self.faults.saturating_add(1);
+        ReadFailed
+    }
+
     /// Keeps a file open, unless memory for its name is refused.
     fn hold(&mut self, name: &str, file: R::File)
         ensures faults { self.new.faults ≡ self.old.faults }
@@ -254,11 +273,11 @@ impl<R: rt::Files> Files for RealFiles<R> {
             Ok(size) => Ok(Some(size)),
             Err(e) => {
                 if e.kind() == io::ErrorKind::NotFound {
-                    self.missing = self.missing.saturating_add(1);
-                    return Ok(None);
+                    self.count_missing();
+                    Ok(None)
+                } else {
+                    Err(self.failed())
                 }
-                self.faults = self.faults.saturating_add(1);
-                Err(ReadFailed)
             }
         }
     }
@@ -267,14 +286,34 @@ impl<R: rt::Files> Files for RealFiles<R> {
         match self.real_read(name, at, into) {
             Ok(count) => {
                 if count == 0 {
-                    self.missing = self.missing.saturating_add(1);
+                    self.count_missing();
                 }
                 Ok(count)
             }
-            Err(_) => {
-                self.faults = self.faults.saturating_add(1);
-                Err(ReadFailed)
-            }
+            Err(_) => Err(self.failed()),
         }
+    }
+}
+
+#[cfg(test)]
+mod tests {
+    use super::*;
+    use std::test::Fail;
+
+    #[test]
+    fn reads_real_files(rt: HostRuntime) -> Result<(), Fail> {
+        let alloc = rt.alloc();
+        let mut into = [0u8; 8];
+        let mut files = RealFiles::new(&rt, alloc);
+        assert_eq!(rt; files.size("/dev/null"), Ok(Some(0)));
+        assert_eq!(rt; files.read_at("/dev/null", 0, &mut into), Ok(0));
+        assert_eq!(rt; (files.missing, files.faults), (1, 0));
+        assert_eq!(rt; files.read_at("/dev/zero", 8, &mut into), Ok(8));
+        assert_eq!(rt; files.size("/there/is/no/such/file"), Ok(None));
+        assert_eq!(rt; (files.missing, files.faults), (2, 0));
+        assert_eq!(rt; files.size("/"), Err(ReadFailed));
+        assert_eq!(rt; files.read_at("/", 0, &mut into), Err(ReadFailed));
+        assert_eq!(rt; (files.missing, files.faults), (2, 2));
+        Ok(())
     }
 }

@@ -1,8 +1,8 @@
 ghost use Rattle.std.specs.Prelude.{◌≡◌, ◌≤◌, length, flat_map};
-ghost use Rattle.fault_codes.specs.Status.{HasStatus};
+ghost use Rattle.fault_codes.specs.Status.{HasStatus, HasLevel};
 ghost use Rattle.trails.specs.Texts.{item_text, item_text_by, fault_text, absent_text};
 ghost use Rattle.trails.specs.declared.item.What.{What};
-ghost use Rattle.vmsa.specs.Causes.{HasCause};
+ghost use Rattle.bitwords.specs.Causes.{HasCause};
 ghost use Rattle.vmsa.specs.Written.{Wrote};
 ghost use Rattle.vmsa.specs.RawText.{raw_access_text, raw_mapped_text};
 ghost use Rattle.vmsa.specs.ErrText.{no_file_text, reg_text, field_text, unsupported_text};
@@ -200,4 +200,119 @@ pub fn unsupported_line<E: Sink>(err: &mut E, at: &Unsupported) -> Result<(), Wr
     line.text(reg_name(at.reg));
     line.text(b"vmsa: raw: unsupported ");
     err.put(line.bytes())
+}
+
+#[cfg(test)]
+mod tests {
+    use super::*;
+    use crate::sink::{FailingMemory, QuietMemory};
+    use fault_codes::Class;
+    use std::test::Fail;
+
+    fn put_walk(out: &mut QuietMemory) -> Result<(), WriteFailed> {
+        let base = Item {
+            pa: 0x1000,
+            value: 0x1000,
+            moment: 7,
+            stage: Stage::S1,
+            level: 0,
+            what: What::Base,
+        };
+        let word = Item {
+            pa: 0,
+            value: u64::MAX,
+            moment: 7,
+            stage: Stage::S2,
+            level: -1,
+            what: What::Word,
+        };
+        raw_access_line(out, 0x4020_1abc)?;
+        item_lines(out, &[base, word])?;
+        absent_line(out, Stage::S1, 2, 0xf_ffff_ffff_fff8, true)?;
+        raw_mapped_line(out, 0x5abc)
+    }
+
+    #[test]
+    fn prints_the_lines_of_a_walk(rt: HostRuntime) {
+        let mut out = QuietMemory::new(rt.alloc());
+        let expected = b"access 0x40201abc el1 read\n\
+            s1 base level 0 at 0x1000\n\
+            s2 word level -1 at 0x0 value 0xffffffffffffffff\n\
+            absent stage 1 level 2 at 0xffffffffffff8 s1ptw\n\
+            mapped 0x5abc\n";
+        assert!(rt; put_walk(&mut out).is_ok());
+        assert!(rt; out.bytes.as_slice() == expected.as_slice());
+    }
+
+    fn put_fault(
+        out: &mut QuietMemory,
+        stage: Stage,
+        level: i8,
+        class: Class,
+        s1ptw: bool,
+    ) -> Result<(), WriteFailed>
+        requires { HasLevel class level }
+    {
+        fault_line(
+            out,
+            &Fault {
+                stage,
+                level,
+                class,
+                s1ptw,
+            },
+        )
+    }
+
+    fn put_faults(out: &mut QuietMemory) -> Result<(), WriteFailed> {
+        put_fault(out, Stage::S1, 0, Class::Translation, false)?;
+        put_fault(out, Stage::S2, -1, Class::AddressSize, true)?;
+        put_fault(out, Stage::S1, 3, Class::AccessFlag, false)?;
+        put_fault(out, Stage::S1, 3, Class::Permission, false)?;
+        put_fault(out, Stage::S1, 1, Class::External, true)?;
+        put_fault(out, Stage::S2, 2, Class::Conflict, false)
+    }
+
+    #[test]
+    fn prints_faults(rt: HostRuntime) {
+        let mut out = QuietMemory::new(rt.alloc());
+        let expected = b"fault stage 1 level 0 translation fsc 0x04\n\
+            fault stage 2 level -1 address-size fsc 0x29 s1ptw\n\
+            fault stage 1 level 3 access-flag fsc 0x0b\n\
+            fault stage 1 level 3 permission fsc 0x0f\n\
+            fault stage 1 level 1 external fsc 0x15 s1ptw\n\
+            fault stage 2 level 2 conflict fsc 0x30\n";
+        assert!(rt; put_faults(&mut out).is_ok());
+        assert!(rt; out.bytes.as_slice() == expected.as_slice());
+    }
+
+    fn put_refusals(err: &mut QuietMemory) -> Result<(), WriteFailed> {
+        static_line(err, b"vmsa: read fault\n")?;
+        no_file_line(err, "a b~\u{7f}!")?;
+        no_file_line(
+            err,
+            "0123456789abcdef0123456789abcdef0123456789abcdef0123456789abcdefgh",
+        )
+    }
+
+    #[test]
+    fn shows_a_name(rt: HostRuntime) {
+        let mut err = QuietMemory::new(rt.alloc());
+        let expected = b"vmsa: read fault\n\
+            vmsa: no file a?b~?!\n\
+            vmsa: no file 0123456789abcdef0123456789abcdef0123456789abcdef0123456789abcdef\n";
+        assert!(rt; put_refusals(&mut err).is_ok());
+        assert!(rt; err.bytes.as_slice() == expected.as_slice());
+    }
+
+    #[test]
+    fn a_put_fails(rt: HostRuntime) -> Result<(), Fail> {
+        let mut out = FailingMemory::new(rt.alloc(), vec![in rt.alloc(); (1, 5)]?);
+        assert!(rt; raw_mapped_line(&mut out, 1).is_ok());
+        assert_eq!(rt; raw_mapped_line(&mut out, 2), Err(WriteFailed));
+        assert!(rt; raw_mapped_line(&mut out, 3).is_ok());
+        assert!(rt; out.bytes.as_slice() == b"mapped 0x1\nmappemapped 0x3\n".as_slice());
+        assert_eq!(rt; out.faults, 1);
+        Ok(())
+    }
 }

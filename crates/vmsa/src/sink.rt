@@ -1,5 +1,5 @@
 ghost use Rattle.std.specs.Prelude.{◌≡◌, ℕ, List, [], Option, Some, None, false, if◌then◌else◌};
-ghost use Rattle.vmsa.specs.Causes.{HasCause};
+ghost use Rattle.bitwords.specs.Causes.{HasCause};
 ghost use Rattle.vmsa.specs.Written.{Wrote};
 
 use std::alloc::Global;
@@ -137,5 +137,43 @@ impl Sink for FailingMemory {
         }
         self.faults = self.faults.saturating_add(1);
         Err(WriteFailed)
+    }
+}
+
+#[cfg(test)]
+mod tests {
+    use super::*;
+    use std::fs::OpenOptions;
+    use std::test::Fail;
+
+    #[test]
+    fn writes_to_real_files(rt: HostRuntime) -> Result<(), Fail> {
+        let mut null = Adapter::new(OpenOptions::new().write(true).open(&rt, "/dev/null")?);
+        assert!(rt; null.put(b"taken").is_ok());
+        let mut full = Adapter::new(OpenOptions::new().write(true).open(&rt, "/dev/full")?);
+        assert_eq!(rt; full.put(b"refused"), Err(WriteFailed));
+        assert_eq!(rt; (null.faults, full.faults), (0, 1));
+        Ok(())
+    }
+
+    /// A writer that takes nothing.
+    #[derive(Drop)]
+    struct Nothing;
+
+    impl io::Write for Nothing {
+        fn write(&mut self, _piece: &[u8]) -> io::Result<usize> {
+            Ok(0)
+        }
+
+        fn flush(&mut self) -> io::Result<()> {
+            Ok(())
+        }
+    }
+
+    #[test]
+    fn a_write_that_takes_nothing_fails(rt: HostRuntime) {
+        let mut sink = Adapter::new(Nothing);
+        assert!(rt; sink.put(b"").is_ok());
+        assert_eq!(rt; sink.put(b"piece"), Err(WriteFailed));
     }
 }

@@ -79,3 +79,51 @@ pub fn command(words: &[String]) -> Option<RawArgs<'_>>
         None
     }
 }
+
+#[cfg(test)]
+mod tests {
+    use super::*;
+    use std::alloc::{AllocError, Global};
+    use std::test::Fail;
+
+    fn owned(alloc: Global, words: &[&str]) -> Result<Vec<String>, AllocError> {
+        let mut list = Vec::new(alloc);
+        for word in words {
+            list.push(String::from_str(alloc, *word)?)?;
+        }
+        Ok(list)
+    }
+
+    #[test]
+    fn reads_a_command(rt: HostRuntime) -> Result<(), Fail> {
+        let words = owned(rt.alloc(), &["raw", "image", "0x10", "4096", "0xABC"])?;
+        let expected = RawArgs {
+            image: "image",
+            tcr: 0x10,
+            ttbr0: 4096,
+            va: 0xabc,
+        };
+        assert_eq!(rt; command(words.as_slice()), Some(expected));
+        Ok(())
+    }
+
+    #[test]
+    fn refuses_what_is_no_command(rt: HostRuntime) -> Result<(), Fail> {
+        let cases: [&[&str]; 9] = [
+            &[],
+            &["raw"],
+            &["walk", "image", "1", "2", "3"],
+            &["raw", "image", "1", "2"],
+            &["raw", "image", "1", "2", "3", "4"],
+            &["raw", "", "1", "2", "3"],
+            &["raw", "-x", "1", "2", "3"],
+            &["-raw", "image", "1", "2", "3"],
+            &["raw", "image", "1", "two", "3"],
+        ];
+        for (i, case) in cases.iter().enumerate() {
+            let words = owned(rt.alloc(), *case)?;
+            assert!(rt; command(words.as_slice()).is_none(), "case {i}");
+        }
+        Ok(())
+    }
+}
