@@ -47,7 +47,11 @@ fn top<const G: u32>(input: u32, start: u32, left: u32) -> u32
     ensures value { result ≡ top_of G input start left }
     ensures below { result ≤ 56 }
 {
-    if left == start { input } else { class_at::<G>(left) + (G - 3) }
+    if left == start {
+        input
+    } else {
+        class_at::<G>(left) + (G - 3)
+    }
 }
 
 /// The place in bytes of the word that an address selects in a table, which is the start table where as many levels are
