@@ -7,7 +7,7 @@ fn no_fields() -> Config {
 }
 
 #[test]
-fn fields_that_linux_sets_at_boot(rt: HostRuntime) {
+fn fields_of_48_bit_addresses(rt: HostRuntime) {
     let mut regs = Regs::zero();
     regs.set(Reg::SctlrEl1, 0x1005);
     regs.set(Reg::TcrEl1, 0x35_b550_3510);
