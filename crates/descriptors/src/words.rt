@@ -36,7 +36,11 @@ fn address<const G: u32>(w: u64, class: u32) -> u64
     ensures { result ≡ address_in G w class }
 {
     let low = low_address(w, class);
-    if G == 16 { (field::<15, 12>(w) << 48) | low } else { low }
+    if G == 16 {
+        (field::<15, 12>(w) << 48) | low
+    } else {
+        low
+    }
 }
 
 fn shape_at<const G: u32, const LEFT: u32>(w: u64) -> Shape
@@ -48,7 +52,11 @@ fn shape_at<const G: u32, const LEFT: u32>(w: u64) -> Shape
         return Shape::Nothing;
     }
     if flag::<1>(w) {
-        if LEFT == 0 { Shape::Mapping } else { Shape::Pointer }
+        if LEFT == 0 {
+            Shape::Mapping
+        } else {
+            Shape::Pointer
+        }
     } else if block_allowed::<G, LEFT>() {
         Shape::Mapping
     } else {

@@ -8,3 +8,6 @@ mod trail;
 pub use item::{Item, What};
 pub use outcome::{Access, Outcome, Stop};
 pub use trail::Trail;
+
+#[cfg(test)]
+mod tests;
