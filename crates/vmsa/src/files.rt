@@ -1,4 +1,4 @@
-ghost use Rattle.std.specs.Prelude.{◌≡◌, ℕ, ◌≤◌, ◌<◌, List, length, IfOk, MatchOption};
+ghost use Rattle.std.specs.Prelude.{◌≡◌, ℕ, ◌≤◌, ◌<◌, List, length, IfOk, MatchOption, MatchResult, Contains};
 ghost use Rattle.bitwords.specs.Causes.{HasCause, Rose};
 ghost use Rattle.vmsa.specs.Held.{Holding, IsSize, IsRead, Untold};
 ghost use Rattle.vmsa.specs.FilesInMemory.{held_of};
@@ -128,7 +128,9 @@ pub struct FailingFiles {
 }
 
 impl FailingFiles {
-    pub fn new(files: Vec<MemoryFile>, fails: Vec<u64>) -> FailingFiles {
+    pub fn new(files: Vec<MemoryFile>, fails: Vec<u64>) -> FailingFiles
+        ensures { result ≡ record { files = files; fails = fails; calls = 0; faults = 0 } }
+    {
         FailingFiles {
             files,
             fails,
@@ -140,6 +142,8 @@ impl FailingFiles {
     /// Counts a call, and its failure where it is one that fails.
     fn count(&mut self) -> Result<(), ReadFailed>
         ensures files { self.new.files ≡ self.old.files }
+        ensures fails { self.new.fails ≡ self.old.fails }
+        ensures due { MatchResult result (λ _. ¬ Contains self.old.fails.items self.old.calls) (λ _. Contains self.old.fails.items self.old.calls) }
         ensures cause { HasCause self.old.faults self.new.faults result }
     {
         let fails = self.fails.contains(&self.calls);

@@ -98,7 +98,10 @@ pub struct FailingMemory {
 
 impl FailingMemory {
     pub fn new(alloc: Global, fails: Vec<(u64, usize)>) -> FailingMemory
-        ensures { result.bytes.items ≡ [] }
+        ensures bytes { result.bytes.items ≡ [] }
+        ensures fails { result.fails ≡ fails }
+        ensures calls { result.calls ≡ 0 }
+        ensures faults { result.faults ≡ 0 }
     {
         FailingMemory {
             bytes: Vec::new(alloc),
