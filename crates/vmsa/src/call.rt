@@ -12,7 +12,10 @@ ghost use Rattle.vmsa.specs.Answers.{IsAccepted, IsWalkThere, IsDue, IsRefusalOf
 
 use crate::files::Files;
 use crate::image::Image;
-use crate::lines::{absent_line, fault_line, item_lines, no_file_line, raw_access_line, raw_mapped_line, static_line, unsupported_line};
+use crate::lines::{
+    absent_line, fault_line, item_lines, no_file_line, raw_access_line, raw_mapped_line,
+    static_line, unsupported_line,
+};
 use crate::sink::{Sink, WriteFailed};
 use crate::status::{Name, Status, Why};
 use crate::words::{RawArgs, command};
@@ -223,3 +226,6 @@ pub fn vmsa<F: Files, O: Sink, E: Sink>(
     let due = judge(alloc, words, files);
     tell(out, err, due)
 }
+
+#[cfg(test)]
+mod tests;

@@ -16,9 +16,8 @@ use crate::call::vmsa;
 use crate::files::RealFiles;
 use crate::sink::Adapter;
 use crate::status::Status;
-use std::env;
-use std::io;
 use std::process::ExitCode;
+use std::{env, io};
 
 /// The words after the program's name.
 fn taken_words(rt: &HostRuntime) -> io::Result<Vec<String>> {
