@@ -1,6 +1,6 @@
 -- A walk over a told memory that did not fail is the fresh walk.
 use Rattle.std.proofs.Common.{◌≡◌, ℕ, List, refl, sym, ap, ◌∙◌, inl, inr}
-use Rattle.std.specs.Prelude.{Option, Some, None, option_map, true}
+use Rattle.std.specs.Prelude.{Some, true}
 use Rattle.sysregs.specs.declared.regs.Regs.{Regs}
 use Rattle.sysregs.specs.declared.regs.Side.{Side}
 use Rattle.sysregs.specs.Registers.{config_of}
@@ -8,8 +8,8 @@ use Rattle.sysregs.specs.Sides.{side_of}
 use Rattle.trails.specs.declared.item.Item.{Item}
 use Rattle.trails.specs.declared.outcome.Access.{Access}
 use Rattle.trails.specs.declared.outcome.Outcome.{Outcome}
-use Rattle.walk_spec.specs.Ask.{Ask, Fed, ended, lacks, Took, fed_items, fed_end}
-use Rattle.walk_spec.specs.Needs.{Need, base_one, base_two, word, word_item}
+use Rattle.walk_spec.specs.Ask.{Fed, ended, lacks}
+use Rattle.walk_spec.specs.Needs.{Need, base_one, base_two, word}
 use Rattle.walk_spec.specs.Second.{End}
 use Rattle.walk_spec.specs.Whole.{Landing, walk}
 use Rattle.walk_spec.specs.Fresh.{Memory, given, fed_outcome, fresh_items, fresh_outcome}

@@ -1,16 +1,16 @@
 -- How code that walks over a supply goes on, ends and lacks a word.
-use Rattle.std.proofs.Common.{◌≡◌, ℕ, ◌≤◌, List, [], ◌∷◌, ◌++◌, refl, sym, ap, ◌∙◌, arith, append_assoc, append-nil, inl, inr, Ok, Err, Result, subst}
+use Rattle.std.proofs.Common.{◌≡◌, ℕ, ◌≤◌, List, [], ◌∷◌, ◌++◌, refl, sym, ap, ◌∙◌, arith, append_assoc, append-nil, inl, inr, Err, Result}
 use Rattle.std.specs.Prelude.{Some, None}
 use Rattle.bitwords.specs.Causes.{Rose}
 use Rattle.geometry.specs.Tables.{level_of}
 use Rattle.trails.specs.declared.item.Item.{Item}
 use Rattle.trails.specs.declared.outcome.Stop.{Stop}
-use Rattle.trails.specs.declared.outcome.Stop.TheVariants.{Fault, Absent}
-use Rattle.walk_spec.specs.Ask.{Ask, done, ask, after, Fed, ended, lacks, Took}
+use Rattle.trails.specs.declared.outcome.Stop.TheVariants.{Absent}
+use Rattle.walk_spec.specs.Ask.{Ask, done, ask, Fed, ended, lacks}
 use Rattle.walk_spec.specs.Needs.{Need, base_one, base_two, word, WordNeed}
-use Rattle.walk_spec.specs.Second.{End, stops, reaches}
+use Rattle.walk_spec.specs.Second.{End}
 use Rattle.walk_spec.specs.Walked.{Told, Misses, LacksFor, Walked, result_of}
-use Rattle.walk_spec.proofs.Feeding.{took_after, took_after_lacks, took_weaker}
+use Rattle.walk_spec.proofs.Feeding.{took_weaker}
 
 pub misses_weaker : (m : Told) (p : ℕ) (F G : Type 0) → (F → G) → Misses m p F → Misses m p G
 misses_weaker None p F G f h = tt

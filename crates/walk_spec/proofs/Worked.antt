@@ -1,6 +1,6 @@
 -- Words for worked walks: memories, registers, accesses, items and outcomes.
 use Rattle.std.proofs.Common.{◌≡◌, ℕ, ◌+◌, List, [], ◌∷◌, Bool, false, true, pos, ℤ}
-use Rattle.std.specs.Prelude.{Option, Some, None, ◌==◌, nat_le, if◌then◌else◌}
+use Rattle.std.specs.Prelude.{Some, None, ◌==◌, nat_le, if◌then◌else◌}
 use Rattle.sysregs.specs.declared.regs.Regs.{Regs}
 use Rattle.sysregs.specs.Registers.{zero_regs}
 use Rattle.permissions.specs.declared.bits.El.{El}

@@ -1,20 +1,17 @@
 -- Worked walks through stage 1, which the checker computes from the definitions alone.
-use Rattle.std.proofs.Common.{◌≡◌, ℕ, List, [], ◌∷◌, ◌++◌, Bool, true, false, refl, pos}
-use Rattle.sysregs.specs.declared.regs.Regs.{Regs}
+use Rattle.std.proofs.Common.{◌≡◌, ℕ, List, [], ◌∷◌, true, false, refl, pos}
 use Rattle.sysregs.specs.Registers.{zero_regs, config_of}
 use Rattle.sysregs.specs.Sides.{side_of}
 use Rattle.permissions.specs.declared.bits.El.TheVariants.{El0, El1}
 use Rattle.permissions.specs.declared.bits.Kind.TheVariants.{Read, Fetch}
 use Rattle.permissions.specs.Rights.{perms_of, has, is_allowed1, is_allowed2}
 use Rattle.attributes.specs.declared.kinds.Cache.TheVariants.{Wt}
-use Rattle.attributes.specs.declared.kinds.Device.TheVariants.{NGnRE}
-use Rattle.attributes.specs.declared.kinds.MemType.TheVariants.{Device as AsDevice, Normal}
+use Rattle.attributes.specs.declared.kinds.MemType.TheVariants.{Normal}
 use Rattle.attributes.specs.declared.kinds.Share.TheVariants.{Nsh, Ish, Osh}
-use Rattle.fault_codes.specs.declared.fault.Stage.TheVariants.{S1, S2}
+use Rattle.fault_codes.specs.declared.fault.Stage.TheVariants.{S1}
 use Rattle.fault_codes.specs.declared.fault.Class.TheVariants.{Translation, AddressSize, AccessFlag, Permission}
 use Rattle.descriptors.specs.Meaning.{means1, means2}
 use Rattle.trails.specs.declared.item.Item.{Item}
-use Rattle.trails.specs.declared.outcome.Access.{Access}
 use Rattle.trails.specs.declared.outcome.Outcome.TheVariants.{Mapped, Absent}
 use Rattle.walk_spec.specs.Ask.{Stands, on, needs, bad, ends}
 use Rattle.walk_spec.specs.Needs.{Need, word, sizes1, sizes2, regime_of, fits}

@@ -1,27 +1,21 @@
 -- Worked walks through stage 2 and through both stages, which the checker computes from the definitions alone.
-use Rattle.std.proofs.Common.{◌≡◌, ℕ, List, [], ◌∷◌, ◌++◌, Bool, true, false, refl, pos}
+use Rattle.std.proofs.Common.{ℕ, List, [], ◌∷◌, ◌++◌, true, false, refl, pos}
 use Rattle.sysregs.specs.declared.regs.Regs.{Regs}
-use Rattle.sysregs.specs.Registers.{zero_regs, config_of}
-use Rattle.sysregs.specs.Sides.{side_of}
-use Rattle.permissions.specs.declared.bits.El.TheVariants.{El0, El1}
-use Rattle.permissions.specs.declared.bits.Kind.TheVariants.{Read, Fetch}
+use Rattle.sysregs.specs.Registers.{zero_regs}
 use Rattle.permissions.specs.Rights.{perms_of, has, is_allowed1, is_allowed2}
-use Rattle.attributes.specs.declared.kinds.Cache.TheVariants.{Wt}
 use Rattle.attributes.specs.declared.kinds.Device.TheVariants.{NGnRE}
-use Rattle.attributes.specs.declared.kinds.MemType.TheVariants.{Device as AsDevice, Normal}
-use Rattle.attributes.specs.declared.kinds.Share.TheVariants.{Nsh, Ish, Osh}
+use Rattle.attributes.specs.declared.kinds.MemType.TheVariants.{Device as AsDevice}
+use Rattle.attributes.specs.declared.kinds.Share.TheVariants.{Ish, Osh}
 use Rattle.fault_codes.specs.declared.fault.Stage.TheVariants.{S1, S2}
-use Rattle.fault_codes.specs.declared.fault.Class.TheVariants.{Translation, AddressSize, AccessFlag, Permission}
+use Rattle.fault_codes.specs.declared.fault.Class.TheVariants.{Translation, Permission}
 use Rattle.descriptors.specs.Meaning.{means1, means2}
 use Rattle.trails.specs.declared.item.Item.{Item}
-use Rattle.trails.specs.declared.outcome.Access.{Access}
-use Rattle.trails.specs.declared.outcome.Outcome.TheVariants.{Mapped, Absent}
-use Rattle.walk_spec.specs.Ask.{Stands, on, needs, bad, ends}
-use Rattle.walk_spec.specs.Needs.{Need, word, sizes1, sizes2, regime_of, fits}
-use Rattle.walk_spec.specs.Second.{End, reaches, place_of, step2, is_refused2}
+use Rattle.trails.specs.declared.outcome.Outcome.TheVariants.{Mapped}
+use Rattle.walk_spec.specs.Needs.{sizes1, sizes2, fits}
+use Rattle.walk_spec.specs.Second.{place_of, step2, is_refused2}
 use Rattle.walk_spec.specs.First.{step1}
-use Rattle.walk_spec.specs.Whole.{Landing, is_refused1, walk}
-use Rattle.walk_spec.proofs.Worked.{image, words_at, tables, access, kernel_read, base, item, items, rights, fault, cached, strongly_ordered, alone_regs, user_regs, Comes}
+use Rattle.walk_spec.specs.Whole.{is_refused1}
+use Rattle.walk_spec.proofs.Worked.{words_at, tables, kernel_read, base, item, rights, fault, cached, strongly_ordered, Comes}
 
 -- stage 1 off, and stage 2 from level 1 with tables concatenated
 abbrev guest_regs : ℕ → Regs

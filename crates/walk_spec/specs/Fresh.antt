@@ -1,5 +1,5 @@
 -- The fresh walk: every base is that of the registers, and every word that of a memory.
-use Rattle.std.specs.Prelude.{ℕ, ◌*◌, ◌/◌, List, Option, Some, None, option_map, true}
+use Rattle.std.specs.Prelude.{ℕ, ◌*◌, ◌/◌, List, Option, Some, option_map, true}
 use Rattle.geometry.specs.Tables.{level_of, table_size}
 use Rattle.sysregs.specs.declared.regs.Regs.{Regs}
 use Rattle.sysregs.specs.declared.regs.Side.{Side}

@@ -1,5 +1,5 @@
 -- What a walk needs next, and which items are it.
-use Rattle.std.specs.Prelude.{ℕ, ◌*◌, ◌%◌, ◌^◌, ◌-◌, Bool, true, false, ◌==◌, ◌&&◌, ◌||◌, nat_lt, if◌then◌else◌, ℤ, pos, negsuc, Option, Some, None, unwrap_or}
+use Rattle.std.specs.Prelude.{ℕ, ◌%◌, ◌^◌, Bool, true, false, ◌==◌, ◌&&◌, ◌||◌, nat_lt, ℤ, pos, negsuc, unwrap_or}
 use Rattle.bitwords.specs.Fields.{bit}
 use Rattle.geometry.specs.Tables.{class_of, level_of, input_size, start_left1, start_left2, table_size}
 use Rattle.geometry.specs.Runs.{is_counted, is_one_run}

@@ -7,7 +7,7 @@ use Rattle.sysregs.specs.Registers.{exponent}
 use Rattle.permissions.specs.Rights.{perms_of, rights2}
 use Rattle.attributes.specs.Memory.{s2_attr_of, share_of}
 use Rattle.fault_codes.specs.declared.fault.Stage.{Stage}
-use Rattle.fault_codes.specs.declared.fault.Stage.TheVariants.{S1, S2}
+use Rattle.fault_codes.specs.declared.fault.Stage.TheVariants.{S2}
 use Rattle.fault_codes.specs.declared.fault.Class.{Class}
 use Rattle.fault_codes.specs.declared.fault.Class.TheVariants.{Translation, AddressSize, AccessFlag}
 use Rattle.fault_codes.specs.declared.fault.Fault.{Fault}

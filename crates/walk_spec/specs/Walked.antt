@@ -1,5 +1,5 @@
 -- What is said of code that walks over a supply of words.
-use Rattle.std.specs.Prelude.{ℕ, Bool, true, ◌≡◌, ◌++◌, ◌⊎◌, ◌≤◌, List, [], ◌∷◌, Option, Some, None, Result, Ok, Err}
+use Rattle.std.specs.Prelude.{ℕ, Bool, true, ◌≡◌, ◌++◌, ◌⊎◌, List, [], ◌∷◌, Option, Some, None, Result, Ok, Err}
 use Rattle.geometry.specs.Tables.{level_of}
 use Rattle.sysregs.specs.declared.regs.Regs.{Regs}
 use Rattle.sysregs.specs.declared.regs.Side.{Side}
@@ -15,7 +15,7 @@ use Rattle.trails.specs.declared.outcome.Outcome.TheVariants.{Mapped, Faulted, A
 use Rattle.trails.specs.declared.outcome.Stop.{Stop}
 use Rattle.trails.specs.declared.outcome.Stop.TheVariants.{Fault, Absent, Conflict}
 use Rattle.walk_spec.specs.Ask.{Ask, Fed, ended, lacks, Took}
-use Rattle.walk_spec.specs.Needs.{sizes1, sizes2, Need, base_one, base_two, word, WordNeed, base_item, read_item, word_item}
+use Rattle.walk_spec.specs.Needs.{sizes1, sizes2, Need, base_one, base_two, word, base_item, read_item, word_item}
 use Rattle.walk_spec.specs.Second.{End, stops, reaches}
 use Rattle.walk_spec.specs.Whole.{Landing, walk}
 use Rattle.walk_spec.specs.Fresh.{Memory, base_one_of, base_two_of, fed_outcome, fresh_items, fresh_outcome}

@@ -3,7 +3,6 @@ use Rattle.std.specs.Prelude.{ℕ, ◌+◌, ◌-◌, ◌%◌, ◌^◌, Bool, tru
 use Rattle.bitwords.specs.Fields.{bits_of, bit}
 use Rattle.geometry.specs.Tables.{is_txsz, input_size}
 use Rattle.sysregs.specs.declared.regs.Config.{Config}
-use Rattle.sysregs.specs.declared.regs.Side.{Side}
 use Rattle.sysregs.specs.Registers.{exponent}
 use Rattle.sysregs.specs.Sides.{side_of, tg_of, txsz_of, epd_of, e0pd_of, tbi_of, tbid_of}
 use Rattle.permissions.specs.declared.set.Perms.{Perms}
