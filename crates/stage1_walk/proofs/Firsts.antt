@@ -1,18 +1,21 @@
 -- How a walk of stage 1 goes on over the words of its tables, while stage 2 is off.
-use Rattle.std.proofs.Common.{◌≡◌, ℕ, zero, suc, ◌-◌, ◌<◌, List, [], ◌∷◌, ◌++◌, refl, sym, ap, ◌∙◌, arith, Bool, true, false, cond, Ok, Err, Result}
+use Rattle.std.proofs.Common.{◌≡◌, ℕ, zero, suc, ◌-◌, ◌<◌, List, [], ◌∷◌, ◌++◌, length, length-append, ◌+◌, refl, sym, ap, ◌∙◌, arith, Bool, true, false, cond, Result}
 use Rattle.trails.specs.declared.item.Item.{Item}
 use Rattle.trails.specs.declared.outcome.Access.{Access}
 use Rattle.trails.specs.declared.outcome.Stop.{Stop}
-use Rattle.fault_codes.specs.declared.fault.Fault.{Fault}
 use Rattle.fault_codes.specs.declared.fault.Stage.TheVariants.{S1}
 use Rattle.fault_codes.specs.declared.fault.Class.TheVariants.{Translation}
 use Rattle.walk_spec.specs.declared.leaf.Leaf1.{Leaf1}
 use Rattle.walk_spec.specs.Ask.{Ask, done, ask, after, finer, go_on, ended}
-use Rattle.walk_spec.specs.Needs.{Regime, Need, word, WordNeed, word_item, read_item}
+use Rattle.walk_spec.specs.Needs.{Regime, Need, word, WordNeed, read_item}
 use Rattle.walk_spec.specs.Second.{End, stops, ends_by, goes_down, Step, end_or, fault_at, place_of, chain}
 use Rattle.walk_spec.specs.First.{Down, Place, step1, first_from, first_part, read_one, word_by, word_at}
 use Rattle.walk_spec.specs.Walked.{Told, ReadWord, Holds, Misses, Walked, result_of}
 use Rattle.walk_spec.proofs.Walks.{walked_lacks, walked_ends, walked_goes}
+
+-- a list with one more item
+pub one_longer : (old new : List Item) (i : Item) → new ≡ old ++ i ∷ [] → length new ≡ length old + 1
+one_longer old new i e = ap length e ∙ length-append old (i ∷ [])
 
 -- the walk from the next table, if there is a level below
 abbrev pub first_below : Regime → Bool → Access → ℕ → ℕ → Down → Ask Place Item (End Leaf1)

@@ -1,6 +1,5 @@
 -- What an access that is not refused tells.
 use Rattle.std.proofs.Common.{◌≡◌, Bool, true, false, not, ◌||◌, refl}
-use Rattle.std.specs.Prelude.{IsTrue, IsFalse}
 use Rattle.geometry.specs.Tables.{is_txsz}
 use Rattle.sysregs.specs.declared.regs.Config.{Config}
 use Rattle.sysregs.specs.Registers.{exponent}

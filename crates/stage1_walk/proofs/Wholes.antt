@@ -1,7 +1,6 @@
 -- The whole walk of an access with stage 1 on and stage 2 off.
-use Rattle.std.proofs.Common.{◌≡◌, ℕ, ◌<◌, ◌≤◌, ◌^◌, List, [], ◌∷◌, ◌++◌, refl, sym, ap, ◌∙◌, subst, arith, append-nil, Bool, true, false, cond, Ok, Err, Result}
+use Rattle.std.proofs.Common.{◌≡◌, ◌^◌, List, [], ◌∷◌, refl, sym, ap, ◌∙◌, subst, append-nil, Bool, true, false, cond, Err, Result}
 use Rattle.std.specs.Prelude.{nat_le}
-use Rattle.std.proofs.lemmas.Bool.Decides.{nat_tests}
 use Rattle.sysregs.specs.declared.regs.Regs.{Regs}
 use Rattle.sysregs.specs.Registers.{config_of}
 use Rattle.sysregs.specs.Sides.{side_of}
@@ -14,12 +13,12 @@ use Rattle.trails.specs.declared.outcome.Outcome.{Outcome}
 use Rattle.trails.specs.declared.outcome.Stop.{Stop}
 use Rattle.trails.specs.declared.outcome.Stop.TheVariants.{Fault}
 use Rattle.walk_spec.specs.declared.leaf.Leaf1.{Leaf1}
-use Rattle.walk_spec.specs.Ask.{Ask, done, ask, after, Fed, ended, lacks, Took}
+use Rattle.walk_spec.specs.Ask.{done, ask, after, Fed, ended, lacks, Took}
 use Rattle.walk_spec.specs.Needs.{Regime, regime_of, sizes1, Need, base_one, base_two, word, base_item}
 use Rattle.walk_spec.specs.Second.{End, stops, reaches, fault_at, chain}
 use Rattle.walk_spec.specs.First.{first_part}
-use Rattle.walk_spec.specs.Whole.{Landing, low, landed, judged2, output, is_refused1, from_base, stage_on, stage_off, stage_one, walk}
-use Rattle.walk_spec.specs.Fresh.{base_one_of, fed_outcome}
+use Rattle.walk_spec.specs.Whole.{Landing, low, landed, judged2, output, is_refused1, from_base, stage_on, stage_off, walk}
+use Rattle.walk_spec.specs.Fresh.{base_one_of}
 use Rattle.walk_spec.specs.Walked.{Told, ReadWord, ReadNow, LacksFor, Walked, WalkedWhole, result_of}
 use Rattle.walk_spec.proofs.Feeding.{took_after, took_after_lacks}
 use Rattle.walk_spec.proofs.Walks.{walked_done, walked_ends, walked_goes, walked_weaker}
@@ -32,12 +31,6 @@ on_with false h t u = absurd cc
 off_with : {A : Type 0} (v : Bool) → v ≡ false → (t u : A) → cond v t u ≡ u
 off_with true h t u = absurd cc
 off_with false h t u = refl
-
-le_yes : (a b : ℕ) → a ≤ b → nat_le a b ≡ true
-le_yes a b h = grind (arith, nat_tests)
-
-le_no : (a b : ℕ) → b < a → nat_le a b ≡ false
-le_no a b h = grind (arith, nat_tests)
 
 module _ (regs : Regs) (a : Access) (m : Told) where
   abbrev r : Regime
@@ -65,14 +58,14 @@ module _ (regs : Regs) (a : Access) (m : Told) where
     stage_asks = off_with (is_refused1 (config_of regs) a) ok (done (stops (fault_at S1 false Translation 3))) (ask base_one (from_base r true a))
 
     -- the base is too large
-    pub stage_big : (F : Type 0) (s : Result Leaf1 Stop) → 2 ^ (sizes1 (config_of regs) (side_of a.va)).output ≤ base_one_of regs (side_of a.va) → s ≡ Err (Fault (fault_at S1 false AddressSize 3)) → Walked reads m F (stage_on r true a) [] mid s
+    pub stage_big : (F : Type 0) (s : Result Leaf1 Stop) → nat_le (2 ^ (sizes1 (config_of regs) (side_of a.va)).output) (base_one_of regs (side_of a.va)) ≡ true → s ≡ Err (Fault (fault_at S1 false AddressSize 3)) → Walked reads m F (stage_on r true a) [] mid s
     stage_big F s h e =
-        walked_ends reads m F _ base_one _ first_item (stops (fault_at S1 false AddressSize 3)) [] mid s stage_asks kept refl (on_with _ (le_yes _ _ h) _ _) e
+        walked_ends reads m F _ base_one _ first_item (stops (fault_at S1 false AddressSize 3)) [] mid s stage_asks kept refl (on_with _ h _ _) e
 
     -- the walk goes on from the base
-    pub stage_goes : (F : Type 0) (new : List Item) (s : Result Leaf1 Stop) → base_one_of regs (side_of a.va) < 2 ^ (sizes1 (config_of regs) (side_of a.va)).output → Walked (ReadWord 0 m) m F (first_part r true a (low a.va) (sizes1 (config_of regs) (side_of a.va)).start record { table = base_one_of regs (side_of a.va); bits = no_bits }) mid new s → Walked reads m F (stage_on r true a) [] new s
+    pub stage_goes : (F : Type 0) (new : List Item) (s : Result Leaf1 Stop) → nat_le (2 ^ (sizes1 (config_of regs) (side_of a.va)).output) (base_one_of regs (side_of a.va)) ≡ false → Walked (ReadWord 0 m) m F (first_part r true a (low a.va) (sizes1 (config_of regs) (side_of a.va)).start record { table = base_one_of regs (side_of a.va); bits = no_bits }) mid new s → Walked reads m F (stage_on r true a) [] new s
     stage_goes F new s h w =
-        walked_goes reads m F F _ base_one _ first_item _ [] mid new s stage_asks kept refl (off_with _ (le_no _ _ h) _ _) (λ f. f) (walked_weaker (ReadWord 0 m) reads m F word_now _ mid new s w)
+        walked_goes reads m F F _ base_one _ first_item _ [] mid new s stage_asks kept refl (off_with _ h _ _) (λ f. f) (walked_weaker (ReadWord 0 m) reads m F word_now _ mid new s w)
 
   module _ (on : (config_of regs).m ≡ true) (alone : (config_of regs).vm ≡ false) where
     ends_in : (l : Leaf1) → output r true a (reaches l) ≡ done (reaches (landed l))

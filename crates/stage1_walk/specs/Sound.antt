@@ -1,5 +1,5 @@
 -- Sizes that a walk may be done under.
-use Rattle.std.specs.Prelude.{ℕ, ◌<◌, ◌≤◌, ◌^◌, ◌%◌, ◌≡◌}
+use Rattle.std.specs.Prelude.{◌<◌, ◌≤◌}
 use Rattle.geometry.specs.Tables.{IsGranule, class_of}
 use Rattle.walk_spec.specs.declared.leaf.Sizes.{Sizes}
 

@@ -1,4 +1,4 @@
-ghost use Rattle.std.specs.Prelude.{◌≡◌, ◌≤◌, ◌<◌, ◌+◌, ◌-◌, ◌*◌, ◌/◌, ◌%◌, ◌^◌, ◌==◌, [], ◌∷◌, ◌++◌, length, true, false, IsFalse, IsTrue, if◌then◌else◌, pos, ◌≤ℤ◌, IfErr};
+ghost use Rattle.std.specs.Prelude.{◌≡◌, ◌≤◌, ◌<◌, ◌+◌, ◌-◌, ◌*◌, ◌/◌, ◌%◌, ◌^◌, ◌==◌, [], ◌∷◌, ◌++◌, length, true, false, IsFalse, IsTrue, if◌then◌else◌, nat_le, pos, ◌≤ℤ◌, IfErr};
 ghost use Rattle.bitwords.specs.Causes.{Rose};
 ghost use Rattle.bitwords.specs.Fields.{bits_of, bit};
 ghost use Rattle.geometry.specs.Tables.{is_txsz, left_below, level_of};
@@ -119,6 +119,14 @@ fn base_one(regs: &Regs, side: Side, sizes: &Sizes) -> u64
     aligned(sizes, base1(regs, side))
 }
 
+/// Whether a base does not fit the output size.
+fn too_large(sizes: &Sizes, base: u64) -> bool
+    requires { AreSound sizes.now }
+    ensures { result ≡ nat_le (2 ^ sizes.now.output) base }
+{
+    base >= power(sizes.output)
+}
+
 /// Appends the item of a base, with moment 0.
 fn keep_base(sizes: &Sizes, base: u64, trail: &mut Trail)
     requires sound { AreSound sizes.now }
@@ -217,7 +225,7 @@ fn stage1<S: Supply>(
     let sizes = sizes1(&config, side);
     let base = base_one(regs, side, &sizes);
     keep_base(&sizes, base, trail);
-    if base >= power(sizes.output) {
+    if too_large(&sizes, base) {
         return Err(Stop::Fault {
             fault: fault(Class::AddressSize, 3),
         });
@@ -243,12 +251,14 @@ fn outcome(answer: Result<Leaf1, Stop>) -> Outcome
             }
         }
         Err(Stop::Fault { fault }) => Outcome::Faulted { fault },
-        Err(Stop::Absent {
-            stage,
-            level,
-            pa,
-            s1ptw,
-        }) => Outcome::Absent {
+        Err(
+            Stop::Absent {
+                stage,
+                level,
+                pa,
+                s1ptw,
+            },
+        ) => Outcome::Absent {
             stage,
             level,
             pa,

@@ -8,3 +8,6 @@ mod walk;
 
 pub use alone::translate1;
 pub use walk::{From1, walk1};
+
+#[cfg(test)]
+mod tests;

@@ -146,12 +146,27 @@ fn uxn(own: Bits1, bits: TableBits) -> bool
 }
 
 /// A leaf that stage 1 permits the access, or a permission fault.
-fn judge(config: &Config, side: Side, sizes: &Sizes, access: &Access, left: u32, uxn: bool, leaf: Leaf1) -> Step
+fn judge(
+    config: &Config,
+    side: Side,
+    sizes: &Sizes,
+    access: &Access,
+    left: u32,
+    uxn: bool,
+    leaf: Leaf1,
+) -> Step
     requires { left ≤ 3 }
     ensures value { seen_step result ≡ judged1 (regime_with config.now side sizes.now) true access.now left uxn leaf }
     ensures sound { IsSoundStep left result }
 {
-    if allows1(leaf.perms, uxn, access.el, access.kind, access.pan, config.epan) {
+    if allows1(
+        leaf.perms,
+        uxn,
+        access.el,
+        access.kind,
+        access.pan,
+        config.epan,
+    ) {
         Step::Reached { leaf }
     } else {
         Step::Stopped {
@@ -221,7 +236,15 @@ pub(crate) fn step_by<const G: u32>(
                 contiguous,
             };
             let leaf = leaf::<G>(config, side, sizes, entry, bits, &word);
-            judge(config, side, sizes, access, entry.left, uxn(own, bits), leaf)
+            judge(
+                config,
+                side,
+                sizes,
+                access,
+                entry.left,
+                uxn(own, bits),
+                leaf,
+            )
         }
     }
 }

@@ -1,9 +1,7 @@
 -- What is due comes, and what comes was due.
 use Rattle.std.proofs.Common.{◌≡◌, ◌≢◌, ◌⊎◌, ℕ, ◌≤◌, List, Option, Some, None, Result, Ok, Err, inl, inr, refl, sym, ap, ◌∙◌, subst, arith}
-use Rattle.sysregs.specs.declared.regs.Reg.{Reg}
 use Rattle.sysregs.specs.declared.regs.Reg.TheVariants.{TcrEl1}
 use Rattle.sysregs.specs.declared.regs.Field.{Field}
-use Rattle.sysregs.specs.declared.regs.Unsupported.{Unsupported}
 use Rattle.sysregs.specs.Refused.{refused_field}
 use Rattle.bitwords.specs.Causes.{Rose}
 use Rattle.trails.specs.declared.item.Item.{Item}
@@ -12,9 +10,9 @@ use Rattle.walk_spec.specs.Walked.{IsFresh}
 use Rattle.vmsa.specs.Held.{Holding, Untold, Absent, Bytes}
 use Rattle.vmsa.specs.Written.{Appended}
 use Rattle.vmsa.specs.ImageSupply.{told_of}
-use Rattle.vmsa.specs.Raw.{raw_regs, raw_access, raw_text}
+use Rattle.vmsa.specs.Raw.{raw_regs, raw_access}
 use Rattle.vmsa.specs.Words.{RawWords}
-use Rattle.vmsa.specs.Answers.{Outside, Sinks, IsAccepted, IsRefused, IsMissing, IsWalk, IsWalkThere, IsRefusalOf, IsRefusalOfNone, IsDue, Tells, WriteFails, answer_text, Comes, UsageWhere, RefusedWhere, NoFileWhere, ReadFaultWhere, WriteFaultWhere, DoneText, DoneWhere}
+use Rattle.vmsa.specs.Answers.{Outside, Sinks, IsAccepted, IsRefused, IsMissing, IsWalk, IsWalkThere, IsDue, Tells, answer_text, Comes, UsageWhere, RefusedWhere, NoFileWhere, ReadFaultWhere, WriteFaultWhere, DoneText, DoneWhere}
 use Rattle.vmsa.specs.declared.call.Answer.{Answer}
 use Rattle.vmsa.specs.declared.status.Why.{Why}
 use Rattle.vmsa.specs.declared.status.Why.TheVariants.{Word}

@@ -1,5 +1,5 @@
 -- What an image says as a supply of words.
-use Rattle.std.specs.Prelude.{ℕ, ◌≡◌, ◌≤◌, ◌<◌, List, Option, Some, None}
+use Rattle.std.specs.Prelude.{ℕ, ◌≡◌, ◌≤◌, ◌<◌, List, Some, None}
 use Rattle.bitwords.specs.Causes.{Rose}
 use Rattle.walk_spec.specs.Walked.{Told}
 use Rattle.vmsa.specs.Held.{Holding, Untold, Absent, Bytes}

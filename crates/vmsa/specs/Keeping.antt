@@ -1,6 +1,5 @@
 -- What reads from an image keep, they keep from one to the next.
-use Rattle.std.proofs.Common.{◌≡◌, ℕ, ◌<◌, ◌≤◌, List, refl, ◌∙◌, arith, inl, inr}
-use Rattle.std.specs.Prelude.{◌⊎◌}
+use Rattle.std.proofs.Common.{ℕ, ◌<◌, ◌≤◌, List, refl, ◌∙◌, arith, inl, inr}
 use Rattle.std.proofs.lemmas.Bool.{cases_lt}
 use Rattle.bitwords.specs.Causes.{Rose}
 use Rattle.walk_spec.proofs.Walks.{rose_weaker}

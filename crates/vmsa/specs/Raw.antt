@@ -1,5 +1,5 @@
 -- What an EL1 read over an image is, and its text.
-use Rattle.std.specs.Prelude.{ℕ, List, [], ◌∷◌, ◌++◌, flat_map, codes, false}
+use Rattle.std.specs.Prelude.{ℕ, List, ◌++◌, flat_map, codes, false}
 use Rattle.sysregs.specs.declared.regs.Regs.{Regs}
 use Rattle.sysregs.specs.Registers.{zero_regs}
 use Rattle.permissions.specs.declared.bits.El.TheVariants.{El1}
@@ -9,7 +9,7 @@ use Rattle.trails.specs.declared.outcome.Access.{Access}
 use Rattle.trails.specs.declared.outcome.Outcome.{Outcome}
 use Rattle.trails.specs.declared.outcome.Outcome.TheVariants.{Mapped, Faulted, Absent, Conflict}
 use Rattle.trails.specs.Texts.{item_text, fault_text, absent_text}
-use Rattle.walk_spec.specs.Fresh.{Memory, fresh_items, fresh_outcome}
+use Rattle.walk_spec.specs.Fresh.{fresh_items, fresh_outcome}
 use Rattle.vmsa.specs.RawText.{raw_access_text, raw_mapped_text}
 use Rattle.vmsa.specs.Image.{image_word}
 

@@ -1,6 +1,6 @@
-use Rattle.std.proofs.Common.{rules, arith, ◌≡◌, ◌+◌, length, Err, refl, ap, ◌∙◌, length-append}
+use Rattle.std.proofs.Common.{rules, arith, ◌≡◌, ◌+◌, length, Err, refl, ap}
 use Rattle.walk_spec.proofs.Walks.{rose_weaker}
-use Rattle.stage1_walk.proofs.Firsts.{part_lacks, part_ends, part_goes}
+use Rattle.stage1_walk.proofs.Firsts.{one_longer, part_lacks, part_ends, part_goes}
 use Rattle.stage1_walk.proofs.walk.+walk_left.Goals as goal
 
 pub returns-in-Err-clause-walked : goal.returns-in-Err-clause-walked
@@ -10,8 +10,7 @@ returns-in-Err-clause-walked g t c =
 
 pub walk_left-requires : goal.walk_left-requires
 walk_left-requires g t c κs within =
-    let e = c.in-Ok.ensures.read.0 in
-    let n : length c.read.new.trail ≡ length c.args.trail.now + 1 = ap length e ∙ length-append _ _ in
+    let n : length c.read.new.trail ≡ length c.args.trail.now + 1 = one_longer _ _ _ c.in-Ok.ensures.read.0 in
     let s = c.in-Down.ensures.sound in
     search rules
 
