@@ -26,6 +26,7 @@ abbrev pub inner_rank : MemType → ℕ
 inner_rank (AsDevice _) = 0
 inner_rank (Normal _ inner _) = cache_rank inner
 
+-- how strong a kind of Device memory is, the strongest first
 abbrev pub device_rank : Device → ℕ
 device_rank NGnRnE = 0
 device_rank NGnRE = 1
@@ -37,6 +38,7 @@ abbrev pub kind_rank : MemType → ℕ
 kind_rank (AsDevice kind) = device_rank kind
 kind_rank (Normal _ _ _) = 4
 
+-- Normal memory that is tagged
 abbrev pub is_tagged : MemType → Bool
 is_tagged (AsDevice _) = false
 is_tagged (Normal _ _ tagged) = tagged
@@ -53,10 +55,12 @@ hints_of Nc = (false, false, false)
 hints_of (Wt t r w) = (t, r, w)
 hints_of (Wb t r w) = (t, r, w)
 
+-- the hints of the outer cacheability: transient, read and write allocation
 abbrev pub outer_hints : MemType → Bool × Bool × Bool
 outer_hints (AsDevice _) = (false, false, false)
 outer_hints (Normal outer _ _) = hints_of outer
 
+-- the same of the inner cacheability
 abbrev pub inner_hints : MemType → Bool × Bool × Bool
 inner_hints (AsDevice _) = (false, false, false)
 inner_hints (Normal _ inner _) = hints_of inner

@@ -72,6 +72,7 @@ weaker (Wb t r w) Nc = Nc
 weaker (Wb t r w) (Wt _ _ _) = Wt t r w
 weaker (Wb t r w) (Wb _ _ _) = Wb t r w
 
+-- a cacheability is write-back
 abbrev pub is_write_back : Cache → Bool
 is_write_back Nc = false
 is_write_back (Wt _ _ _) = false
@@ -101,6 +102,7 @@ raised (AsDevice _) s = Osh
 raised (Normal Nc Nc _) s = Osh
 raised (Normal _ _ _) s = s
 
+-- memory is Device
 abbrev pub is_device : MemType → Bool
 is_device (AsDevice _) = true
 is_device (Normal _ _ _) = false

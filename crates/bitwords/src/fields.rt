@@ -1,4 +1,4 @@
-ghost use Rattle.std.specs.Prelude.{◌≡◌, ◌≤◌, ◌<◌};
+ghost use Rattle.std.specs.Prelude.{◌≡◌, ◌≤◌, ◌<◌, ◌^◌};
 ghost use Rattle.bitwords.specs.Fields.{bits_of, bit, cleared};
 
 /// Bits `HI` to `LO` of a word as a number.
@@ -17,6 +17,14 @@ pub fn flag<const N: u32>(w: u64) -> bool
     ensures { result ≡ bit w N }
 {
     field::<N, N>(w) == 1
+}
+
+/// `2 ^ n`.
+pub fn power(n: u32) -> u64
+    requires { n < 64 }
+    ensures { result ≡ 2 ^ n }
+{
+    1u64 << n
 }
 
 /// The word with its lowest `bits` bits read as 0.

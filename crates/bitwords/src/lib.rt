@@ -5,7 +5,7 @@ mod addr;
 mod fields;
 
 pub use addr::Addr;
-pub use fields::{align_down, field, flag};
+pub use fields::{align_down, field, flag, power};
 
 /// Memory was refused. No contract says when.
 #[derive(Clone, Copy, Debug, PartialEq, Eq)]

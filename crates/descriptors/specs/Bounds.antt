@@ -11,6 +11,7 @@ IsBounded1 left Invalid = Unit {0}
 IsBounded1 left (Table next bits) = (0 < left) × (next < 2 ^ 52) × (next % 8 ≡ 0)
 IsBounded1 left (Leaf out attr_index bits sh af global contiguous) = (out < 2 ^ 52) × (attr_index < 8) × (sh < 4)
 
+-- the same for stage 2
 abbrev pub IsBounded2 : ℕ → Kind2 → Type 0
 IsBounded2 left Invalid2 = Unit {0}
 IsBounded2 left (Table2 next) = (0 < left) × (next < 2 ^ 52) × (next % 8 ≡ 0)

@@ -21,6 +21,7 @@ pub data Shape : Type 0 where
   pointer : Shape
   mapping : Shape
 
+-- the shape that the code tells
 abbrev pub seen_shape : Seen → Shape
 seen_shape Nothing = nothing
 seen_shape Pointer = pointer
@@ -38,6 +39,7 @@ table_bits hpd w = record { no_el0 = bit w 61 && not hpd; read_only = bit w 62 &
 abbrev pub leaf_bits : ℕ → Bits1
 leaf_bits w = record { el0 = bit w 6; read_only = bit w 7; dbm = bit w 51; pxn = bit w 53; uxn = bit w 54 }
 
+-- what a stage 1 word of a shape means: AttrIndx, the permission bits, SH, AF, not nG, Contiguous
 abbrev pub kind1_of : ℕ → Bool → ℕ → ℕ → Shape → Kind1
 kind1_of g hpd left w nothing = Invalid
 kind1_of g hpd left w pointer = Table (address_in g w g) (table_bits hpd w)
@@ -47,6 +49,7 @@ kind1_of g hpd left w mapping = Leaf (address_in g w (class_of g left)) (bits_of
 unfoldable pub means1 : ℕ → Bool → ℕ → ℕ → Kind1
 means1 g hpd left w = kind1_of g hpd left w (shape_of g left w)
 
+-- what a stage 2 word of a shape means: MemAttr, S2AP, XN, SH, AF, DBM, Contiguous
 abbrev pub kind2_of : ℕ → ℕ → ℕ → Shape → Kind2
 kind2_of g left w nothing = Invalid2
 kind2_of g left w pointer = Table2 (address_in g w g)

@@ -18,6 +18,7 @@ code_at Permission l = by_level l 0x0c 0x0c
 code_at External l = by_level l 0x14 0x13
 code_at Conflict l = 0x30
 
+-- the code of a fault
 abbrev pub status_of : Fault → ℕ
 status_of f = code_at f.class f.level
 
@@ -28,5 +29,6 @@ HasLevel AccessFlag (negsuc n) = ⊥
 HasLevel Permission (negsuc n) = ⊥
 HasLevel c (negsuc n) = n ≤ 0
 
+-- the fault has a level that its class has
 abbrev pub HasStatus : Fault → Type 0
 HasStatus f = HasLevel f.class f.level

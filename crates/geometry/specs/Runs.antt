@@ -7,6 +7,7 @@ use Rattle.geometry.specs.Tables.{class_of, row_at}
 abbrev pub run_rows : List (ℕ × ℕ × ℕ)
 run_rows = (12, 2, 34) ∷ (12, 1, 25) ∷ (12, 0, 16) ∷ (14, 1, 30) ∷ (14, 0, 21) ∷ (16, 1, 34) ∷ (16, 0, 21) ∷ []
 
+-- the class of a run at a level, where it has one
 abbrev pub run_of : ℕ → ℕ → Option ℕ
 run_of g left = row_at run_rows g left
 
@@ -14,6 +15,7 @@ run_of g left = row_at run_rows g left
 abbrev pub goes_to : ℕ → ℕ → ℕ → ℕ
 goes_to out class x = out - out % 2 ^ class + x % 2 ^ class
 
+-- the run is no larger than the input range, and the output stands in it as the word at pa stands among its words
 abbrev pub fits_run : Option ℕ → ℕ → ℕ → ℕ → ℕ → Bool
 fits_run None class ia out pa = false
 fits_run (Some run) class ia out pa = nat_le run ia && (out % 2 ^ run == pa / 8 % 2 ^ (run - class) * 2 ^ class)
@@ -23,6 +25,7 @@ fits_run (Some run) class ia out pa = nat_le run ia && (out % 2 ^ run == pa / 8 
 abbrev pub is_counted : ℕ → ℕ → ℕ → ℕ → ℕ → Bool
 is_counted g ia left out pa = fits_run (run_of g left) (class_of g left) ia out pa
 
+-- the class of the run, or of the entry where there is none
 abbrev pub class_in : Option ℕ → ℕ → ℕ
 class_in None class = class
 class_in (Some run) class = run

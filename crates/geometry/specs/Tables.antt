@@ -43,9 +43,11 @@ row_at (row ∷ rows) a b = if row.0 == a && row.1 == b then Some row.2 else row
 abbrev pub start_rows2 : List (ℕ × ℕ × ℕ)
 start_rows2 = (12, 0, 1) ∷ (12, 1, 2) ∷ (12, 2, 3) ∷ (12, 3, 0) ∷ (14, 0, 0) ∷ (14, 1, 1) ∷ (14, 2, 2) ∷ (16, 0, 0) ∷ (16, 1, 1) ∷ (16, 2, 2) ∷ []
 
+-- stage 2: the levels left at the start
 abbrev pub start_left2 : ℕ → ℕ → Option ℕ
 start_left2 g sl0 = row_at start_rows2 g sl0
 
+-- stage 2: the start level
 abbrev pub start_level2 : ℕ → ℕ → Option ℤ
 start_level2 g sl0 = option_map level_of (start_left2 g sl0)
 
@@ -58,6 +60,7 @@ abbrev pub left_below : ℤ → ℕ
 left_below (pos n) = 3 - n
 left_below (negsuc n) = 4 + n
 
+-- the same, by the level
 abbrev pub is_suited_at : ℕ → ℤ → ℕ → Bool
 is_suited_at g level ia = is_suited2 g (left_below level) ia
 

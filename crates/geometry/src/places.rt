@@ -5,13 +5,7 @@ ghost use Rattle.geometry.specs.Runs.{run_of, goes_to, is_counted, leaf_class};
 use crate::case_table;
 use crate::levels::{entry_class, index};
 use crate::runs::run_class;
-
-fn power(n: u32) -> u64
-    requires { n < 64 }
-    ensures { result ≡ 2 ^ n }
-{
-    1u64 << n
-}
+use bitwords::power;
 
 /// The class of an entry with so many levels left.
 pub fn class_at<const G: u32>(left: u32) -> u32

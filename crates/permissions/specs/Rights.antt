@@ -19,6 +19,7 @@ pub record Rights : Type 0 where
   pub w1 : Bool
   pub x1 : Bool
 
+-- a right as a bit
 abbrev pub weight : Bool → ℕ
 weight b = if b then 1 else 0
 
@@ -34,6 +35,7 @@ set_bits p = p.0
 unfoldable pub has : Perms → ℕ → Bool
 has p place = bit p.0 place
 
+-- what a stage that is off gives
 abbrev pub all_rights : Rights
 all_rights = record { r0 = true; w0 = true; x0 = true; r1 = true; w1 = true; x1 = true }
 

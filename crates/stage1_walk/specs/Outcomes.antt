@@ -8,6 +8,7 @@ use Rattle.walk_spec.specs.declared.leaf.Leaf1.{Leaf1}
 use Rattle.walk_spec.specs.Second.{reaches}
 use Rattle.walk_spec.specs.Whole.{landed, outcome_of}
 
+-- how an access comes out by an answer of stage 1
 abbrev pub outcome_by : Result Leaf1 Stop → Outcome
 outcome_by (Ok l) = outcome_of (reaches (landed l))
 outcome_by (Err (Fault f)) = Faulted f

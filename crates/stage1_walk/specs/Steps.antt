@@ -7,6 +7,7 @@ use Rattle.walk_spec.specs.First.{Down as ADown}
 use Rattle.stage1_walk.specs.declared.step.Step.{Step}
 use Rattle.stage1_walk.specs.declared.step.Step.TheVariants.{Down, Reached, Stopped}
 
+-- the step that the code tells
 abbrev pub seen_step : Step → AStep Leaf1 ADown
 seen_step (Down table bits) = goes_down record { table = table; bits = bits }
 seen_step (Reached l) = ends_by (reaches l)

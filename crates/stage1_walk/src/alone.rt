@@ -1,7 +1,7 @@
 ghost use Rattle.std.specs.Prelude.{◌≡◌, ◌≤◌, ◌<◌, ◌+◌, ◌-◌, ◌*◌, ◌/◌, ◌%◌, ◌^◌, ◌==◌, [], ◌∷◌, ◌++◌, length, true, false, IsFalse, IsTrue, if◌then◌else◌, nat_le, pos, ◌≤ℤ◌, IfErr};
 ghost use Rattle.bitwords.specs.Causes.{Rose};
 ghost use Rattle.bitwords.specs.Fields.{bits_of, bit};
-ghost use Rattle.geometry.specs.Tables.{is_txsz, left_below, level_of};
+ghost use Rattle.geometry.specs.Tables.{is_txsz, left_below, level_of, start_level1};
 ghost use Rattle.sysregs.specs.Registers.{InRange, exponent, config_of};
 ghost use Rattle.sysregs.specs.Sides.{side_of, tg_of, txsz_of};
 ghost use Rattle.permissions.specs.Rights.{no_bits};
@@ -14,26 +14,31 @@ ghost use Rattle.walk_spec.specs.Walked.{Walked, ReadWord, ReadNow, WalkedWhole,
 ghost use Rattle.stage1_walk.specs.Sound.{AreSound};
 ghost use Rattle.stage1_walk.specs.Outcomes.{outcome_by};
 
-use crate::sizes::{power, sizes1};
+use crate::sizes::sizes1;
 use crate::step::{fault, level};
 use crate::walk::{From1, walk1};
 use attributes::types::alone;
-use bitwords::{align_down, flag};
+use bitwords::{align_down, flag, power};
 use fault_codes::{Class, Stage};
+use geometry::{case_table, start_level1};
 use permissions::{El, Kind, TableBits};
 use sysregs::fields::{base1, config};
 use sysregs::{Config, Regs, Side, Tg};
 use trails::{Access, Item, Outcome, Stop, Trail, What};
 use walk_spec::{Leaf1, Sizes, Supply};
 
+/// The start level for a TxSZ, or None where it is out of its range.
+fn start_level(tg: Tg, txsz: u32) -> Option<i8>
+    ensures { result ≡ start_level1 (exponent tg) txsz }
+{
+    case_table!(granule tg; start_level1(txsz))
+}
+
 /// Whether TxSZ is in its range.
 fn sized(tg: Tg, txsz: u32) -> bool
     ensures { result ≡ is_txsz (exponent tg) txsz }
 {
-    match tg {
-        Tg::K64 => 12 <= txsz && txsz <= 47,
-        Tg::K4 | Tg::K16 => 16 <= txsz && txsz <= 48,
-    }
+    start_level(tg, txsz).is_some()
 }
 
 fn fetches(kind: Kind) -> bool

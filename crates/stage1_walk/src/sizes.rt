@@ -1,4 +1,4 @@
-ghost use Rattle.std.specs.Prelude.{◌≡◌, ◌<◌, ◌^◌, IsTrue};
+ghost use Rattle.std.specs.Prelude.{◌≡◌, IsTrue};
 ghost use Rattle.geometry.specs.Tables.{is_txsz};
 ghost use Rattle.sysregs.specs.Registers.{InRange, exponent};
 ghost use Rattle.sysregs.specs.Sides.{txsz_of, tg_of};
@@ -8,13 +8,6 @@ ghost use Rattle.stage1_walk.specs.Sound.{AreSound};
 use sysregs::fields::output_size;
 use sysregs::{Config, Side};
 use walk_spec::Sizes;
-
-pub(crate) fn power(n: u32) -> u64
-    requires { n < 64 }
-    ensures { result ≡ 2 ^ n }
-{
-    1u64 << n
-}
 
 /// The numbers of stage 1 for a side whose TxSZ is in range.
 #[tactic(auto, unfolding(walk_spec::specs::Needs::sizes1))]

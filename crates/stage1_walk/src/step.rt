@@ -15,8 +15,8 @@ ghost use Rattle.walk_spec.specs.First.{leaf1_of, judged1, step1};
 ghost use Rattle.stage1_walk.specs.Steps.{seen_step, IsSoundStep};
 ghost use Rattle.stage1_walk.specs.Sound.{AreSound};
 
-use crate::sizes::power;
 use attributes::types::{mair, share};
+use bitwords::power;
 use descriptors::{Kind1, decode1};
 use fault_codes::{Class, Fault, Stage};
 use geometry::{case_table, goes_to, leaf_class};

@@ -17,6 +17,7 @@ refused_bits HcrEl2 = (12, Dc) ∷ (27, Tge) ∷ (32, Cd) ∷ (33, Id) ∷ (46, 
 refused_bits VtcrEl2 = (32, Ds) ∷ []
 refused_bits VttbrEl2 = []
 
+-- the first of a list of bits that is set
 abbrev pub first_set : List (ℕ × Field) → ℕ → Option Field
 first_set [] w = None
 first_set (x ∷ xs) w = if bit w x.0 then Some x.1 else first_set xs w

@@ -116,9 +116,11 @@ output_size g code = if g == 16 then size_named code else min (size_named code) 
 abbrev pub base_in : ℕ → ℕ → ℕ → ℕ
 base_in g code w = if g == 16 && nat_le 6 code then bits_of w 5 2 * 2 ^ 48 + bits_of w 47 6 * 2 ^ 6 else bits_of w 47 1 * 2
 
+-- the base of stage 1 for a side: TTBR0_EL1 or TTBR1_EL1
 abbrev pub base1_of : Regs → Side → ℕ
 base1_of r Low = base_in (exponent (config_of r).tg0) (config_of r).ips r.ttbr0_el1
 base1_of r High = base_in (exponent (config_of r).tg1) (config_of r).ips r.ttbr1_el1
 
+-- the base of stage 2: VTTBR_EL2
 abbrev pub base2_of : Regs → ℕ
 base2_of r = base_in (exponent (config_of r).tg2) (config_of r).ps r.vttbr_el2

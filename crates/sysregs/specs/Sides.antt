@@ -10,27 +10,35 @@ use Rattle.sysregs.specs.declared.regs.Tg.{Tg}
 abbrev pub side_of : ℕ → Side
 side_of va = if bit va 55 then High else Low
 
+-- the one of two values that is of the side
 abbrev pub by_side : {A : Type 0} → Side → A → A → A
 by_side Low low high = low
 by_side High low high = high
 
+-- T0SZ or T1SZ
 abbrev pub txsz_of : Config → Side → ℕ
 txsz_of c s = by_side s c.t0sz c.t1sz
 
+-- TG0 or TG1
 abbrev pub tg_of : Config → Side → Tg
 tg_of c s = by_side s c.tg0 c.tg1
 
+-- EPD0 or EPD1
 abbrev pub epd_of : Config → Side → Bool
 epd_of c s = by_side s c.epd0 c.epd1
 
+-- TBI0 or TBI1
 abbrev pub tbi_of : Config → Side → Bool
 tbi_of c s = by_side s c.tbi0 c.tbi1
 
+-- TBID0 or TBID1
 abbrev pub tbid_of : Config → Side → Bool
 tbid_of c s = by_side s c.tbid0 c.tbid1
 
+-- E0PD0 or E0PD1
 abbrev pub e0pd_of : Config → Side → Bool
 e0pd_of c s = by_side s c.e0pd0 c.e0pd1
 
+-- HPD0 or HPD1
 abbrev pub hpd_of : Config → Side → Bool
 hpd_of c s = by_side s c.hpd0 c.hpd1

@@ -28,10 +28,12 @@ abbrev pub level_text : ℤ → List ℕ
 level_text (pos n) = decimal n
 level_text (negsuc n) = codes "-" ++ decimal (n + 1)
 
+-- the number of a stage
 abbrev pub stage_digit : Stage → List ℕ
 stage_digit S1 = codes "1"
 stage_digit S2 = codes "2"
 
+-- the word of a class
 abbrev pub class_text : Class → List ℕ
 class_text Translation = codes "translation"
 class_text AddressSize = codes "address-size"
@@ -40,6 +42,7 @@ class_text Permission = codes "permission"
 class_text External = codes "external"
 class_text Conflict = codes "conflict"
 
+-- the line of a base or a word
 abbrev pub item_text_by : What → Item → List ℕ
 item_text_by Base i = joined_text (codes "s" ∷ stage_digit i.stage ∷ codes " base level " ∷ level_text i.level ∷ codes " at " ∷ hex_text i.pa ∷ codes "\n" ∷ [])
 item_text_by Word i = joined_text (codes "s" ∷ stage_digit i.stage ∷ codes " word level " ∷ level_text i.level ∷ codes " at " ∷ hex_text i.pa ∷ codes " value " ∷ hex_text i.value ∷ codes "\n" ∷ [])
@@ -48,6 +51,7 @@ item_text_by Word i = joined_text (codes "s" ∷ stage_digit i.stage ∷ codes "
 abbrev pub item_text : Item → List ℕ
 item_text i = item_text_by i.what i
 
+-- the mark of a stage 2 fault for a stage 1 descriptor
 abbrev pub mark_text : Bool → List ℕ
 mark_text s1ptw = if s1ptw then codes " s1ptw" else []
 

@@ -19,3 +19,6 @@ pub struct Item {
     pub level: i8,
     pub what: What,
 }
+
+// A trail holds up to 42 items, and a log two trails a step: an item takes no more than its fields.
+const _: () = prove!(std::mem::size_of::<Item>() == 24);

@@ -88,6 +88,7 @@ IsDue o None (Err status) = IsRefusalOfNone status
 IsDue o (Some a) (Ok answer) = IsAccepted a × IsWalk (o.holds a.image) a answer
 IsDue o (Some a) (Err status) = IsRefusalOf o a status
 
+-- the text of an answer
 abbrev pub answer_text : Answer → List ℕ
 answer_text answer = raw_text answer.va answer.trail answer.outcome
 
@@ -106,6 +107,7 @@ abbrev pub IsWhole : Sinks → Result Answer Status → Status → Type 0
 IsWhole s (Ok answer) status = (status ≡ Done) × Appended s.out s.out_now (answer_text answer) × (s.err_now ≡ s.err)
 IsWhole s (Err due) status = (status ≡ due) × Appended s.err s.err_now (err_text due) × (s.out_now ≡ s.out)
 
+-- what is due was told, or a write failed
 abbrev pub Tells : Sinks → Result Answer Status → Status → Type 0
 Tells s due status = IsWhole s due status ⊎ ((status ≡ WriteFault) × WriteFails s due)
 

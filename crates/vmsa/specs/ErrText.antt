@@ -34,6 +34,7 @@ reg_text HcrEl2 = codes "HCR_EL2"
 reg_text VtcrEl2 = codes "VTCR_EL2"
 reg_text VttbrEl2 = codes "VTTBR_EL2"
 
+-- a field's name in capitals
 abbrev pub field_text : Field → List ℕ
 field_text Ee = codes "EE"
 field_text Dc = codes "DC"
@@ -49,6 +50,7 @@ field_text Hd = codes "HD"
 abbrev pub unsupported_text : Unsupported → List ℕ
 unsupported_text at = joined_text (codes "vmsa: raw: unsupported " ∷ reg_text at.reg ∷ codes "." ∷ field_text at.field ∷ codes "\n" ∷ [])
 
+-- the line of a refusal
 abbrev pub why_text : Why → List ℕ
 why_text (Word at) = unsupported_text at
 

@@ -3,6 +3,7 @@ use Rattle.std.specs.Prelude.{ℕ, ◌^◌, List, [], ◌∷◌, length, drop, t
 use Rattle.std.specs.Char.{digit_value}
 use Rattle.std.specs.Str.Parse.{digits_value}
 
+-- all are digits of the radix
 abbrev pub all_digits : ℕ → List ℕ → Bool
 all_digits radix [] = true
 all_digits radix (c ∷ cs) = nat_lt (digit_value c) radix && all_digits radix cs

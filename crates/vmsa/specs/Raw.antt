@@ -17,6 +17,7 @@ use Rattle.vmsa.specs.Image.{image_word}
 abbrev pub raw_regs : ℕ → ℕ → Regs
 raw_regs tcr ttbr0 = record zero_regs { sctlr_el1 = 1; tcr_el1 = tcr; ttbr0_el1 = ttbr0 }
 
+-- a read at EL1 without PAN
 abbrev pub raw_access : ℕ → Access
 raw_access va = record { va = va; el = El1; kind = Read; pan = false }
 

@@ -11,6 +11,7 @@ pub record RawWords : Type 0 where
   pub ttbr0 : ℕ
   pub va : ℕ
 
+-- the words that the code tells
 abbrev pub raw_words_of : RawArgs → RawWords
 raw_words_of args = record { image = args.image.now; tcr = args.tcr; ttbr0 = args.ttbr0; va = args.va }
 
@@ -18,6 +19,7 @@ raw_words_of args = record { image = args.image.now; tcr = args.tcr; ttbr0 = arg
 abbrev pub is_plain : List ℕ → Bool
 is_plain word = nat_lt 0 (length word) && not (slice_index word 0 == 0x2d)
 
+-- all three numbers are needed
 abbrev pub raw_with : List ℕ → Option ℕ → Option ℕ → Option ℕ → Option RawWords
 raw_with image (Some tcr) (Some ttbr0) (Some va) = Some (record { image = image; tcr = tcr; ttbr0 = ttbr0; va = va })
 raw_with image _ _ _ = None
@@ -27,6 +29,7 @@ abbrev pub raw_of : List (List ℕ) → Option RawWords
 raw_of (image ∷ tcr ∷ ttbr0 ∷ va ∷ []) = raw_with image (number_of tcr) (number_of ttbr0) (number_of va)
 raw_of _ = None
 
+-- the first word names the command
 abbrev pub named : List (List ℕ) → Option RawWords
 named [] = None
 named (name ∷ rest) = if bytes_eq name (codes "raw") then raw_of rest else None

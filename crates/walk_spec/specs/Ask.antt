@@ -27,6 +27,7 @@ pub data Stands (N I A : Type 0) : Type 0 where
   bad : Stands N I A
   ends : A → List I → Stands N I A
 
+-- an item is taken where it fits
 abbrev pub on : {N I A : Type 0} → (N → I → Bool) → Ask N I A → List I → Stands N I A
 on fits (done a) items = ends a items
 on fits (ask n k) [] = needs n
@@ -37,6 +38,7 @@ pub data Fed (N A : Type 0) : Type 0 where
   ended : A → Fed N A
   lacks : N → Fed N A
 
+-- goes on by an answer, where there is one
 abbrev pub with_answer : {I B : Type 0} → Option I → B → (I → B) → B
 with_answer None otherwise then = otherwise
 with_answer (Some i) otherwise then = then i
@@ -46,6 +48,7 @@ abbrev pub fed_items : {N I A : Type 0} → (N → Option I) → Ask N I A → L
 fed_items give (done a) = []
 fed_items give (ask n k) = with_answer (give n) [] (λ i. i ∷ fed_items give (k i))
 
+-- how a fed walk ends
 abbrev pub fed_end : {N I A : Type 0} → (N → Option I) → Ask N I A → Fed N A
 fed_end give (done a) = ended a
 fed_end give (ask n k) = with_answer (give n) (lacks n) (λ i. fed_end give (k i))

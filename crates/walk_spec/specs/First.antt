@@ -81,6 +81,7 @@ read_one n pa = ask (word record { stage = S1; left = n.left; place = pa; s1ptw 
 abbrev pub is_readable : Config → Leaf2 → Bool
 is_readable c l = is_allowed2 l.perms El1 Read && not (c.ptw && is_device l.mem)
 
+-- what stage 2 found at the place decides whether the word is read
 abbrev pub word_by : Config → Place → End Leaf2 → Ask Need Item (Result Item Fault)
 word_by c n (stops f) = done (Err f)
 word_by c n (reaches l) = if is_readable c l then read_one n l.pa else done (Err record { stage = S2; level = l.level; class = Permission; s1ptw = true })

@@ -24,6 +24,7 @@ aligned_base n base = let size = table_size n.granule n.input n.start in base / 
 abbrev pub base_one_of : Regs → Side → ℕ
 base_one_of regs s = aligned_base (sizes1 (config_of regs) s) (base1_of regs s)
 
+-- the base of stage 2
 abbrev pub base_two_of : Regs → ℕ
 base_two_of regs = aligned_base (sizes2 (config_of regs)) (base2_of regs)
 
@@ -48,5 +49,6 @@ fed_outcome (lacks (base_two _)) = Conflict
 abbrev pub fresh_items : Memory → Regs → Access → ℕ → List Item
 fresh_items m regs a now = fed_items (given regs (side_of a.va) m now) (walk (config_of regs) true a)
 
+-- the outcome of the fresh walk
 abbrev pub fresh_outcome : Memory → Regs → Access → ℕ → Outcome
 fresh_outcome m regs a now = fed_outcome (fed_end (given regs (side_of a.va) m now) (walk (config_of regs) true a))

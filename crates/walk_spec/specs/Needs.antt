@@ -35,9 +35,11 @@ pub record Regime : Type 0 where
   pub one : Sizes
   pub two : Sizes
 
+-- the regime of a side whose numbers are known
 abbrev pub regime_with : Config → Side → Sizes → Regime
 regime_with c s one = record { config = c; side = s; one = one; two = sizes2 c }
 
+-- the regime of a side
 abbrev pub regime_of : Config → Side → Regime
 regime_of c s = regime_with c s (sizes1 c s)
 
@@ -57,30 +59,36 @@ pub data Need : Type 0 where
   base_two : ℕ → Need
   word : WordNeed → Need
 
+-- the numbers of a stage
 abbrev pub sizes_for : Regime → Stage → Sizes
 sizes_for r S1 = r.one
 sizes_for r S2 = r.two
 
+-- two stages are the same
 abbrev pub is_stage : Stage → Stage → Bool
 is_stage S1 S1 = true
 is_stage S1 S2 = false
 is_stage S2 S1 = false
 is_stage S2 S2 = true
 
+-- a word
 abbrev pub is_word : What → Bool
 is_word Base = false
 is_word Word = true
 
+-- a base
 abbrev pub is_base : What → Bool
 is_base Base = true
 is_base Word = false
 
+-- two levels are the same
 abbrev pub is_level : ℤ → ℤ → Bool
 is_level (pos m) (pos n) = m == n
 is_level (pos m) (negsuc n) = false
 is_level (negsuc m) (pos n) = false
 is_level (negsuc m) (negsuc n) = m == n
 
+-- a block or a page
 abbrev pub is_leaf : Shape → Bool
 is_leaf nothing = false
 is_leaf pointer = false
@@ -111,8 +119,10 @@ fits r (word w) i = fits_word (sizes_for r w.stage) w i
 abbrev pub base_item : ℕ → Stage → Sizes → ℕ → Item
 base_item now s n base = record { stage = s; level = level_of n.start; what = Base; pa = base; value = base; moment = now }
 
+-- the item of a word of a stage with so many levels left, read at a moment
 abbrev pub read_item : ℕ → Stage → ℕ → ℕ → ℕ → Item
 read_item now s left place value = record { stage = s; level = level_of left; what = Word; pa = place; value = value; moment = now }
 
+-- the item of a word that is needed
 abbrev pub word_item : ℕ → WordNeed → ℕ → Item
 word_item now w value = read_item now w.stage w.left w.place value

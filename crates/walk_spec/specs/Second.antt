@@ -30,6 +30,7 @@ pub data Step (L D : Type 0) : Type 0 where
   ends_by : End L → Step L D
   goes_down : D → Step L D
 
+-- an end, or the walk below
 abbrev pub end_or : {N L D : Type 0} → (D → Ask N Item (End L)) → Step L D → Ask N Item (End L)
 end_or below (ends_by e) = done e
 end_or below (goes_down next) = below next
@@ -76,6 +77,7 @@ abbrev pub chain_from : Regime → Bool → ℕ → ℕ → ℕ → Ask Need Ite
 chain_from r p x zero table = after (level2 r p x 0 table) (end_or (λ _. done (stops (fault_at S2 p Translation 0))))
 chain_from r p x (suc left) table = after (level2 r p x (suc left) table) (end_or (chain_from r p x left))
 
+-- SL0 is valid, and the input size suits it
 abbrev pub is_suited_start : ℕ → Option ℕ → ℕ → Bool
 is_suited_start g None ia = false
 is_suited_start g (Some left) ia = is_suited2 g left ia

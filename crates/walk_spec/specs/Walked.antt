@@ -97,6 +97,7 @@ IsToldStop (Fault f) = HasStatus f
 IsToldStop (Absent s level pa s1ptw) = Unit {0}
 IsToldStop Conflict = ⊥
 
+-- the same of an outcome
 abbrev pub IsToldOutcome : Outcome → Type 0
 IsToldOutcome (Mapped pa perms mem sh) = Unit {0}
 IsToldOutcome (Faulted f) = HasStatus f

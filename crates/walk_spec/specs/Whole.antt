@@ -41,6 +41,7 @@ pub record Landing : Type 0 where
 abbrev pub landed : Leaf1 → Landing
 landed l = let t = alone l.mem l.sh in record { class = l.class; pa = l.out; perms = l.perms; mem = t.0; sh = t.1 }
 
+-- the smaller of two classes
 abbrev pub smaller : ℕ → ℕ → ℕ
 smaller a b = if nat_le a b then a else b
 
@@ -58,11 +59,13 @@ abbrev pub output : Regime → Bool → Access → End Leaf1 → Ask Need Item (
 output r j a (stops f) = done (stops f)
 output r j a (reaches l) = if r.config.vm then after (chain r false l.out) (λ e. done (judged2 j a l e)) else done (reaches (landed l))
 
+-- an instruction fetch
 abbrev pub is_fetch : Kind → Bool
 is_fetch Read = false
 is_fetch Write = false
 is_fetch Fetch = true
 
+-- an access of EL0
 abbrev pub is_el0 : El → Bool
 is_el0 El0 = true
 is_el0 El1 = false
@@ -86,6 +89,7 @@ is_refused1 c a =
 abbrev pub low : ℕ → ℕ
 low va = va % 2 ^ 56
 
+-- the walk behind the base
 abbrev pub from_base : Regime → Bool → Access → Item → Ask Need Item (End Leaf1)
 from_base r j a i =
     if nat_le (2 ^ r.one.output) i.value then done (stops (fault_at S1 false AddressSize first_left))
@@ -99,6 +103,7 @@ stage_on r j a = if is_refused1 r.config a then done (stops (fault_at S1 false T
 abbrev pub off_leaf : Config → Access → Leaf1
 off_leaf c a = record { level = pos 0; class = 52; out = a.va % 2 ^ 52; perms = perms_of all_rights; mem = off_type (is_fetch a.kind) c.i; sh = Osh; global = true }
 
+-- with stage 1 off: an address of more than 52 bits
 abbrev pub is_refused_off : Config → Access → Bool
 is_refused_off c a = not (bits_of a.va (top_bit c a) 52 == 0)
 
@@ -106,6 +111,7 @@ is_refused_off c a = not (bits_of a.va (top_bit c a) 52 == 0)
 abbrev pub stage_off : Regime → Access → Ask Need Item (End Leaf1)
 stage_off r a = done (if is_refused_off r.config a then stops (fault_at S1 false AddressSize first_left) else reaches (off_leaf r.config a))
 
+-- stage 1, on or off
 abbrev pub stage_one : Regime → Bool → Access → Ask Need Item (End Leaf1)
 stage_one r j a = if r.config.m then stage_on r j a else stage_off r a
 
@@ -113,6 +119,7 @@ stage_one r j a = if r.config.m then stage_on r j a else stage_off r a
 abbrev pub walk_by : Regime → Bool → Access → Ask Need Item (End Landing)
 walk_by r j a = after (stage_one r j a) (output r j a)
 
+-- the same by the register fields alone
 abbrev pub walk : Config → Bool → Access → Ask Need Item (End Landing)
 walk c j a = walk_by (regime_of c (side_of a.va)) j a
 
