@@ -6,8 +6,15 @@ use Rattle.std.proofs.lemmas.Nat.{mod_below, pow_pos, pow-add, shl_below}
 use Rattle.std.proofs.Math.Nat.{mul-mod_right}
 use Rattle.bitwords.specs.Fields.{bits_of, bit}
 use Rattle.geometry.specs.Tables.{IsGranule, class_of, has_block}
-use Rattle.descriptors.specs.Meaning.{Shape, nothing, pointer, mapping, shape_of, address_in, kind1_of, kind2_of, means1, means2}
+use Rattle.sysregs.specs.declared.regs.Config.{Config}
+use Rattle.sysregs.specs.declared.regs.Side.{Side}
+use Rattle.sysregs.specs.Registers.{granule_of}
+use Rattle.sysregs.specs.Sides.{tg_of, hpd_of}
+use Rattle.descriptors.specs.declared.words.Shape.{Shape}
+use Rattle.descriptors.specs.declared.words.Shape.TheVariants.{Nothing, Pointer, Mapping}
+use Rattle.descriptors.specs.Meaning.{shape_of, address_in, kind1_of, kind2_of, means1_of, means2_of}
 use Rattle.descriptors.specs.Bounds.{IsBounded1, IsBounded2}
+use Rattle.descriptors.proofs.Granules.{granule_of_is_granule}
 
 -- a field is below 2 to its bits
 field_small : (w hi lo : ℕ) → bits_of w hi lo < 2 ^ (hi - lo + 1)
@@ -37,9 +44,9 @@ address_aligned g w n h =
     grind (arith, nat_tests)
 
 shaped : Bool → Bool → Bool → Bool → Shape
-shaped a b last block = cond a (cond b (cond last mapping pointer) (cond block mapping nothing)) nothing
+shaped a b last block = cond a (cond b (cond last Mapping Pointer) (cond block Mapping Nothing)) Nothing
 
-pointer_above : (a b last block : Bool) → shaped a b last block ≡ pointer → last ≡ false
+pointer_above : (a b last block : Bool) → shaped a b last block ≡ Pointer → last ≡ false
 unfolding shaped
 pointer_above true true true block h = absurd cc
 pointer_above true true false block h = refl
@@ -47,7 +54,7 @@ pointer_above true false last true h = absurd cc
 pointer_above true false last false h = absurd cc
 pointer_above false b last block h = absurd cc
 
-mapping_where : (a b last block : Bool) → shaped a b last block ≡ mapping → (last ≡ true) ⊎ (block ≡ true)
+mapping_where : (a b last block : Bool) → shaped a b last block ≡ Mapping → (last ≡ true) ⊎ (block ≡ true)
 unfolding shaped
 mapping_where true true true block h = inl refl
 mapping_where true true false block h = absurd cc
@@ -56,7 +63,7 @@ mapping_where true false last false h = absurd cc
 mapping_where false b last block h = absurd cc
 
 -- a table has a level below it
-pub pointer_left : (g left w : ℕ) → shape_of g left w ≡ pointer → 0 < left
+pub pointer_left : (g left w : ℕ) → shape_of g left w ≡ Pointer → 0 < left
 unfolding shaped
 pointer_left g left w h = let z = pointer_above (bit w 0) (bit w 1) (eqb left 0) (has_block g left) h in grind (arith, nat_tests)
 
@@ -67,7 +74,7 @@ class_block : (g left : ℕ) → IsGranule g → has_block g left ≡ true → c
 class_block g left h z = grind (arith, nat_tests)
 
 -- the class of a leaf's entry
-pub mapping_class : (g left w : ℕ) → IsGranule g → shape_of g left w ≡ mapping → class_of g left ≤ 47
+pub mapping_class : (g left w : ℕ) → IsGranule g → shape_of g left w ≡ Mapping → class_of g left ≤ 47
 unfolding shaped
 mapping_class g left w h e =
     elim (mapping_where (bit w 0) (bit w 1) (eqb left 0) (has_block g left) e) [ inl z ↦ class_last g left h z | inr z ↦ class_block g left h z ]
@@ -76,19 +83,19 @@ granule_class : (g : ℕ) → IsGranule g → (3 ≤ g) × (g ≤ 47)
 granule_class g h = (grind arith, grind arith)
 
 bounded1_at : (g : ℕ) (hpd : Bool) (left w : ℕ) (s : Shape) → IsGranule g → shape_of g left w ≡ s → IsBounded1 left (kind1_of g hpd left w s)
-bounded1_at g hpd left w nothing h e = tt
-bounded1_at g hpd left w pointer h e = let k = granule_class g h in (pointer_left g left w e, address_below g w g k.1, address_aligned g w g k.0)
-bounded1_at g hpd left w mapping h e = (address_below g w (class_of g left) (mapping_class g left w h e), field_small w 4 2, field_small w 9 8)
+bounded1_at g hpd left w Nothing h e = tt
+bounded1_at g hpd left w Pointer h e = let k = granule_class g h in (pointer_left g left w e, address_below g w g k.1, address_aligned g w g k.0)
+bounded1_at g hpd left w Mapping h e = (address_below g w (class_of g left) (mapping_class g left w h e), field_small w 4 2, field_small w 9 8)
 
-pub bounded1 : (g : ℕ) (hpd : Bool) (left w : ℕ) → IsGranule g → IsBounded1 left (means1 g hpd left w)
-unfolding means1
-bounded1 g hpd left w h = bounded1_at g hpd left w (shape_of g left w) h refl
+pub bounded1 : (c : Config) (s : Side) (left w : ℕ) → IsBounded1 left (means1_of c s left w)
+unfolding means1_of
+bounded1 c s left w = let g = granule_of (tg_of c s) in bounded1_at g (hpd_of c s) left w (shape_of g left w) (granule_of_is_granule (tg_of c s)) refl
 
 bounded2_at : (g left w : ℕ) (s : Shape) → IsGranule g → shape_of g left w ≡ s → IsBounded2 left (kind2_of g left w s)
-bounded2_at g left w nothing h e = tt
-bounded2_at g left w pointer h e = let k = granule_class g h in (pointer_left g left w e, address_below g w g k.1, address_aligned g w g k.0)
-bounded2_at g left w mapping h e = (address_below g w (class_of g left) (mapping_class g left w h e), field_small w 5 2, field_small w 54 53, field_small w 9 8)
+bounded2_at g left w Nothing h e = tt
+bounded2_at g left w Pointer h e = let k = granule_class g h in (pointer_left g left w e, address_below g w g k.1, address_aligned g w g k.0)
+bounded2_at g left w Mapping h e = (address_below g w (class_of g left) (mapping_class g left w h e), field_small w 5 2, field_small w 54 53, field_small w 9 8)
 
-pub bounded2 : (g left w : ℕ) → IsGranule g → IsBounded2 left (means2 g left w)
-unfolding means2
-bounded2 g left w h = bounded2_at g left w (shape_of g left w) h refl
+pub bounded2 : (c : Config) (left w : ℕ) → IsBounded2 left (means2_of c left w)
+unfolding means2_of
+bounded2 c left w = let g = granule_of c.tg2 in bounded2_at g left w (shape_of g left w) (granule_of_is_granule c.tg2) refl

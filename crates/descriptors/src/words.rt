@@ -1,9 +1,9 @@
 ghost use Rattle.std.specs.Prelude.{◌≡◌, ◌≤◌, ◌<◌, ◌*◌, ◌^◌};
 ghost use Rattle.bitwords.specs.Fields.{bits_of};
-ghost use Rattle.geometry.specs.Tables.{IsGranule};
-ghost use Rattle.sysregs.specs.Registers.{exponent};
-ghost use Rattle.sysregs.specs.Sides.{hpd_of};
-ghost use Rattle.descriptors.specs.Meaning.{address_in, shape_of, seen_shape, table_bits, leaf_bits, means1, means2};
+ghost use Rattle.geometry.specs.Tables.{IsGranule, most_left};
+ghost use Rattle.sysregs.specs.Registers.{granule_of};
+ghost use Rattle.sysregs.specs.Sides.{tg_of};
+ghost use Rattle.descriptors.specs.Meaning.{address_in, shape_of, table_bits, leaf_bits, means1_of, means2_of};
 
 use crate::kinds::{Kind1, Kind2};
 use bitwords::{align_down, field, flag};
@@ -45,8 +45,8 @@ fn address<const G: u32>(w: u64, class: u32) -> u64
 
 fn shape_at<const G: u32, const LEFT: u32>(w: u64) -> Shape
     requires granule { IsGranule G }
-    requires left { LEFT ≤ 3 }
-    ensures { seen_shape result ≡ shape_of G LEFT w }
+    requires left { LEFT ≤ most_left }
+    ensures { result ≡ shape_of G LEFT w }
 {
     if !flag::<0>(w) {
         return Shape::Nothing;
@@ -89,12 +89,12 @@ fn leaf_bits(w: u64) -> Bits1
     }
 }
 
-/// What a stage 1 word means with `LEFT` levels left. The side picks HPD.
-#[tactic(auto, unfolding(crate::specs::Meaning::means1))]
+/// What a stage 1 word means with `LEFT` levels left, in the tables of a side, which picks HPD.
+#[tactic(auto, unfolding(crate::specs::Meaning::means1_of))]
 pub fn decode1<const G: u32, const LEFT: u32>(w: u64, config: &Config, side: Side) -> Kind1
-    requires granule { IsGranule G }
-    requires left { LEFT ≤ 3 }
-    ensures { result ≡ means1 G (hpd_of config.now side) LEFT w }
+    requires granule { G ≡ granule_of (tg_of config.now side) }
+    requires left { LEFT ≤ most_left }
+    ensures { result ≡ means1_of config.now side LEFT w }
 {
     match shape_at::<G, LEFT>(w) {
         Shape::Nothing => Kind1::Invalid,
@@ -115,11 +115,11 @@ pub fn decode1<const G: u32, const LEFT: u32>(w: u64, config: &Config, side: Sid
 }
 
 /// What a stage 2 word means with `LEFT` levels left.
-#[tactic(auto, unfolding(crate::specs::Meaning::means2))]
+#[tactic(auto, unfolding(crate::specs::Meaning::means2_of))]
 pub fn decode2<const G: u32, const LEFT: u32>(w: u64, config: &Config) -> Kind2
-    requires granule { G ≡ exponent config.now.tg2 }
-    requires left { LEFT ≤ 3 }
-    ensures { result ≡ means2 G LEFT w }
+    requires granule { G ≡ granule_of config.now.tg2 }
+    requires left { LEFT ≤ most_left }
+    ensures { result ≡ means2_of config.now LEFT w }
 {
     match shape_at::<G, LEFT>(w) {
         Shape::Nothing => Kind2::Invalid,

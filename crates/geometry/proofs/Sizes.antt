@@ -26,18 +26,18 @@ pub start_within : (g txsz : ℕ) → IsGranule g → is_txsz g txsz ≡ true �
 start_within g txsz h t = grind (arith, nat_tests)
 
 -- stage 1: the start table has from 2 entries up to as many as one level resolves
-pub start_below : (g ia : ℕ) → IsGranule g → g < ia → class_of g (start_left1 g ia) < ia
-start_below g ia h l = grind arith
+pub start_below : (g input : ℕ) → IsGranule g → g < input → class_of g (start_left1 g input) < input
+start_below g input h l = grind arith
 
-pub start_above : (g ia : ℕ) → IsGranule g → g < ia → ia ≤ class_of g (start_left1 g ia) + stride g
-start_above g ia h l = grind arith
+pub start_above : (g input : ℕ) → IsGranule g → g < input → input ≤ class_of g (start_left1 g input) + stride g
+start_above g input h l = grind arith
 
 -- stage 2: the start level of a valid code, and tables that are concatenated at most sixteenfold
 pub start2_within : (g sl0 left : ℕ) → start_left2 g sl0 ≡ Some left → left ≤ 3
 start2_within g sl0 left e = grind (arith, nat_tests)
 
-pub suited_below : (g left ia : ℕ) → is_suited2 g left ia ≡ true → class_of g left < ia
-suited_below g left ia t = grind (arith, nat_tests)
+pub suited_below : (g left input : ℕ) → is_suited2 g left input ≡ true → class_of g left < input
+suited_below g left input t = grind (arith, nat_tests)
 
-pub suited_above : (g left ia : ℕ) → is_suited2 g left ia ≡ true → ia ≤ class_of g left + stride g + 4
-suited_above g left ia t = grind (arith, nat_tests)
+pub suited_above : (g left input : ℕ) → is_suited2 g left input ≡ true → input ≤ class_of g left + stride g + 4
+suited_above g left input t = grind (arith, nat_tests)

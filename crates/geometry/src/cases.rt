@@ -1,8 +1,8 @@
 /// Writes the match over a granule, a level or a table's keys inside a function.
 ///
 /// - `case_table!(level LEFT; f::<G>(args))` calls `f::<G, LEFT>` for a number of levels left from 0 to 3.
-/// - `case_table!(granule TG; f(args))` calls `f::<G>` for the granule's exponent; `sysregs::Tg` has to be in scope.
-/// - `case_table!(granule TG, level LEFT; f(args))` does both.
+/// - `case_table!(granule TG; f(args))` calls `f::<G>` for a granule of 2 ^ G bytes; `sysregs::Tg` has to be in scope.
+/// - `case_table!(granule TG; f::<_, T>(args))` calls `f::<G, T>`.
 /// - `case_table!(KEY; PATTERN => VALUE, ..; else VALUE)` is a table with a default.
 #[macro_export]
 macro_rules! case_table {
@@ -21,11 +21,11 @@ macro_rules! case_table {
             Tg::K64 => $call::<16>($($arg),*),
         }
     };
-    (granule $tg:expr, level $left:expr; $call:ident($($arg:expr),*)) => {
+    (granule $tg:expr; $call:ident::<_, $t:ty>($($arg:expr),*)) => {
         match $tg {
-            Tg::K4 => $crate::case_table!(level $left; $call::<12>($($arg),*)),
-            Tg::K16 => $crate::case_table!(level $left; $call::<14>($($arg),*)),
-            Tg::K64 => $crate::case_table!(level $left; $call::<16>($($arg),*)),
+            Tg::K4 => $call::<12, $t>($($arg),*),
+            Tg::K16 => $call::<14, $t>($($arg),*),
+            Tg::K64 => $call::<16, $t>($($arg),*),
         }
     };
     ($key:expr; $($pattern:pat => $value:expr),* ; else $default:expr) => {

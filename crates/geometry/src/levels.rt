@@ -1,5 +1,5 @@
 ghost use Rattle.std.specs.Prelude.{◌≡◌, ◌≤◌, ◌<◌, ◌+◌, ◌-◌, ◌*◌, ◌/◌, ◌%◌, ◌^◌, pos, ◌≤ℤ◌};
-ghost use Rattle.geometry.specs.Tables.{IsGranule, class_of, start_level1, start_level2, is_suited_at, has_block};
+ghost use Rattle.geometry.specs.Tables.{IsGranule, most_left, class_of, start_level1, start_level2, is_suited_at, has_block};
 
 use crate::case_table;
 
@@ -50,19 +50,19 @@ pub fn suits2<const G: u32>(start: i8, iasize: u32) -> bool
 
 /// Which entry of its table an address selects: input bits `top - 1` down to the entry's class.
 #[tactic(auto, using(crate::proofs::Indices::masked_low))]
-pub fn index<const G: u32, const LEFT: u32>(ia: u64, top: u32) -> u64
+pub fn index<const G: u32, const LEFT: u32>(address: u64, top: u32) -> u64
     requires granule { IsGranule G }
-    requires left { LEFT ≤ 3 }
+    requires left { LEFT ≤ most_left }
     requires top { top ≤ 56 }
-    ensures { result ≡ ia % 2 ^ top / 2 ^ class_of G LEFT }
+    ensures { result ≡ address % 2 ^ top / 2 ^ class_of G LEFT }
 {
-    (ia & ((1 << top) - 1)) >> entry_class::<G, LEFT>()
+    (address & ((1 << top) - 1)) >> entry_class::<G, LEFT>()
 }
 
 /// An entry covers `2 ^ class` bytes of input.
 pub fn entry_class<const G: u32, const LEFT: u32>() -> u32
     requires granule { IsGranule G }
-    requires left { LEFT ≤ 3 }
+    requires left { LEFT ≤ most_left }
     ensures { result ≡ class_of G LEFT }
 {
     G + LEFT * (G - 3)
@@ -71,7 +71,7 @@ pub fn entry_class<const G: u32, const LEFT: u32>() -> u32
 /// Whether the level has blocks.
 pub fn block_allowed<const G: u32, const LEFT: u32>() -> bool
     requires granule { IsGranule G }
-    requires left { LEFT ≤ 3 }
+    requires left { LEFT ≤ most_left }
     ensures { result ≡ has_block G LEFT }
 {
     case_table!((G, LEFT); (12, 1 | 2) => true, (14, 1) => true, (16, 1 | 2) => true; else false)

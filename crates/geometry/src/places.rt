@@ -1,5 +1,5 @@
 ghost use Rattle.std.specs.Prelude.{◌≡◌, ◌≤◌, ◌<◌, ◌+◌, ◌-◌, ◌*◌, ◌/◌, ◌%◌, ◌^◌, Some};
-ghost use Rattle.geometry.specs.Tables.{IsGranule, class_of, top_of, index_of};
+ghost use Rattle.geometry.specs.Tables.{IsGranule, most_left, class_of, top_of, index_of};
 ghost use Rattle.geometry.specs.Runs.{run_of, goes_to, is_counted, leaf_class};
 
 use crate::case_table;
@@ -10,7 +10,7 @@ use bitwords::power;
 /// The class of an entry with so many levels left.
 pub fn class_at<const G: u32>(left: u32) -> u32
     requires granule { IsGranule G }
-    requires left { left ≤ 3 }
+    requires left { left ≤ most_left }
     ensures { result ≡ class_of G left }
 {
     case_table!(level left; entry_class::<G>())
@@ -18,7 +18,7 @@ pub fn class_at<const G: u32>(left: u32) -> u32
 
 fn run_at<const G: u32>(left: u32) -> Option<u32>
     requires granule { IsGranule G }
-    requires left { left ≤ 3 }
+    requires left { left ≤ most_left }
     ensures { result ≡ run_of G left }
 {
     case_table!(level left; run_class::<G>())
@@ -26,7 +26,7 @@ fn run_at<const G: u32>(left: u32) -> Option<u32>
 
 fn index_at<const G: u32>(left: u32, x: u64, top: u32) -> u64
     requires granule { IsGranule G }
-    requires left { left ≤ 3 }
+    requires left { left ≤ most_left }
     requires top { top ≤ 56 }
     ensures { result ≡ x % 2 ^ top / 2 ^ class_of G left }
 {
@@ -36,7 +36,7 @@ fn index_at<const G: u32>(left: u32, x: u64, top: u32) -> u64
 /// The input bits below this one take part in the index.
 fn top<const G: u32>(input: u32, start: u32, left: u32) -> u32
     requires granule { IsGranule G }
-    requires left { left ≤ start × start ≤ 3 }
+    requires left { left ≤ start × start ≤ most_left }
     requires input { input ≤ 56 }
     ensures value { result ≡ top_of G input start left }
     ensures below { result ≤ 56 }
@@ -53,7 +53,7 @@ fn top<const G: u32>(input: u32, start: u32, left: u32) -> u32
 #[tactic(auto, using(crate::proofs::Fits::index_small))]
 pub fn place<const G: u32>(input: u32, start: u32, left: u32, table: u64, x: u64) -> u64
     requires granule { IsGranule G }
-    requires left { left ≤ start × start ≤ 3 }
+    requires left { left ≤ start × start ≤ most_left }
     requires input { input ≤ 56 }
     requires table { table < 2 ^ 52 × table % 8 ≡ 0 }
     ensures value { result ≡ table + 8 * index_of G input start left x }
@@ -75,7 +75,7 @@ fn run_offset(pa: u64, run: u32, class: u32) -> u64
 #[tactic(auto, using(crate::proofs::Fits::run_sizes))]
 fn counts<const G: u32>(run: u32, input: u32, left: u32, out: u64, pa: u64) -> bool
     requires granule { IsGranule G }
-    requires left { left ≤ 3 }
+    requires left { left ≤ most_left }
     requires run { run_of G left ≡ Some run }
     ensures { result ≡ is_counted G input left out pa }
 {
@@ -86,7 +86,7 @@ fn counts<const G: u32>(run: u32, input: u32, left: u32, out: u64, pa: u64) -> b
 /// the input size in bits, `out` the entry's output and `pa` the place of its word.
 pub fn leaf_class<const G: u32>(input: u32, left: u32, out: u64, contiguous: bool, pa: u64) -> u32
     requires granule { IsGranule G }
-    requires left { left ≤ 3 }
+    requires left { left ≤ most_left }
     ensures { result ≡ leaf_class G input left out contiguous pa }
 {
     let class = class_at::<G>(left);

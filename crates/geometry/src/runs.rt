@@ -1,5 +1,5 @@
 ghost use Rattle.std.specs.Prelude.{◌≡◌, ◌≤◌};
-ghost use Rattle.geometry.specs.Tables.{IsGranule};
+ghost use Rattle.geometry.specs.Tables.{IsGranule, most_left};
 ghost use Rattle.geometry.specs.Runs.{run_of};
 
 use crate::case_table;
@@ -7,7 +7,7 @@ use crate::case_table;
 /// The class of a run of entries with the Contiguous bit, or None where the level has no run.
 pub fn run_class<const G: u32, const LEFT: u32>() -> Option<u32>
     requires granule { IsGranule G }
-    requires left { LEFT ≤ 3 }
+    requires left { LEFT ≤ most_left }
     ensures { result ≡ run_of G LEFT }
 {
     case_table!((G, LEFT);

@@ -2,7 +2,7 @@ ghost use Rattle.std.specs.Prelude.{◌≡◌, ◌≤◌, ◌<◌, ◌+◌, ◌-
 ghost use Rattle.bitwords.specs.Causes.{Rose};
 ghost use Rattle.bitwords.specs.Fields.{bits_of, bit};
 ghost use Rattle.geometry.specs.Tables.{is_txsz, left_below, level_of, start_level1};
-ghost use Rattle.sysregs.specs.Registers.{InRange, exponent, config_of};
+ghost use Rattle.sysregs.specs.Registers.{InRange, granule_of, config_of};
 ghost use Rattle.sysregs.specs.Sides.{side_of, tg_of, txsz_of};
 ghost use Rattle.permissions.specs.Rights.{no_bits};
 ghost use Rattle.fault_codes.specs.declared.fault.Stage.TheVariants.{S1};
@@ -29,14 +29,14 @@ use walk_spec::{Leaf1, Sizes, Supply};
 
 /// The start level for a TxSZ, or None where it is out of its range.
 fn start_level(tg: Tg, txsz: u32) -> Option<i8>
-    ensures { result ≡ start_level1 (exponent tg) txsz }
+    ensures { result ≡ start_level1 (granule_of tg) txsz }
 {
     case_table!(granule tg; start_level1(txsz))
 }
 
 /// Whether TxSZ is in its range.
 fn sized(tg: Tg, txsz: u32) -> bool
-    ensures { result ≡ is_txsz (exponent tg) txsz }
+    ensures { result ≡ is_txsz (granule_of tg) txsz }
 {
     start_level(tg, txsz).is_some()
 }

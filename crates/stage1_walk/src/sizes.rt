@@ -1,6 +1,6 @@
 ghost use Rattle.std.specs.Prelude.{◌≡◌, IsTrue};
 ghost use Rattle.geometry.specs.Tables.{is_txsz};
-ghost use Rattle.sysregs.specs.Registers.{InRange, exponent};
+ghost use Rattle.sysregs.specs.Registers.{InRange, granule_of};
 ghost use Rattle.sysregs.specs.Sides.{txsz_of, tg_of};
 ghost use Rattle.walk_spec.specs.Needs.{sizes1};
 ghost use Rattle.stage1_walk.specs.Sound.{AreSound};
@@ -13,13 +13,13 @@ use walk_spec::Sizes;
 #[tactic(auto, unfolding(walk_spec::specs::Needs::sizes1))]
 pub(crate) fn sizes1(config: &Config, side: Side) -> Sizes
     requires config { InRange config.now }
-    requires txsz { IsTrue (is_txsz (exponent (tg_of config.now side)) (txsz_of config.now side)) }
+    requires txsz { IsTrue (is_txsz (granule_of (tg_of config.now side)) (txsz_of config.now side)) }
     ensures value { result ≡ sizes1 config.now side }
-    ensures granule { result.granule ≡ exponent (tg_of config.now side) }
+    ensures granule { result.granule ≡ granule_of (tg_of config.now side) }
     ensures sound { AreSound result }
 {
     let tg = config.tg(side);
-    let granule = tg.exponent();
+    let granule = tg.granule();
     let input = 64 - config.txsz(side);
     Sizes {
         granule,

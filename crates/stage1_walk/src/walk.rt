@@ -1,7 +1,7 @@
 ghost use Rattle.std.specs.Prelude.{◌≡◌, ◌+◌, ◌-◌, ◌≤◌, ◌<◌, ◌^◌, ◌%◌, length, true, false, pos, ◌≤ℤ◌, IsFalse, IsTrue, IfErr};
 ghost use Rattle.bitwords.specs.Causes.{Rose};
 ghost use Rattle.geometry.specs.Tables.{IsGranule, left_below, is_txsz};
-ghost use Rattle.sysregs.specs.Registers.{InRange, exponent};
+ghost use Rattle.sysregs.specs.Registers.{InRange, granule_of};
 ghost use Rattle.sysregs.specs.Sides.{side_of, tg_of, txsz_of};
 ghost use Rattle.fault_codes.specs.declared.fault.Stage.TheVariants.{S1};
 ghost use Rattle.walk_spec.specs.Needs.{regime_with, regime_of, sizes1};
@@ -149,7 +149,7 @@ pub fn walk1<const G: u32, S: Supply>(
 ) -> Result<Leaf1, Stop>
     requires config { InRange config.now }
     requires alone { IsFalse config.now.vm }
-    requires granule { G ≡ exponent (tg_of config.now (side_of access.now.va)) }
+    requires granule { G ≡ granule_of (tg_of config.now (side_of access.now.va)) }
     requires accepted { IsFalse (is_refused1 config.now access.now) }
     requires low { pos 0 ≤ℤ from.now.level }
     requires high { from.now.level ≤ℤ pos 3 }

@@ -26,11 +26,11 @@ set_of r HcrEl2 w = record r { hcr_el2 = w }
 set_of r VtcrEl2 w = record r { vtcr_el2 = w }
 set_of r VttbrEl2 w = record r { vttbr_el2 = w }
 
--- a granule has 2 ^ exponent bytes
-abbrev pub exponent : Tg → ℕ
-exponent K4 = 12
-exponent K16 = 14
-exponent K64 = 16
+-- a granule has 2 ^ granule_of bytes
+abbrev pub granule_of : Tg → ℕ
+granule_of K4 = 12
+granule_of K16 = 14
+granule_of K64 = 16
 
 -- TG0 of TCR_EL1 and VTCR_EL2; the reserved code is read as 4 KB (this project's own rule)
 abbrev pub tg0_of : ℕ → Tg
@@ -113,14 +113,14 @@ output_size g code = if g == 16 then size_named code else min (size_named code) 
 
 -- the base in a TTBR or VTTBR, before the bits below the table's size are cleared: BADDR, or its 52-bit form, which
 -- is used where the granule is 64 KB and the size is 52 bits
-abbrev pub base_in : ℕ → ℕ → ℕ → ℕ
-base_in g code w = if g == 16 && nat_le 6 code then bits_of w 5 2 * 2 ^ 48 + bits_of w 47 6 * 2 ^ 6 else bits_of w 47 1 * 2
+abbrev pub base_field : ℕ → ℕ → ℕ → ℕ
+base_field g code w = if g == 16 && nat_le 6 code then bits_of w 5 2 * 2 ^ 48 + bits_of w 47 6 * 2 ^ 6 else bits_of w 47 1 * 2
 
 -- the base of stage 1 for a side: TTBR0_EL1 or TTBR1_EL1
-abbrev pub base1_of : Regs → Side → ℕ
-base1_of r Low = base_in (exponent (config_of r).tg0) (config_of r).ips r.ttbr0_el1
-base1_of r High = base_in (exponent (config_of r).tg1) (config_of r).ips r.ttbr1_el1
+abbrev pub ttbr_base : Regs → Side → ℕ
+ttbr_base r Low = base_field (granule_of (config_of r).tg0) (config_of r).ips r.ttbr0_el1
+ttbr_base r High = base_field (granule_of (config_of r).tg1) (config_of r).ips r.ttbr1_el1
 
 -- the base of stage 2: VTTBR_EL2
-abbrev pub base2_of : Regs → ℕ
-base2_of r = base_in (exponent (config_of r).tg2) (config_of r).ps r.vttbr_el2
+abbrev pub vttbr_base : Regs → ℕ
+vttbr_base r = base_field (granule_of (config_of r).tg2) (config_of r).ps r.vttbr_el2

@@ -1,6 +1,6 @@
 //! The fields of the registers.
 ghost use Rattle.std.specs.Prelude.{◌≡◌, ◌<◌, ◌≤◌, ◌^◌, Some, None, MatchResult};
-ghost use Rattle.sysregs.specs.Registers.{tg0_of, tg1_of, exponent, config_of, InRange, id_in, asid_of, vmid_of, size_named, output_size, base_in, base1_of, base2_of};
+ghost use Rattle.sysregs.specs.Registers.{tg0_of, tg1_of, granule_of, config_of, InRange, id_in, asid_of, vmid_of, size_named, output_size, base_field, ttbr_base, vttbr_base};
 ghost use Rattle.sysregs.specs.Refused.{refused_field};
 
 use crate::regs::{Config, Field, Reg, Regs, Side, Tg, Unsupported};
@@ -113,7 +113,7 @@ pub fn vmid(regs: &Regs) -> u16
 /// The output size in bits that IPS or PS gives with a granule, from 32 to 52.
 pub fn output_size(granule: Tg, code: u32) -> u32
     requires { code < 8 }
-    ensures value { result ≡ output_size (exponent granule) code }
+    ensures value { result ≡ output_size (granule_of granule) code }
     ensures small { (32 ≤ result) × (result ≤ 52) }
 {
     let named = match code {
@@ -133,7 +133,7 @@ pub fn output_size(granule: Tg, code: u32) -> u32
 
 /// The base in a TTBR or VTTBR.
 fn base(granule: Tg, code: u32, w: u64) -> u64
-    ensures { result ≡ base_in (exponent granule) code w }
+    ensures { result ≡ base_field (granule_of granule) code w }
 {
     if granule == Tg::K64 && code >= 6 {
         return (field::<5, 2>(w) << 48) | (field::<47, 6>(w) << 6);
@@ -143,7 +143,7 @@ fn base(granule: Tg, code: u32, w: u64) -> u64
 
 /// The base of a side's start table in bytes, not yet aligned to the table's size.
 pub fn base1(regs: &Regs, side: Side) -> u64
-    ensures { result ≡ base1_of regs.now side }
+    ensures { result ≡ ttbr_base regs.now side }
 {
     let config = config(regs);
     match side {
@@ -154,7 +154,7 @@ pub fn base1(regs: &Regs, side: Side) -> u64
 
 /// The base of the stage 2 start table in bytes, not yet aligned to the table's size.
 pub fn base2(regs: &Regs) -> u64
-    ensures { result ≡ base2_of regs.now }
+    ensures { result ≡ vttbr_base regs.now }
 {
     let config = config(regs);
     base(config.tg2, config.ps, regs.vttbr_el2)

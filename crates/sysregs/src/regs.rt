@@ -1,5 +1,5 @@
 ghost use Rattle.std.specs.Prelude.{◌≡◌};
-ghost use Rattle.sysregs.specs.Registers.{zero_regs, set_of, exponent};
+ghost use Rattle.sysregs.specs.Registers.{zero_regs, set_of, granule_of};
 
 /// A register that steers translation in the EL1&0 regime.
 #[derive(Clone, Copy, Debug, PartialEq, Eq)]
@@ -99,9 +99,9 @@ pub enum Tg {
 }
 
 impl Tg {
-    /// The granule has `2 ^ exponent` bytes.
-    pub fn exponent(self) -> u32
-        ensures { result ≡ exponent self }
+    /// The granule has `2 ^ granule` bytes.
+    pub fn granule(self) -> u32
+        ensures { result ≡ granule_of self }
     {
         match self {
             Tg::K4 => 12,

@@ -110,7 +110,7 @@ fn granule_codes(rt: HostRuntime) {
         );
     }
     assert_eq!(rt;
-        (Tg::K4.exponent(), Tg::K16.exponent(), Tg::K64.exponent()),
+        (Tg::K4.granule(), Tg::K16.granule(), Tg::K64.granule()),
         (12, 14, 16)
     );
 }

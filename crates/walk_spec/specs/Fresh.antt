@@ -3,7 +3,7 @@ use Rattle.std.specs.Prelude.{ℕ, ◌*◌, ◌/◌, List, Option, Some, option_
 use Rattle.geometry.specs.Tables.{level_of, table_size}
 use Rattle.sysregs.specs.declared.regs.Regs.{Regs}
 use Rattle.sysregs.specs.declared.regs.Side.{Side}
-use Rattle.sysregs.specs.Registers.{config_of, base1_of, base2_of}
+use Rattle.sysregs.specs.Registers.{config_of, ttbr_base, vttbr_base}
 use Rattle.sysregs.specs.Sides.{side_of}
 use Rattle.fault_codes.specs.declared.fault.Stage.TheVariants.{S1, S2}
 use Rattle.trails.specs.declared.item.Item.{Item}
@@ -22,11 +22,11 @@ aligned_base n base = let size = table_size n.granule n.input n.start in base / 
 
 -- the base of stage 1 for a side, and the base of stage 2
 abbrev pub base_one_of : Regs → Side → ℕ
-base_one_of regs s = aligned_base (sizes1 (config_of regs) s) (base1_of regs s)
+base_one_of regs s = aligned_base (sizes1 (config_of regs) s) (ttbr_base regs s)
 
 -- the base of stage 2
 abbrev pub base_two_of : Regs → ℕ
-base_two_of regs = aligned_base (sizes2 (config_of regs)) (base2_of regs)
+base_two_of regs = aligned_base (sizes2 (config_of regs)) (vttbr_base regs)
 
 -- a memory has a word at a place, or nothing
 abbrev pub Memory : Type 0

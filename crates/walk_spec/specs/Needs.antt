@@ -5,7 +5,7 @@ use Rattle.geometry.specs.Tables.{class_of, level_of, input_size, start_left1, s
 use Rattle.geometry.specs.Runs.{is_counted, is_one_run}
 use Rattle.sysregs.specs.declared.regs.Config.{Config}
 use Rattle.sysregs.specs.declared.regs.Side.{Side}
-use Rattle.sysregs.specs.Registers.{exponent, output_size}
+use Rattle.sysregs.specs.Registers.{granule_of, output_size}
 use Rattle.sysregs.specs.Sides.{tg_of, txsz_of}
 use Rattle.fault_codes.specs.declared.fault.Stage.{Stage}
 use Rattle.fault_codes.specs.declared.fault.Stage.TheVariants.{S1, S2}
@@ -18,14 +18,14 @@ use Rattle.walk_spec.specs.declared.leaf.Sizes.{Sizes}
 -- the numbers of stage 1 for a side (TCR_EL1.TGn, TnSZ, IPS)
 unfoldable pub sizes1 : Config → Side → Sizes
 sizes1 c s =
-    let g = exponent (tg_of c s) in
+    let g = granule_of (tg_of c s) in
     let input = input_size (txsz_of c s) in
     record { granule = g; input = input; output = output_size g c.ips; start = start_left1 g input }
 
 -- the numbers of stage 2 (VTCR_EL2.TG0, T0SZ, PS, SL0); an invalid SL0 is refused before any of them counts
 unfoldable pub sizes2 : Config → Sizes
 sizes2 c =
-    let g = exponent c.tg2 in
+    let g = granule_of c.tg2 in
     record { granule = g; input = input_size c.t2sz; output = output_size g c.ps; start = unwrap_or (start_left2 g c.sl0) 0 }
 
 -- what steers the walk of an access: the register fields, the side of its address, and the numbers of both stages

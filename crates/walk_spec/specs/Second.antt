@@ -3,7 +3,7 @@ use Rattle.std.specs.Prelude.{ℕ, ◌+◌, ◌*◌, ◌^◌, zero, suc, Bool, f
 use Rattle.geometry.specs.Tables.{level_of, is_txsz, input_size, start_left2, is_suited2, index_of}
 use Rattle.geometry.specs.Runs.{leaf_class, goes_to}
 use Rattle.sysregs.specs.declared.regs.Config.{Config}
-use Rattle.sysregs.specs.Registers.{exponent}
+use Rattle.sysregs.specs.Registers.{granule_of}
 use Rattle.permissions.specs.Rights.{perms_of, rights2}
 use Rattle.attributes.specs.Memory.{s2_attr_of, share_of}
 use Rattle.fault_codes.specs.declared.fault.Stage.{Stage}
@@ -79,15 +79,15 @@ chain_from r p x (suc left) table = after (level2 r p x (suc left) table) (end_o
 
 -- SL0 is valid, and the input size suits it
 abbrev pub is_suited_start : ℕ → Option ℕ → ℕ → Bool
-is_suited_start g None ia = false
-is_suited_start g (Some left) ia = is_suited2 g left ia
+is_suited_start g None input = false
+is_suited_start g (Some left) input = is_suited2 g left input
 
 -- T0SZ is out of range, SL0 is invalid, the input size doesn't suit the start level, or the IPA is out of range
 unfoldable pub is_refused2 : Config → ℕ → Bool
 is_refused2 c x =
-    let g = exponent c.tg2 in
-    let ia = input_size c.t2sz in
-    not (is_txsz g c.t2sz && is_suited_start g (start_left2 g c.sl0) ia && nat_lt x (2 ^ ia))
+    let g = granule_of c.tg2 in
+    let input = input_size c.t2sz in
+    not (is_txsz g c.t2sz && is_suited_start g (start_left2 g c.sl0) input && nat_lt x (2 ^ input))
 
 -- stage 2 for an IPA; p marks that it is the place of a stage 1 descriptor
 abbrev pub chain : Regime → Bool → ℕ → Ask Need Item (End Leaf2)

@@ -3,7 +3,7 @@ use Rattle.std.specs.Prelude.{ℕ, ◌+◌, ◌-◌, ◌%◌, ◌^◌, Bool, tru
 use Rattle.bitwords.specs.Fields.{bits_of, bit}
 use Rattle.geometry.specs.Tables.{is_txsz, input_size}
 use Rattle.sysregs.specs.declared.regs.Config.{Config}
-use Rattle.sysregs.specs.Registers.{exponent}
+use Rattle.sysregs.specs.Registers.{granule_of}
 use Rattle.sysregs.specs.Sides.{side_of, tg_of, txsz_of, epd_of, e0pd_of, tbi_of, tbid_of}
 use Rattle.permissions.specs.declared.set.Perms.{Perms}
 use Rattle.permissions.specs.declared.bits.El.{El}
@@ -76,14 +76,14 @@ top_bit c a = let s = side_of a.va in if tbi_of c s && not (is_fetch a.kind && t
 
 -- VA bits from the top bit down to the input size are all equal to bit 55
 abbrev pub is_in_range : Config → Access → ℕ → Bool
-is_in_range c a ia = let top = top_bit c a in bits_of a.va top ia == (if bit a.va 55 then 2 ^ (top - ia + 1) - 1 else 0)
+is_in_range c a input = let top = top_bit c a in bits_of a.va top input == (if bit a.va 55 then 2 ^ (top - input + 1) - 1 else 0)
 
 -- Stage 1 refuses an address before any table: TxSZ out of range (this project's own rule: a translation fault), a VA
 -- bit that differs, EL0 with E0PD, or EPD.
 unfoldable pub is_refused1 : Config → Access → Bool
 is_refused1 c a =
     let s = side_of a.va in
-    not (is_txsz (exponent (tg_of c s)) (txsz_of c s)) || not (is_in_range c a (input_size (txsz_of c s))) || (is_el0 a.el && e0pd_of c s) || epd_of c s
+    not (is_txsz (granule_of (tg_of c s)) (txsz_of c s)) || not (is_in_range c a (input_size (txsz_of c s))) || (is_el0 a.el && e0pd_of c s) || epd_of c s
 
 -- the address as indices and offsets see it, without what stands above bit 55
 abbrev pub low : ℕ → ℕ
