@@ -1,4 +1,5 @@
 ghost use Rattle.std.specs.Prelude.{◌≡◌, ◌<◌, ◌≤◌, [], ◌∷◌, ◌++◌, length, take};
+ghost use Rattle.trails.specs.Length.{most_items};
 
 use crate::item::Item;
 use arrayvec::ArrayVec;
@@ -13,12 +14,13 @@ pub struct Trail {
 impl Model for Trail {
     ghost use Rattle.std.specs.Prelude.{List, length, ◌≤◌};
     ghost use Rattle.trails.specs.declared.item.Item.{Item};
+    ghost use Rattle.trails.specs.Length.{most_items};
 
     ghost Value = { List Item };
 
     ghost view = { λ t. t.kept.items };
 
-    ghost invariant = { λ t. length t.kept.items ≤ 42 };
+    ghost invariant = { λ t. length t.kept.items ≤ most_items };
 }
 
 impl Trail {
@@ -34,14 +36,14 @@ impl Trail {
     /// The items in order.
     pub fn items(&self) -> &[Item]
         ensures items { result.now ≡ self.now }
-        ensures most { length self.now ≤ 42 }
+        ensures most { length self.now ≤ most_items }
     {
         self.kept.as_slice()
     }
 
     /// Appends an item.
     pub fn push(&mut self, item: Item)
-        requires { length self.old < 42 }
+        requires { length self.old < most_items }
         ensures { self.new ≡ self.old ++ item ∷ [] }
     {
         self.kept.push(item);

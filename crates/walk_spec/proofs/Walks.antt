@@ -1,29 +1,22 @@
 -- How code that walks over a supply goes on, ends and lacks a word.
 use Rattle.std.proofs.Common.{◌≡◌, ℕ, ◌≤◌, List, [], ◌∷◌, ◌++◌, refl, sym, ap, ◌∙◌, arith, append_assoc, append-nil, inl, inr, Err, Result}
 use Rattle.std.specs.Prelude.{Some, None}
-use Rattle.bitwords.specs.Causes.{Rose}
 use Rattle.geometry.specs.Tables.{level_of}
 use Rattle.trails.specs.declared.item.Item.{Item}
 use Rattle.trails.specs.declared.outcome.Stop.{Stop}
 use Rattle.trails.specs.declared.outcome.Stop.TheVariants.{Absent}
 use Rattle.walk_spec.specs.Ask.{Ask, done, ask, Fed, ended, lacks}
-use Rattle.walk_spec.specs.Needs.{Need, base_one, base_two, word, WordNeed}
-use Rattle.walk_spec.specs.Second.{End}
-use Rattle.walk_spec.specs.Walked.{Told, Misses, LacksFor, Walked, result_of}
+use Rattle.walk_spec.specs.Needs.{Need, base1, base2, word, WordNeed}
+use Rattle.walk_spec.specs.Steps.{End}
+use Rattle.table_reads.specs.Memory.{Told, Misses}
+use Rattle.walk_spec.specs.Walked.{LacksFor, Walked, result_of}
+use Rattle.table_reads.proofs.Weaker.{misses_weaker}
 use Rattle.walk_spec.proofs.Feeding.{took_weaker}
-
-pub misses_weaker : (m : Told) (p : ℕ) (F G : Type 0) → (F → G) → Misses m p F → Misses m p G
-misses_weaker None p F G f h = tt
-misses_weaker (Some m) p F G f (inl h) = inl h
-misses_weaker (Some m) p F G f (inr h) = inr (f h)
-
-pub rose_weaker : (before before' now now' : ℕ) → before ≤ before' → now' ≤ now → Rose before' now' → Rose before now
-rose_weaker before before' now now' h k r = omega arith
 
 pub lacks_weaker : {A : Type 0} (m : Told) (F G : Type 0) → (F → G) → (e : Fed Need A) → LacksFor m F e → LacksFor m G e
 lacks_weaker m F G f (ended a) h = tt
-lacks_weaker m F G f (lacks base_one) h = h
-lacks_weaker m F G f (lacks (base_two _)) h = h
+lacks_weaker m F G f (lacks base1) h = h
+lacks_weaker m F G f (lacks (base2 _)) h = h
 lacks_weaker m F G f (lacks (word w)) h = misses_weaker m w.place F G f h
 
 module _ {L : Type 0} (reads : Need → Item → Type 0) (m : Told) where

@@ -22,7 +22,8 @@ use Rattle.trails.specs.declared.item.What.TheVariants.{Base, Word}
 use Rattle.trails.specs.declared.outcome.Access.{Access}
 use Rattle.trails.specs.declared.outcome.Outcome.{Outcome}
 use Rattle.trails.specs.declared.outcome.Outcome.TheVariants.{Faulted}
-use Rattle.walk_spec.specs.Fresh.{Memory, fresh_items, fresh_outcome}
+use Rattle.table_reads.specs.Memory.{Memory}
+use Rattle.walk_spec.specs.Fresh.{fresh_items, fresh_outcome}
 
 abbrev pub value_at : List (ℕ × ℕ) → ℕ → ℕ
 value_at [] p = 0

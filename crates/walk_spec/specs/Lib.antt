@@ -8,10 +8,14 @@ pub use Rattle.permissions.specs.Rights
 pub use Rattle.attributes.specs.Memory
 pub use Rattle.fault_codes.specs.Status
 pub use Rattle.descriptors.specs.Meaning
+pub use Rattle.table_reads.specs.Numbers
+pub use Rattle.table_reads.specs.Places
+pub use Rattle.table_reads.specs.Items
 pub mod Ask
 pub mod Needs
-pub mod Second
-pub mod First
-pub mod Whole
+pub mod Steps
+pub mod Stage2
+pub mod Stage1
+pub mod BothStages
 pub mod Fresh
 pub mod Walked

@@ -1,5 +1,5 @@
 use attributes::{MemType, Share};
-use permissions::Perms;
+use permissions::{Bits1, Perms};
 
 /// Where stage 1 ended. `class` is that of the run where the Contiguous bit counts, else that of the entry; `out` is
 /// the output for the address in bytes.
@@ -26,12 +26,26 @@ pub struct Leaf2 {
     pub sh: Share,
 }
 
-/// The numbers of a stage: the granule has `2 ^ granule` bytes, `input` and `output` are sizes in bits, and `start` is
-/// how many levels are left below the start level.
+/// The fields of a stage 1 block or page that tell what it gives. `out` is its address in bytes; numbers are raw codes.
 #[derive(Clone, Copy, Debug, PartialEq, Eq)]
-pub struct Sizes {
-    pub granule: u32,
-    pub input: u32,
-    pub output: u32,
-    pub start: u32,
+pub struct Fields1 {
+    pub out: u64,
+    pub attr_index: u32,
+    pub sh: u32,
+    pub bits: Bits1,
+    pub global: bool,
+    pub contiguous: bool,
+}
+
+/// The fields of a stage 2 block or page that tell what it gives. `out` is its address in bytes; numbers are raw codes.
+#[derive(Clone, Copy, Debug, PartialEq, Eq)]
+pub struct Fields2 {
+    pub out: u64,
+    pub mem_attr: u32,
+    pub xn: u32,
+    pub sh: u32,
+    pub read: bool,
+    pub write: bool,
+    pub dbm: bool,
+    pub contiguous: bool,
 }

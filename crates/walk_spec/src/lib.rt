@@ -1,8 +1,8 @@
 //! The walk of both stages, as definitions: what is read for an access, in which order, and what it leads to.
 #![tactic(auto)]
 
+mod entry;
 mod leaf;
-mod supply;
 
-pub use leaf::{Leaf1, Leaf2, Sizes};
-pub use supply::Supply;
+pub use entry::{Entry1, Table1};
+pub use leaf::{Fields1, Fields2, Leaf1, Leaf2};

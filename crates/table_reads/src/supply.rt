@@ -1,6 +1,6 @@
 ghost use Rattle.std.specs.Prelude.{◌≡◌, ◌≤◌, ◌%◌, ℕ};
 ghost use Rattle.bitwords.specs.Causes.{Rose};
-ghost use Rattle.walk_spec.specs.Walked.{Told, Supplies};
+ghost use Rattle.table_reads.specs.Memory.{Told, Supplies};
 
 /// Descriptor words of a memory that may be told or not, with a count of faults.
 pub trait Supply {

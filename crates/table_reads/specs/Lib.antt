@@ -1,0 +1,13 @@
+pub use Rattle.bitwords.specs.Causes
+pub use Rattle.bitwords.specs.Fields
+pub use Rattle.geometry.specs.Tables
+pub use Rattle.geometry.specs.Runs
+pub use Rattle.sysregs.specs.Registers
+pub use Rattle.sysregs.specs.Sides
+pub use Rattle.fault_codes.specs.Status
+pub use Rattle.descriptors.specs.Meaning
+pub use Rattle.trails.specs.Length
+pub mod Numbers
+pub mod Places
+pub mod Items
+pub mod Memory

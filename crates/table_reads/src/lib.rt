@@ -1,0 +1,19 @@
+//! One table of one stage: the numbers of a stage, the place of a word and its read, and the base of a start table.
+#![tactic(auto)]
+
+mod bases;
+mod levels;
+mod reads;
+mod sizes;
+mod step;
+mod supply;
+
+pub use bases::{is_too_large, keep_base, start_base};
+pub use levels::{Walker, fault, left_below, level};
+pub use reads::{place, read};
+pub use sizes::Sizes;
+pub use step::Step;
+pub use supply::Supply;
+
+#[cfg(test)]
+mod tests;

@@ -1,0 +1,62 @@
+ghost use Rattle.std.specs.Prelude.{◌≡◌, ◌+◌, ◌≤◌, ◌<◌, ◌^◌, ◌%◌, length};
+ghost use Rattle.bitwords.specs.Causes.{Rose};
+ghost use Rattle.geometry.specs.Tables.{most_left};
+ghost use Rattle.trails.specs.Length.{most_items};
+ghost use Rattle.table_reads.specs.Numbers.{AreSound};
+ghost use Rattle.table_reads.specs.Places.{place_of};
+ghost use Rattle.table_reads.specs.Memory.{HasRead};
+
+use crate::levels::{Walker, level};
+use crate::sizes::Sizes;
+use crate::supply::Supply;
+use trails::{Item, Stop, Trail, What};
+
+/// The place in bytes of the word that an address selects in a table.
+#[tactic(auto, unfolding(crate::specs::Places::place_of))]
+pub fn place<const G: u32>(sizes: &Sizes, left: u32, table: u64, address: u64) -> u64
+    requires granule { G ≡ sizes.now.granule }
+    requires sound { AreSound sizes.now }
+    requires left { left ≤ sizes.now.start }
+    requires table { table < 2 ^ 52 × table % 8 ≡ 0 }
+    ensures value { result ≡ place_of sizes.now left table address }
+    ensures aligned { result % 8 ≡ 0 }
+{
+    geometry::place::<G>(sizes.input, sizes.start, left, table, address)
+}
+
+/// Reads the word at a place and appends its item.
+pub fn read<S: Supply>(
+    walker: &Walker,
+    left: u32,
+    place: u64,
+    supply: &mut S,
+    trail: &mut Trail,
+) -> Result<u64, Stop>
+    requires left { left ≤ most_left }
+    requires aligned { place % 8 ≡ 0 }
+    requires room { length trail.old < most_items }
+    ensures same { S.memory supply.new ≡ S.memory supply.old }
+    ensures later { S.faults supply.old ≤ S.faults supply.new }
+    ensures kept { S.keeps supply.old supply.new }
+    ensures read { HasRead (S.memory supply.old) (Rose (S.faults supply.old) (S.faults supply.new)) walker.now left place trail.old trail.new result }
+{
+    match supply.word(place) {
+        Some(value) => {
+            trail.push(Item {
+                pa: place,
+                value,
+                moment: walker.moment,
+                stage: walker.stage,
+                level: level(left),
+                what: What::Word,
+            });
+            Ok(value)
+        }
+        None => Err(Stop::Absent {
+            stage: walker.stage,
+            level: level(left),
+            pa: place,
+            s1ptw: walker.s1ptw,
+        }),
+    }
+}

@@ -1,0 +1,9 @@
+use fault_codes::Fault;
+
+/// Where a word leads: to a table, to a leaf, or to a fault.
+#[derive(Clone, Copy, Debug, PartialEq, Eq)]
+pub enum Step<L, T> {
+    Down { table: T },
+    Reached { leaf: L },
+    Stopped { fault: Fault },
+}
