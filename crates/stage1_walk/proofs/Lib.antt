@@ -1,4 +1,3 @@
-pub mod Firsts
-pub mod Refusals
-pub mod Bases
-pub mod Wholes
+pub mod OnWords
+pub mod Accepted
+pub mod SingleStage

@@ -1,10 +1,12 @@
 pub use Rattle.walk_spec.specs.Ask
 pub use Rattle.walk_spec.specs.Needs
-pub use Rattle.walk_spec.specs.Second
-pub use Rattle.walk_spec.specs.First
-pub use Rattle.walk_spec.specs.Whole
+pub use Rattle.walk_spec.specs.Steps
+pub use Rattle.walk_spec.specs.Stage2
+pub use Rattle.walk_spec.specs.Stage1
+pub use Rattle.walk_spec.specs.BothStages
 pub use Rattle.walk_spec.specs.Fresh
 pub use Rattle.walk_spec.specs.Walked
-pub mod Steps
-pub mod Sound
+pub mod Under
+pub mod SoundSteps
+pub mod Clauses
 pub mod Outcomes

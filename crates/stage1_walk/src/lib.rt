@@ -1,12 +1,13 @@
 //! The walk through stage 1.
 #![tactic(auto)]
 
-mod alone;
+mod refusals;
+mod single_stage;
 mod sizes;
 mod step;
 mod walk;
 
-pub use alone::translate1;
+pub use single_stage::translate1;
 pub use walk::{From1, walk1};
 
 #[cfg(test)]

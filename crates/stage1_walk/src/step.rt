@@ -1,96 +1,74 @@
-ghost use Rattle.std.specs.Prelude.{◌≡◌, ◌≤◌, ◌<◌, ◌^◌, true, false, ◌&&◌, Ok};
-ghost use Rattle.geometry.specs.Tables.{IsGranule, level_of};
-ghost use Rattle.geometry.specs.Runs.{leaf_class};
-ghost use Rattle.sysregs.specs.Registers.{InRange};
-ghost use Rattle.sysregs.specs.Sides.{hpd_of};
+ghost use Rattle.std.specs.Prelude.{◌≡◌, ◌≤◌, ◌<◌, ◌^◌, true};
+ghost use Rattle.geometry.specs.Tables.{most_left};
+ghost use Rattle.sysregs.specs.Registers.{granule_of};
+ghost use Rattle.sysregs.specs.Sides.{tg_of};
 ghost use Rattle.permissions.specs.Rights.{joined, is_uxn};
 ghost use Rattle.attributes.specs.Memory.{attr_byte};
 ghost use Rattle.fault_codes.specs.Status.{HasStatus};
-ghost use Rattle.fault_codes.specs.declared.fault.Stage.TheVariants.{S1};
-ghost use Rattle.descriptors.specs.Meaning.{means1};
+ghost use Rattle.descriptors.specs.Meaning.{means1_of};
 ghost use Rattle.descriptors.specs.Bounds.{IsBounded1};
-ghost use Rattle.walk_spec.specs.Needs.{regime_with};
-ghost use Rattle.walk_spec.specs.Second.{fault_at};
-ghost use Rattle.walk_spec.specs.First.{leaf1_of, judged1, step1};
-ghost use Rattle.stage1_walk.specs.Steps.{seen_step, IsSoundStep};
-ghost use Rattle.stage1_walk.specs.Sound.{AreSound};
+ghost use Rattle.walk_spec.specs.Stage1.{fault1, leaf1_of, judged1, step1};
+ghost use Rattle.stage1_walk.specs.Under.{IsUnder, regime_under, asked_under};
+ghost use Rattle.stage1_walk.specs.SoundSteps.{IsSoundStep};
 
 use attributes::types::{mair, share};
 use bitwords::power;
 use descriptors::{Kind1, decode1};
 use fault_codes::{Class, Fault, Stage};
 use geometry::{case_table, goes_to, leaf_class};
-use permissions::{Bits1, TableBits, allows1, perms1};
+use permissions::{TableBits, allows1, perms1};
 use sysregs::{Config, Side};
+use table_reads::{Sizes, Step, Walker, is_too_large, level};
 use trails::Access;
-use walk_spec::{Leaf1, Sizes};
+use walk_spec::{Entry1, Fields1, Leaf1, Table1};
 
-/// Where a word leads: the next table with the joined bits of the tables so far, a leaf, or a fault.
-#[derive(Clone, Copy, Debug, PartialEq, Eq)]
-pub(crate) enum Step {
-    Down { table: u64, bits: TableBits },
-    Reached { leaf: Leaf1 },
-    Stopped { fault: Fault },
+/// What a walk through stage 1 is done under. `address` is the access's without its tag.
+#[derive(Clone, Copy)]
+pub(crate) struct Under<'a> {
+    pub config: &'a Config,
+    pub access: &'a Access,
+    pub address: u64,
+    pub sizes: Sizes,
+    pub side: Side,
 }
 
-/// A word's place in bytes, the levels left below it, and the address that it is read for, without its tag.
-#[derive(Clone, Copy, Debug, PartialEq, Eq)]
-pub(crate) struct Entry {
-    pub pa: u64,
-    pub x: u64,
-    pub left: u32,
-}
-
-/// The fields of a leaf.
-#[derive(Clone, Copy, Debug, PartialEq, Eq)]
-struct Fields {
-    out: u64,
-    attr_index: u32,
-    sh: u32,
-    own: Bits1,
-    global: bool,
-    contiguous: bool,
-}
-
-/// The level with so many levels left.
-pub(crate) fn level(left: u32) -> i8
-    requires { left ≤ 3 }
-    ensures { result ≡ level_of left }
+/// Stage 1 at moment 0.
+pub(crate) fn walker() -> Walker
+    ensures { result ≡ Rattle.stage1_walk.specs.Under.walker }
 {
-    3 - left as i8
-}
-
-/// A fault of stage 1 with so many levels left.
-pub(crate) fn fault(class: Class, left: u32) -> Fault
-    requires { left ≤ 3 }
-    ensures value { result ≡ fault_at S1 false class left }
-    ensures status { HasStatus result }
-{
-    Fault {
+    Walker {
+        moment: 0,
         stage: Stage::S1,
-        level: level(left),
-        class,
         s1ptw: false,
     }
 }
 
-fn decode_at<const G: u32>(left: u32, w: u64, config: &Config, side: Side) -> Kind1
-    requires granule { IsGranule G }
-    requires left { left ≤ 3 }
-    ensures { result ≡ means1 G (hpd_of config.now side) left w }
+/// A fault with so many levels left.
+pub(crate) fn fault(class: Class, left: u32) -> Fault
+    requires { left ≤ most_left }
+    ensures value { result ≡ fault1 class left }
+    ensures status { HasStatus result }
 {
-    case_table!(level left; decode1::<G>(w, config, side))
+    table_reads::fault(&walker(), class, left)
+}
+
+fn decode_at<const G: u32>(left: u32, word: u64, config: &Config, side: Side) -> Kind1
+    requires granule { G ≡ granule_of (tg_of config.now side) }
+    requires left { left ≤ most_left }
+    ensures { result ≡ means1_of config.now side left word }
+{
+    case_table!(level left; decode1::<G>(word, config, side))
 }
 
 /// What a word means, and that it keeps to its bounds.
 #[tactic(auto, using(descriptors::proofs::Bounds::bounded1))]
-fn meaning<const G: u32>(left: u32, w: u64, config: &Config, side: Side) -> Kind1
-    requires granule { IsGranule G }
-    requires left { left ≤ 3 }
-    ensures value { result ≡ means1 G (hpd_of config.now side) left w }
+fn meaning<const G: u32>(left: u32, word: u64, config: &Config, side: Side) -> Kind1
+    requires granule { G ≡ granule_of (tg_of config.now side) }
+    requires left { left ≤ most_left }
+    ensures value { result ≡ means1_of config.now side left word }
     ensures bounded { IsBounded1 left result }
 {
-    decode_at::<G>(left, w, config, side)
+    decode_at::<G>(left, word, config, side)
 }
 
 /// The byte of `MAIR_EL1` that AttrIndx names.
@@ -112,51 +90,48 @@ fn joined(bits: TableBits, more: TableBits) -> TableBits
     }
 }
 
-fn leaf<const G: u32>(
-    config: &Config,
-    side: Side,
-    sizes: &Sizes,
-    entry: &Entry,
-    bits: TableBits,
-    word: &Fields,
-) -> Leaf1
-    requires granule { IsGranule G }
-    requires stage { G ≡ sizes.now.granule }
-    requires left { entry.now.left ≤ 3 }
-    requires word { word.now.out < 2 ^ 52 × word.now.attr_index < 8 × word.now.sh < 4 }
-    ensures { result ≡ leaf1_of (regime_with config.now side sizes.now) entry.now.x entry.now.left bits entry.now.pa word.now.out word.now.attr_index word.now.own word.now.sh word.now.global word.now.contiguous }
+/// What a block or page gives whose word stands at a physical place.
+fn leaf<const G: u32>(under: &Under, entry: &Entry1, place: u64, fields: &Fields1) -> Leaf1
+    requires granule { G ≡ granule_of (tg_of under.now.config.now under.now.side) }
+    requires under { IsUnder under.now }
+    requires left { entry.now.left ≤ most_left }
+    requires fields { fields.now.out < 2 ^ 52 × fields.now.attr_index < 8 × fields.now.sh < 4 }
+    ensures { result ≡ leaf1_of (regime_under under.now) entry.now place fields.now }
 {
-    let class = leaf_class::<G>(sizes.input, entry.left, word.out, word.contiguous, entry.pa);
+    let config = under.config;
+    let class = leaf_class::<G>(
+        under.sizes.input,
+        entry.left,
+        fields.out,
+        fields.contiguous,
+        place,
+    );
     Leaf1 {
-        out: goes_to(word.out, class, entry.x),
+        out: goes_to(fields.out, class, entry.address),
         class,
         level: level(entry.left),
-        perms: perms1(word.own, bits, config.ha1 & config.hd1, config.wxn),
-        mem: mair(attr_byte(config.mair, word.attr_index)),
-        sh: share(word.sh),
-        global: word.global,
+        perms: perms1(
+            fields.bits,
+            entry.table.bits,
+            config.ha1 & config.hd1,
+            config.wxn,
+        ),
+        mem: mair(attr_byte(config.mair, fields.attr_index)),
+        sh: share(fields.sh),
+        global: fields.global,
     }
 }
 
-/// The joined UXN of a leaf.
-fn uxn(own: Bits1, bits: TableBits) -> bool
-    ensures { result ≡ is_uxn own bits }
-{
-    own.uxn | bits.uxn
-}
-
-/// A leaf that stage 1 permits the access, or a permission fault.
-fn judge(
+/// A leaf that stage 1 permits the access, or a permission fault. `uxn` is the joined UXN.
+fn permit(
     config: &Config,
-    side: Side,
-    sizes: &Sizes,
     access: &Access,
     left: u32,
     uxn: bool,
     leaf: Leaf1,
-) -> Step
-    requires { left ≤ 3 }
-    ensures value { seen_step result ≡ judged1 (regime_with config.now side sizes.now) true access.now left uxn leaf }
+) -> Step<Leaf1, Table1>
+    requires { left ≤ most_left }
+    ensures value { result ≡ judged1 config.now true access.now left uxn leaf }
     ensures sound { IsSoundStep left result }
 {
     if allows1(
@@ -169,82 +144,67 @@ fn judge(
     ) {
         Step::Reached { leaf }
     } else {
-        Step::Stopped {
-            fault: fault(Class::Permission, left),
-        }
+        stop(Class::Permission, left)
     }
 }
 
-/// What a word leads to, for an access that is judged.
-#[tactic(auto, unfolding(walk_spec::specs::First::step1))]
+/// A step that ends in a fault.
+fn stop(class: Class, left: u32) -> Step<Leaf1, Table1>
+    requires { left ≤ most_left }
+    ensures value { result ≡ Step.Stopped (fault1 class left) }
+    ensures sound { IsSoundStep left result }
+{
+    Step::Stopped {
+        fault: fault(class, left),
+    }
+}
+
+/// What a word leads to that stands at a physical place, for an access that is judged.
+#[tactic(auto, unfolding(walk_spec::specs::Stage1::step1))]
 pub(crate) fn step_by<const G: u32>(
-    config: &Config,
-    side: Side,
-    sizes: &Sizes,
-    access: &Access,
-    entry: &Entry,
-    bits: TableBits,
+    under: &Under,
+    entry: &Entry1,
+    place: u64,
     word: u64,
-) -> Step
-    requires granule { IsGranule G }
-    requires stage { G ≡ sizes.now.granule }
-    requires sound { AreSound sizes.now }
-    requires left { entry.now.left ≤ 3 }
-    ensures value { seen_step result ≡ step1 (regime_with config.now side sizes.now) true access.now entry.now.x entry.now.left bits entry.now.pa word }
+) -> Step<Leaf1, Table1>
+    requires granule { G ≡ granule_of (tg_of under.now.config.now under.now.side) }
+    requires under { IsUnder under.now }
+    requires left { entry.now.left ≤ most_left }
+    ensures value { result ≡ step1 (asked_under under.now) entry.now place word }
     ensures sound { IsSoundStep entry.now.left result }
 {
-    match meaning::<G>(entry.left, word, config, side) {
-        Kind1::Invalid => Step::Stopped {
-            fault: fault(Class::Translation, entry.left),
+    let left = entry.left;
+    match meaning::<G>(left, word, under.config, under.side) {
+        Kind1::Invalid => stop(Class::Translation, left),
+        Kind1::Table { next, .. } | Kind1::Leaf { out: next, .. }
+            if is_too_large(&under.sizes, next) => stop(Class::AddressSize, left),
+        Kind1::Table { next, bits } => Step::Down {
+            table: Table1 {
+                address: next,
+                bits: joined(entry.table.bits, bits),
+            },
         },
-        Kind1::Table { next, bits: more } => {
-            if next >= power(sizes.output) {
-                return Step::Stopped {
-                    fault: fault(Class::AddressSize, entry.left),
-                };
-            }
-            Step::Down {
-                table: next,
-                bits: joined(bits, more),
-            }
-        }
+        Kind1::Leaf { af, .. } if !(af | under.config.ha1) => stop(Class::AccessFlag, left),
         Kind1::Leaf {
             out,
             attr_index,
-            bits: own,
+            bits,
             sh,
-            af,
             global,
             contiguous,
+            ..
         } => {
-            if out >= power(sizes.output) {
-                return Step::Stopped {
-                    fault: fault(Class::AddressSize, entry.left),
-                };
-            }
-            if !(af | config.ha1) {
-                return Step::Stopped {
-                    fault: fault(Class::AccessFlag, entry.left),
-                };
-            }
-            let word = Fields {
+            let fields = Fields1 {
                 out,
                 attr_index,
                 sh,
-                own,
+                bits,
                 global,
                 contiguous,
             };
-            let leaf = leaf::<G>(config, side, sizes, entry, bits, &word);
-            judge(
-                config,
-                side,
-                sizes,
-                access,
-                entry.left,
-                uxn(own, bits),
-                leaf,
-            )
+            let uxn = bits.uxn | entry.table.bits.uxn;
+            let leaf = leaf::<G>(under, entry, place, &fields);
+            permit(under.config, under.access, left, uxn, leaf)
         }
     }
 }

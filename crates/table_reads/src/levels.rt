@@ -13,12 +13,15 @@ pub struct Walker {
     pub s1ptw: bool,
 }
 
+/// How many levels are left below level 0, of which a fault is that has no word.
+pub const MOST_LEFT: u32 = 3;
+
 /// The level with so many levels left, from 0 to 3.
 pub fn level(left: u32) -> i8
     requires { left ≤ most_left }
     ensures { result ≡ level_of left }
 {
-    3 - left as i8
+    MOST_LEFT as i8 - left as i8
 }
 
 /// The levels left below a level from 0 to 3.
@@ -27,7 +30,7 @@ pub fn left_below(level: i8) -> u32
     requires most { level ≤ℤ pos 3 }
     ensures { result ≡ Rattle.geometry.specs.Tables.left_below level }
 {
-    (3 - level) as u32
+    (MOST_LEFT as i8 - level) as u32
 }
 
 /// A fault with so many levels left.

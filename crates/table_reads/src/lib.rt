@@ -9,7 +9,7 @@ mod step;
 mod supply;
 
 pub use bases::{is_too_large, keep_base, start_base};
-pub use levels::{Walker, fault, left_below, level};
+pub use levels::{MOST_LEFT, Walker, fault, left_below, level};
 pub use reads::{place, read};
 pub use sizes::Sizes;
 pub use step::Step;

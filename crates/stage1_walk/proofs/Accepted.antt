@@ -1,17 +1,16 @@
 -- What an access that is not refused tells.
 use Rattle.std.proofs.Common.{◌≡◌, Bool, true, false, not, ◌||◌, refl}
-use Rattle.geometry.specs.Tables.{is_txsz}
+use Rattle.table_reads.specs.Numbers.{is_sized1}
 use Rattle.sysregs.specs.declared.regs.Config.{Config}
-use Rattle.sysregs.specs.Registers.{granule_of}
-use Rattle.sysregs.specs.Sides.{side_of, tg_of, txsz_of}
+use Rattle.sysregs.specs.Sides.{side_of}
 use Rattle.trails.specs.declared.outcome.Access.{Access}
-use Rattle.walk_spec.specs.Whole.{is_refused1}
+use Rattle.walk_spec.specs.BothStages.{is_refused1}
 
 first_true : (a b c d : Bool) → (((not a || b) || c) || d) ≡ false → a ≡ true
 first_true true b c d h = refl
 first_true false b c d h = absurd cc
 
 -- TxSZ is in range
-pub accepted_size : (c : Config) (a : Access) → is_refused1 c a ≡ false → is_txsz (granule_of (tg_of c (side_of a.va))) (txsz_of c (side_of a.va)) ≡ true
+pub accepted_size : (c : Config) (a : Access) → is_refused1 c a ≡ false → is_sized1 c (side_of a.va) ≡ true
 unfolding is_refused1
 accepted_size c a h = first_true _ _ _ _ h

@@ -1,0 +1,28 @@
+-- What a walk through stage 1 is done under.
+use Rattle.std.specs.Prelude.{◌≡◌, true, false}
+use Rattle.sysregs.specs.Registers.{granule_of}
+use Rattle.sysregs.specs.Sides.{tg_of}
+use Rattle.fault_codes.specs.declared.fault.Stage.TheVariants.{S1}
+use Rattle.table_reads.specs.declared.levels.Walker.{Walker}
+use Rattle.table_reads.specs.Numbers.{AreSound}
+use Rattle.walk_spec.specs.Needs.{Regime, regime_with}
+use Rattle.walk_spec.specs.Stage1.{Asked, untagged}
+use Rattle.stage1_walk.specs.declared.step.Under.{Under}
+
+-- the regime
+abbrev pub regime_under : (under : Under) → Regime
+regime_under u = regime_with u.config.now u.side u.sizes
+
+-- what is asked, for an access that is judged
+abbrev pub asked_under : (under : Under) → Asked
+asked_under u = record { regime = regime_under u; judged = true; access = u.access.now }
+
+-- the numbers are those of the side's granule, and the address is the access's without its tag
+pub record IsUnder (u : Under) : Type 0 where
+  pub sound : AreSound u.sizes
+  pub granule : u.sizes.granule ≡ granule_of (tg_of u.config.now u.side)
+  pub address : u.address ≡ untagged u.access.now.va
+
+-- stage 1 at moment 0
+abbrev pub walker : Walker
+walker = record { moment = 0; stage = S1; s1ptw = false }
