@@ -1,5 +1,5 @@
 -- How a walk of stage 1 goes on over the words of its tables, while stage 2 is off.
-use Rattle.std.proofs.Common.{◌≡◌, ℕ, zero, suc, ◌-◌, ◌<◌, List, [], ◌∷◌, ◌++◌, length, length-append, ◌+◌, refl, sym, ap, ◌∙◌, arith, Bool, true, false, cond, Result, Ok, Err}
+use Rattle.std.proofs.Common.{◌≡◌, ℕ, zero, suc, ◌-◌, ◌<◌, List, [], ◌∷◌, ◌++◌, refl, sym, ap, ◌∙◌, arith, Bool, true, false, cond, Result, Ok, Err}
 use Rattle.fault_codes.specs.declared.fault.Fault.{Fault}
 use Rattle.fault_codes.specs.declared.fault.Stage.TheVariants.{S1}
 use Rattle.fault_codes.specs.declared.fault.Class.TheVariants.{Translation}
@@ -23,10 +23,6 @@ use Rattle.walk_spec.specs.Walked.{ReadsWord, Walked, result_of}
 use Rattle.walk_spec.proofs.Walks.{walked_lacks, walked_ends, walked_goes}
 use Rattle.stage1_walk.specs.declared.step.Under.{Under}
 use Rattle.stage1_walk.specs.Under.{IsUnder, asked_under}
-
--- a list with one more item
-pub one_longer : (old new : List Item) (i : Item) → new ≡ old ++ i ∷ [] → length new ≡ length old + 1
-one_longer old new i e = ap length e ∙ length-append old (i ∷ [])
 
 -- the walk from the next table, if there is a level below
 abbrev pub walk1_below : (q : Asked) (left : ℕ) (table : Table1) → Ask Entry1 Item (End Leaf1)

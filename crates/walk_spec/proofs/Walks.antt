@@ -1,6 +1,5 @@
 -- How code that walks over a supply goes on, ends and lacks a word.
-use Rattle.std.proofs.Common.{◌≡◌, ℕ, ◌≤◌, List, [], ◌∷◌, ◌++◌, refl, sym, ap, ◌∙◌, arith, append_assoc, append-nil, inl, inr, Err, Result}
-use Rattle.std.specs.Prelude.{Some, None}
+use Rattle.std.proofs.Common.{◌≡◌, ℕ, List, [], ◌∷◌, ◌++◌, refl, sym, ap, ◌∙◌, append_assoc, append-nil, ◌+◌, length, length-append, Err, Result}
 use Rattle.geometry.specs.Tables.{level_of}
 use Rattle.trails.specs.declared.item.Item.{Item}
 use Rattle.trails.specs.declared.outcome.Stop.{Stop}
@@ -12,6 +11,10 @@ use Rattle.table_reads.specs.Memory.{Told, Misses}
 use Rattle.walk_spec.specs.Walked.{LacksFor, Walked, result_of}
 use Rattle.table_reads.proofs.Weaker.{misses_weaker}
 use Rattle.walk_spec.proofs.Feeding.{took_weaker}
+
+-- a list with one more item
+pub one_longer : (old new : List Item) (i : Item) → new ≡ old ++ i ∷ [] → length new ≡ length old + 1
+one_longer old new i e = ap length e ∙ length-append old (i ∷ [])
 
 pub lacks_weaker : {A : Type 0} (m : Told) (F G : Type 0) → (F → G) → (e : Fed Need A) → LacksFor m F e → LacksFor m G e
 lacks_weaker m F G f (ended a) h = tt

@@ -1,6 +1,7 @@
 use Rattle.std.proofs.Common.{rules, arith, ◌≡◌, ◌+◌, length, Err, refl, ap, ◌∙◌}
 use Rattle.table_reads.proofs.Weaker.{rose_weaker}
-use Rattle.stage1_walk.proofs.OnWords.{one_longer, entry_here, word_lacks, word_reaches, word_stops, word_goes}
+use Rattle.walk_spec.proofs.Walks.{one_longer}
+use Rattle.stage1_walk.proofs.OnWords.{entry_here, word_lacks, word_reaches, word_stops, word_goes}
 use Rattle.stage1_walk.proofs.walk.+walk_left.Goals as goal
 
 pub returns-in_err-word-clause-walked : goal.returns-in_err-word-clause-walked

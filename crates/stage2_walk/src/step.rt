@@ -1,0 +1,144 @@
+ghost use Rattle.std.specs.Prelude.{◌≡◌, ◌≤◌, ◌<◌, ◌^◌};
+ghost use Rattle.geometry.specs.Tables.{most_left};
+ghost use Rattle.sysregs.specs.Registers.{granule_of};
+ghost use Rattle.descriptors.specs.Meaning.{means2_of};
+ghost use Rattle.descriptors.specs.Bounds.{IsBounded2};
+ghost use Rattle.walk_spec.specs.Stage2.{fault2, leaf2_of, step2};
+ghost use Rattle.stage2_walk.specs.Under.{IsUnder, asked_under, walker_under};
+ghost use Rattle.stage2_walk.specs.SoundSteps.{IsSoundStep};
+
+use attributes::types::{s2_attr, share};
+use descriptors::{Kind2, decode2};
+use fault_codes::{Class, Stage};
+use geometry::{case_table, goes_to, leaf_class};
+use permissions::perms2;
+use sysregs::Config;
+use table_reads::{Sizes, Step, Walker, fault, is_too_large, level};
+use walk_spec::{Fields2, Leaf2};
+
+/// What a walk through stage 2 is done under: `s1ptw` marks the place of a stage 1 descriptor.
+#[derive(Clone, Copy)]
+pub(crate) struct Under<'a> {
+    pub config: &'a Config,
+    pub ipa: u64,
+    pub sizes: Sizes,
+    pub moment: u32,
+    pub s1ptw: bool,
+}
+
+impl<'a> Under<'a> {
+    /// Stage 2 with this mark at this moment.
+    pub fn walker(&self) -> Walker
+        ensures { result ≡ walker_under self.now }
+    {
+        Walker {
+            moment: self.moment,
+            stage: Stage::S2,
+            s1ptw: self.s1ptw,
+        }
+    }
+}
+
+fn decode_at<const G: u32>(left: u32, word: u64, config: &Config) -> Kind2
+    requires granule { G ≡ granule_of config.now.tg2 }
+    requires left { left ≤ most_left }
+    ensures { result ≡ means2_of config.now left word }
+{
+    case_table!(level left; decode2::<G>(word, config))
+}
+
+/// What a word means, and that it keeps to its bounds.
+#[tactic(auto, using(descriptors::proofs::Bounds::bounded2))]
+fn meaning<const G: u32>(left: u32, word: u64, config: &Config) -> Kind2
+    requires granule { G ≡ granule_of config.now.tg2 }
+    requires left { left ≤ most_left }
+    ensures value { result ≡ means2_of config.now left word }
+    ensures bounded { IsBounded2 left result }
+{
+    decode_at::<G>(left, word, config)
+}
+
+/// What a block or page gives whose word stands at a place.
+fn leaf<const G: u32>(under: &Under, left: u32, place: u64, fields: &Fields2) -> Leaf2
+    requires granule { G ≡ granule_of under.now.config.now.tg2 }
+    requires under { IsUnder under.now }
+    requires left { left ≤ most_left }
+    requires fields { fields.now.out < 2 ^ 52 × fields.now.mem_attr < 16 × fields.now.xn < 4 × fields.now.sh < 4 }
+    ensures { result ≡ leaf2_of (asked_under under.now) left place fields.now }
+{
+    let dirty = under.config.ha2 & under.config.hd2;
+    let class = leaf_class::<G>(
+        under.sizes.input,
+        left,
+        fields.out,
+        fields.contiguous,
+        place,
+    );
+    Leaf2 {
+        pa: goes_to(fields.out, class, under.ipa),
+        class,
+        level: level(left),
+        perms: perms2(fields.read, fields.write, fields.xn, fields.dbm, dirty),
+        mem: s2_attr(fields.mem_attr),
+        sh: share(fields.sh),
+    }
+}
+
+/// A step that ends in a fault.
+fn stop(under: &Under, class: Class, left: u32) -> Step<Leaf2, u64>
+    requires { left ≤ most_left }
+    ensures value { result ≡ Step.Stopped (fault2 (asked_under under.now) class left) }
+    ensures sound { IsSoundStep left result }
+{
+    Step::Stopped {
+        fault: fault(&under.walker(), class, left),
+    }
+}
+
+/// What a word leads to that stands at a place.
+#[tactic(auto, unfolding(walk_spec::specs::Stage2::step2))]
+pub(crate) fn step_by<const G: u32>(
+    under: &Under,
+    left: u32,
+    place: u64,
+    word: u64,
+) -> Step<Leaf2, u64>
+    requires granule { G ≡ granule_of under.now.config.now.tg2 }
+    requires under { IsUnder under.now }
+    requires left { left ≤ most_left }
+    ensures value { result ≡ step2 (asked_under under.now) left place word }
+    ensures sound { IsSoundStep left result }
+{
+    match meaning::<G>(left, word, under.config) {
+        Kind2::Invalid => stop(under, Class::Translation, left),
+        Kind2::Table { next } | Kind2::Leaf { out: next, .. } if is_too_large(&under.sizes, next) =>
+            stop(under, Class::AddressSize, left),
+        Kind2::Table { next } => Step::Down { table: next },
+        Kind2::Leaf { af, .. } if !(af | under.config.ha2) => stop(under, Class::AccessFlag, left),
+        Kind2::Leaf {
+            out,
+            mem_attr,
+            read,
+            write,
+            xn,
+            sh,
+            dbm,
+            contiguous,
+            ..
+        } => {
+            let fields = Fields2 {
+                out,
+                mem_attr,
+                xn,
+                sh,
+                read,
+                write,
+                dbm,
+                contiguous,
+            };
+            Step::Reached {
+                leaf: leaf::<G>(under, left, place, &fields),
+            }
+        }
+    }
+}

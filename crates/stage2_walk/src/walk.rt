@@ -1,0 +1,85 @@
+ghost use Rattle.std.specs.Prelude.{◌≡◌, ◌+◌, ◌-◌, ◌≤◌, ◌<◌, ◌^◌, ◌%◌, length, IsFalse, IfErr};
+ghost use Rattle.bitwords.specs.Causes.{Rose};
+ghost use Rattle.geometry.specs.Tables.{left_below};
+ghost use Rattle.sysregs.specs.Registers.{InRange, granule_of};
+ghost use Rattle.trails.specs.Length.{most_items};
+ghost use Rattle.walk_spec.specs.Stage2.{is_refused2};
+ghost use Rattle.walk_spec.specs.Walked.{HasLineStop};
+ghost use Rattle.stage2_walk.specs.Under.{IsUnder, asked_under};
+ghost use Rattle.stage2_walk.specs.Clauses.{IsTableOf, WalkedLeft, WalkedFrom};
+
+use crate::sizes::sizes2;
+use crate::step::{Under, step_by};
+use sysregs::Config;
+use table_reads::{Step, Supply, left_below, place, read};
+use trails::{Stop, Trail};
+use walk_spec::Leaf2;
+
+/// A stage 2 table to walk from: its level, and its base in bytes.
+#[derive(Clone, Copy, Debug, PartialEq, Eq)]
+pub struct From2 {
+    pub base: u64,
+    pub level: i8,
+}
+
+/// The walk from a table with so many levels left.
+fn walk_left<const G: u32, S: Supply>(
+    under: &Under,
+    left: u32,
+    table: u64,
+    supply: &mut S,
+    trail: &mut Trail,
+) -> Result<Leaf2, Stop>
+    requires granule { G ≡ granule_of under.now.config.now.tg2 }
+    requires under { IsUnder under.now }
+    requires left { left ≤ under.now.sizes.start }
+    requires table { table < 2 ^ 52 × table % 8 ≡ 0 }
+    requires room { length trail.old + left < most_items }
+    ensures same { S.memory supply.new ≡ S.memory supply.old }
+    ensures later { S.faults supply.old ≤ S.faults supply.new }
+    ensures kept { S.keeps supply.old supply.new }
+    ensures most { length trail.new ≤ length trail.old + left + 1 }
+    ensures line { IfErr result HasLineStop }
+    ensures walked { WalkedLeft (S.memory supply.old) (Rose (S.faults supply.old) (S.faults supply.new)) under.now left table trail.old trail.new result }
+{
+    let place = place::<G>(&under.sizes, left, table, under.ipa);
+    let word = read(&under.walker(), left, place, supply, trail)?;
+    match step_by::<G>(under, left, place, word) {
+        Step::Down { table } => walk_left::<G, S>(under, left - 1, table, supply, trail),
+        Step::Reached { leaf } => Ok(leaf),
+        Step::Stopped { fault } => Err(Stop::Fault { fault }),
+    }
+}
+
+/// The walk through stage 2 from a table down to a leaf, for an IPA that is not refused. `ptw` marks the place of a
+/// stage 1 descriptor. The items of its words are appended, with moment `now`.
+pub fn walk2<const G: u32, S: Supply>(
+    config: &Config,
+    from: &From2,
+    ipa: u64,
+    ptw: bool,
+    now: u32,
+    supply: &mut S,
+    trail: &mut Trail,
+) -> Result<Leaf2, Stop>
+    requires config { InRange config.now }
+    requires granule { G ≡ granule_of config.now.tg2 }
+    requires accepted { IsFalse (is_refused2 config.now ipa) }
+    requires table { IsTableOf config.now from.now }
+    requires room { length trail.old + left_below from.now.level < most_items }
+    ensures same { S.memory supply.new ≡ S.memory supply.old }
+    ensures later { S.faults supply.old ≤ S.faults supply.new }
+    ensures kept { S.keeps supply.old supply.new }
+    ensures most { length trail.new ≤ length trail.old + left_below from.now.level + 1 }
+    ensures line { IfErr result HasLineStop }
+    ensures walked { WalkedFrom (S.memory supply.old) (Rose (S.faults supply.old) (S.faults supply.new)) (record { config = config.now; ipa = ipa; s1ptw = ptw; moment = now; from = from.now }) trail.old trail.new result }
+{
+    let under = Under {
+        config,
+        ipa,
+        sizes: sizes2(config),
+        moment: now,
+        s1ptw: ptw,
+    };
+    walk_left::<G, S>(&under, left_below(from.level), from.base, supply, trail)
+}
