@@ -1,3 +1,2 @@
-pub mod OnWords
 pub mod Accepted
-pub mod SingleStage
+pub mod OnEntries

@@ -4,9 +4,7 @@ pub use Rattle.walk_spec.specs.Steps
 pub use Rattle.walk_spec.specs.Stage2
 pub use Rattle.walk_spec.specs.Stage1
 pub use Rattle.walk_spec.specs.BothStages
-pub use Rattle.walk_spec.specs.Fresh
-pub use Rattle.walk_spec.specs.Walked
+pub mod Gave
 pub mod Under
 pub mod SoundSteps
 pub mod Clauses
-pub mod Outcomes

@@ -1,9 +1,7 @@
 -- What a walk through stage 1 is done under.
-use Rattle.std.specs.Prelude.{◌≡◌, true, false}
+use Rattle.std.specs.Prelude.{◌≡◌, true}
 use Rattle.sysregs.specs.Registers.{granule_of}
 use Rattle.sysregs.specs.Sides.{tg_of}
-use Rattle.fault_codes.specs.declared.fault.Stage.TheVariants.{S1}
-use Rattle.table_reads.specs.declared.levels.Walker.{Walker}
 use Rattle.table_reads.specs.Numbers.{AreSound}
 use Rattle.walk_spec.specs.Needs.{Regime, regime_with}
 use Rattle.walk_spec.specs.Stage1.{Asked, untagged}
@@ -22,7 +20,3 @@ pub record IsUnder (u : Under) : Type 0 where
   pub sound : AreSound u.sizes
   pub granule : u.sizes.granule ≡ granule_of (tg_of u.config.now u.side)
   pub address : u.address ≡ untagged u.access.now.va
-
--- stage 1 at moment 0
-abbrev pub walker : Walker
-walker = record { moment = 0; stage = S1; s1ptw = false }

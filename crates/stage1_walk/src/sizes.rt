@@ -9,7 +9,7 @@ use table_reads::Sizes;
 
 /// The numbers of stage 1 for a side whose TxSZ is in range.
 #[tactic(auto, unfolding(table_reads::specs::Numbers::sizes1))]
-pub(crate) fn sizes1(config: &Config, side: Side) -> Sizes
+pub fn sizes1(config: &Config, side: Side) -> Sizes
     requires config { InRange config.now }
     requires txsz { IsTrue (is_sized1 config.now side) }
     ensures value { result ≡ Rattle.table_reads.specs.Numbers.sizes1 config.now side }

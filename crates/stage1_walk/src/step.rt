@@ -32,24 +32,18 @@ pub(crate) struct Under<'a> {
     pub side: Side,
 }
 
-/// Stage 1 at moment 0.
-pub(crate) fn walker() -> Walker
-    ensures { result ≡ Rattle.stage1_walk.specs.Under.walker }
-{
-    Walker {
-        moment: 0,
-        stage: Stage::S1,
-        s1ptw: false,
-    }
-}
-
 /// A fault with so many levels left.
-pub(crate) fn fault(class: Class, left: u32) -> Fault
+fn fault(class: Class, left: u32) -> Fault
     requires { left ≤ most_left }
     ensures value { result ≡ fault1 class left }
     ensures status { HasStatus result }
 {
-    table_reads::fault(&walker(), class, left)
+    let walker = Walker {
+        moment: 0,
+        stage: Stage::S1,
+        s1ptw: false,
+    };
+    table_reads::fault(&walker, class, left)
 }
 
 fn decode_at<const G: u32>(left: u32, word: u64, config: &Config, side: Side) -> Kind1

@@ -1,21 +1,20 @@
-ghost use Rattle.std.specs.Prelude.{◌≡◌, ◌+◌, ◌-◌, ◌≤◌, ◌<◌, ◌^◌, ◌%◌, length, pos, IsFalse, IfErr};
-ghost use Rattle.bitwords.specs.Causes.{Rose};
-ghost use Rattle.geometry.specs.Tables.{left_below};
+ghost use Rattle.std.specs.Prelude.{◌≡◌, ◌+◌, ◌-◌, ◌*◌, ◌≤◌, ◌<◌, ◌^◌, ◌%◌, length, true, IsFalse, IfErr};
+ghost use Rattle.geometry.specs.Tables.{most_left, left_below, level_of};
 ghost use Rattle.sysregs.specs.Registers.{InRange, granule_of};
 ghost use Rattle.sysregs.specs.Sides.{side_of, tg_of};
-ghost use Rattle.trails.specs.Length.{most_items};
-ghost use Rattle.table_reads.specs.Places.{place_of};
-ghost use Rattle.walk_spec.specs.Stage1.{untagged, entry1};
-ghost use Rattle.walk_spec.specs.BothStages.{is_refused1};
-ghost use Rattle.walk_spec.specs.Walked.{HasLineStop};
+ghost use Rattle.trails.specs.Length.{most_items, most_per_word};
+ghost use Rattle.walk_spec.specs.Stage1.{untagged};
+ghost use Rattle.walk_spec.specs.BothStages.{asked, is_refused1};
 ghost use Rattle.stage1_walk.specs.Under.{IsUnder, asked_under};
-ghost use Rattle.stage1_walk.specs.Clauses.{IsTableOf, WalkedLeft, WalkedFrom};
+ghost use Rattle.stage1_walk.specs.Clauses.{IsTableOf, table_from};
+ghost use Rattle.stage1_walk.specs.Gave.{Gave, HasCode, IsLastPlace, Walked1};
 
 use crate::sizes::sizes1;
-use crate::step::{Under, step_by, walker};
+use crate::step::{Under, step_by};
+use crate::supply::Supply1;
 use permissions::TableBits;
 use sysregs::Config;
-use table_reads::{Step, Supply, left_below, place, read};
+use table_reads::{Step, left_below, level, place};
 use trails::{Access, Stop, Trail};
 use walk_spec::{Entry1, Leaf1, Table1};
 
@@ -27,8 +26,30 @@ pub struct From1 {
     pub tables: TableBits,
 }
 
+/// The physical place of the last item.
+fn last_place(trail: &Trail) -> u64
+    requires { 0 < length trail.now }
+    ensures { IsLastPlace trail.now result }
+{
+    match trail.items().split_last() {
+        Some((item, _)) => item.pa,
+        None => unreachable!(),
+    }
+}
+
+/// The word of an entry.
+fn word_of<S: Supply1>(entry: &Entry1, supply: &mut S, trail: &mut Trail) -> Result<u64, Stop>
+    requires left { entry.now.left ≤ most_left }
+    requires aligned { entry.now.place % 8 ≡ 0 }
+    requires room { length trail.old + most_per_word ≤ most_items }
+    ensures gave { Gave (S.gives supply.old (level_of entry.now.left) entry.now.place) trail.old trail.new result supply.new }
+    ensures code { IfErr result HasCode }
+{
+    supply.word_at(level(entry.left), entry.place, trail)
+}
+
 /// The walk from a table with so many levels left.
-fn walk_left<const G: u32, S: Supply>(
+fn walk_left<const G: u32, S: Supply1>(
     under: &Under,
     left: u32,
     table: Table1,
@@ -37,15 +58,12 @@ fn walk_left<const G: u32, S: Supply>(
 ) -> Result<Leaf1, Stop>
     requires granule { G ≡ granule_of (tg_of under.now.config.now under.now.side) }
     requires under { IsUnder under.now }
-    requires alone { IsFalse under.now.config.now.vm }
     requires left { left ≤ under.now.sizes.start }
     requires table { table.address < 2 ^ 52 × table.address % 8 ≡ 0 }
-    requires room { length trail.old + left < most_items }
-    ensures same { S.memory supply.new ≡ S.memory supply.old }
-    ensures later { S.faults supply.old ≤ S.faults supply.new }
-    ensures kept { S.keeps supply.old supply.new }
-    ensures line { IfErr result HasLineStop }
-    ensures walked { WalkedLeft (S.memory supply.old) (Rose (S.faults supply.old) (S.faults supply.new)) (asked_under under.now) left table trail.old trail.new result }
+    requires room { length trail.old + most_per_word * (left + 1) ≤ most_items }
+    ensures most { length trail.new ≤ length trail.old + most_per_word * (left + 1) }
+    ensures code { IfErr result HasCode }
+    ensures walked { Walked1 S.gives (asked_under under.now) left table supply.old trail.old trail.new result supply.new }
 {
     let entry = Entry1 {
         table,
@@ -53,8 +71,8 @@ fn walk_left<const G: u32, S: Supply>(
         address: under.address,
         left,
     };
-    let word = read(&walker(), left, entry.place, supply, trail)?;
-    match step_by::<G>(under, &entry, entry.place, word) {
+    let word = word_of(&entry, supply, trail)?;
+    match step_by::<G>(under, &entry, last_place(trail), word) {
         Step::Down { table } => walk_left::<G, S>(under, left - 1, table, supply, trail),
         Step::Reached { leaf } => Ok(leaf),
         Step::Stopped { fault } => Err(Stop::Fault { fault }),
@@ -68,9 +86,8 @@ fn untagged(va: u64) -> u64
     va % (1 << 56)
 }
 
-/// The walk through stage 1 from a table down to a leaf, while stage 2 is off. The items of its words are appended,
-/// with moment 0.
-pub fn walk1<const G: u32, S: Supply>(
+/// The walk through stage 1 from a table down to a leaf, over any supply of its words, which appends their items.
+pub fn walk1<const G: u32, S: Supply1>(
     config: &Config,
     access: &Access,
     from: &From1,
@@ -78,16 +95,13 @@ pub fn walk1<const G: u32, S: Supply>(
     trail: &mut Trail,
 ) -> Result<Leaf1, Stop>
     requires config { InRange config.now }
-    requires alone { IsFalse config.now.vm }
     requires granule { G ≡ granule_of (tg_of config.now (side_of access.now.va)) }
     requires accepted { IsFalse (is_refused1 config.now access.now) }
     requires table { IsTableOf config.now access.now from.now }
-    requires room { length trail.old + left_below from.now.level < most_items }
-    ensures same { S.memory supply.new ≡ S.memory supply.old }
-    ensures later { S.faults supply.old ≤ S.faults supply.new }
-    ensures kept { S.keeps supply.old supply.new }
-    ensures line { IfErr result HasLineStop }
-    ensures walked { WalkedFrom (S.memory supply.old) (Rose (S.faults supply.old) (S.faults supply.new)) config.now access.now from.now trail.old trail.new result }
+    requires room { length trail.old + most_per_word * (left_below from.now.level + 1) ≤ most_items }
+    ensures most { length trail.new ≤ length trail.old + most_per_word * (left_below from.now.level + 1) }
+    ensures code { IfErr result HasCode }
+    ensures walked { Walked1 S.gives (asked config.now true access.now) (left_below from.now.level) (table_from from.now) supply.old trail.old trail.new result supply.new }
 {
     let side = sysregs::side(access.va);
     let under = Under {

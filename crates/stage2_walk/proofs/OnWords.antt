@@ -1,5 +1,6 @@
 -- How a walk of stage 2 goes on over the words of its tables.
 use Rattle.std.proofs.Common.{◌≡◌, ℕ, zero, suc, ◌-◌, ◌<◌, List, [], ◌∷◌, ◌++◌, refl, sym, ap, ◌∙◌, arith, Result, Ok, Err}
+use Rattle.geometry.specs.Tables.{level_of}
 use Rattle.fault_codes.specs.declared.fault.Fault.{Fault}
 use Rattle.fault_codes.specs.declared.fault.Stage.TheVariants.{S2}
 use Rattle.fault_codes.specs.declared.fault.Class.TheVariants.{Translation}
@@ -48,9 +49,9 @@ module _ (m : Told) (k : ℕ) (q : Asked2) (left table p : ℕ) (here : p ≡ pl
   pub word_lacks : (F : Type 0) (old new : List Item) (s : Result Leaf2 Stop) → new ≡ old → s ≡ result_of (lacks (word (word_at q left table p))) → Misses m p F → Walked (ReadsWord k m) m F (walk2_from q left table) old new s
   word_lacks F old new s n a h = walked_lacks (ReadsWord k m) m F _ (word_at q left table p) _ old new s (asks_here q left table p here) n a h
 
-  module _ (v : ℕ) (old mid : List Item) (grown : mid ≡ old ++ word_item k S2 left p v ∷ []) (held : Holds m p v) where
+  module _ (v : ℕ) (old mid : List Item) (grown : mid ≡ old ++ word_item k S2 (level_of left) p v ∷ []) (held : Holds m p v) where
     word_ends : (F : Type 0) (d : End Leaf2) (s : Result Leaf2 Stop) → walk2_then q left (step2 q left p v) ≡ done d → s ≡ result_of (ended d) → Walked (ReadsWord k m) m F (walk2_from q left table) old mid s
-    word_ends F d s w a = walked_ends (ReadsWord k m) m F _ (word (word_at q left table p)) _ (word_item k S2 left p v) d old mid s (asks_here q left table p here) grown (refl, held) w a
+    word_ends F d s w a = walked_ends (ReadsWord k m) m F _ (word (word_at q left table p)) _ (word_item k S2 (level_of left) p v) d old mid s (asks_here q left table p here) grown (refl, held) w a
 
     -- the word is that of a leaf
     pub word_reaches : (F : Type 0) (l : Leaf2) (s : Result Leaf2 Stop) → Reached l ≡ step2 q left p v → s ≡ Ok l → Walked (ReadsWord k m) m F (walk2_from q left table) old mid s
@@ -64,4 +65,4 @@ module _ (m : Told) (k : ℕ) (q : Asked2) (left table p : ℕ) (here : p ≡ pl
     pub word_goes : (F G : Type 0) (next : ℕ) (new : List Item) (s : Result Leaf2 Stop) → Down next ≡ step2 q left p v → 0 < left → (F → G) → Walked (ReadsWord k m) m F (walk2_from q (left - 1) next) mid new s → Walked (ReadsWord k m) m G (walk2_from q left table) old new s
     word_goes F G next new s step l f h =
         let w : walk2_then q left (step2 q left p v) ≡ walk2_from q (left - 1) next = ap (walk2_then q left) (sym step) ∙ walk2_below_less q left next l in
-        walked_goes (ReadsWord k m) m F G _ (word (word_at q left table p)) _ (word_item k S2 left p v) _ old mid new s (asks_here q left table p here) grown (refl, held) w f h
+        walked_goes (ReadsWord k m) m F G _ (word (word_at q left table p)) _ (word_item k S2 (level_of left) p v) _ old mid new s (asks_here q left table p here) grown (refl, held) w f h

@@ -11,7 +11,7 @@ ghost use Rattle.stage2_walk.specs.Clauses.{IsTableOf, WalkedLeft, WalkedFrom};
 use crate::sizes::sizes2;
 use crate::step::{Under, step_by};
 use sysregs::Config;
-use table_reads::{Step, Supply, left_below, place, read};
+use table_reads::{Step, Supply, left_below, level, place, read};
 use trails::{Stop, Trail};
 use walk_spec::Leaf2;
 
@@ -43,7 +43,7 @@ fn walk_left<const G: u32, S: Supply>(
     ensures walked { WalkedLeft (S.memory supply.old) (Rose (S.faults supply.old) (S.faults supply.new)) under.now left table trail.old trail.new result }
 {
     let place = place::<G>(&under.sizes, left, table, under.ipa);
-    let word = read(&under.walker(), left, place, supply, trail)?;
+    let word = read(&under.walker(), level(left), place, supply, trail)?;
     match step_by::<G>(under, left, place, word) {
         Step::Down { table } => walk_left::<G, S>(under, left - 1, table, supply, trail),
         Step::Reached { leaf } => Ok(leaf),

@@ -1,5 +1,5 @@
 -- The items and the faults of a table.
-use Rattle.std.specs.Prelude.{ℕ, Bool}
+use Rattle.std.specs.Prelude.{ℕ, Bool, ℤ}
 use Rattle.geometry.specs.Tables.{level_of}
 use Rattle.fault_codes.specs.declared.fault.Stage.{Stage}
 use Rattle.fault_codes.specs.declared.fault.Class.{Class}
@@ -12,9 +12,9 @@ use Rattle.table_reads.specs.declared.sizes.Sizes.{Sizes}
 abbrev pub base_item : (moment : ℕ) (stage : Stage) (sizes : Sizes) (base : ℕ) → Item
 base_item k s n base = record { stage = s; level = level_of n.start; what = Base; pa = base; value = base; moment = k }
 
--- the item of a word with so many levels left, read at a moment
-abbrev pub word_item : (moment : ℕ) (stage : Stage) (left place value : ℕ) → Item
-word_item k s left place value = record { stage = s; level = level_of left; what = Word; pa = place; value = value; moment = k }
+-- the item of a word of a level, read at a moment
+abbrev pub word_item : (moment : ℕ) (stage : Stage) (level : ℤ) (place value : ℕ) → Item
+word_item k s level place value = record { stage = s; level = level; what = Word; pa = place; value = value; moment = k }
 
 -- a fault with so many levels left, with the mark s1ptw
 abbrev pub fault_at : (stage : Stage) (s1ptw : Bool) (class : Class) (left : ℕ) → Fault

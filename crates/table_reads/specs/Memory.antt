@@ -1,6 +1,5 @@
 -- Memory as a walk reads it, and what a read answers.
-use Rattle.std.specs.Prelude.{◌≡◌, ◌⊎◌, ℕ, List, [], ◌∷◌, ◌++◌, Option, Some, None, Result, Ok, Err}
-use Rattle.geometry.specs.Tables.{level_of}
+use Rattle.std.specs.Prelude.{◌≡◌, ◌⊎◌, ℕ, List, [], ◌∷◌, ◌++◌, ℤ, Option, Some, None, Result, Ok, Err}
 use Rattle.trails.specs.declared.item.Item.{Item}
 use Rattle.trails.specs.declared.outcome.Stop.{Stop}
 use Rattle.trails.specs.declared.outcome.Stop.TheVariants.{Absent}
@@ -30,8 +29,8 @@ abbrev pub Supplies : (told : Told) (place : ℕ) (failed : Type 0) (word : Opti
 Supplies m place failed (Some v) = Holds m place v
 Supplies m place failed None = Misses m place failed
 
--- A word with so many levels left was read at a place and appended, or it is lacking. (More than six parameters: what
+-- A word of a level was read at a place and appended, or it is lacking. (More than six parameters: what
 -- the supply tells, who reads what, and the trail before and after.)
-abbrev pub HasRead : (told : Told) (failed : Type 0) (walker : Walker) (left place : ℕ) (old new : List Item) (result : Result ℕ Stop) → Type 0
-HasRead m failed w left place old new (Ok v) = (new ≡ old ++ word_item w.moment w.stage left place v ∷ []) × Holds m place v
-HasRead m failed w left place old new (Err stop) = (new ≡ old) × (stop ≡ Absent w.stage (level_of left) place w.s1ptw) × Misses m place failed
+abbrev pub HasRead : (told : Told) (failed : Type 0) (walker : Walker) (level : ℤ) (place : ℕ) (old new : List Item) (result : Result ℕ Stop) → Type 0
+HasRead m failed w level place old new (Ok v) = (new ≡ old ++ word_item w.moment w.stage level place v ∷ []) × Holds m place v
+HasRead m failed w level place old new (Err stop) = (new ≡ old) × (stop ≡ Absent w.stage level place w.s1ptw) × Misses m place failed

@@ -1,12 +1,11 @@
 ghost use Rattle.std.specs.Prelude.{◌≡◌, ◌+◌, ◌≤◌, ◌<◌, ◌^◌, ◌%◌, length};
 ghost use Rattle.bitwords.specs.Causes.{Rose};
-ghost use Rattle.geometry.specs.Tables.{most_left};
 ghost use Rattle.trails.specs.Length.{most_items};
 ghost use Rattle.table_reads.specs.Numbers.{AreSound};
 ghost use Rattle.table_reads.specs.Places.{place_of};
 ghost use Rattle.table_reads.specs.Memory.{HasRead};
 
-use crate::levels::{Walker, level};
+use crate::levels::Walker;
 use crate::sizes::Sizes;
 use crate::supply::Supply;
 use trails::{Item, Stop, Trail, What};
@@ -24,21 +23,20 @@ pub fn place<const G: u32>(sizes: &Sizes, left: u32, table: u64, address: u64) -
     geometry::place::<G>(sizes.input, sizes.start, left, table, address)
 }
 
-/// Reads the word at a place and appends its item.
+/// Reads the word of a level at a place and appends its item.
 pub fn read<S: Supply>(
     walker: &Walker,
-    left: u32,
+    level: i8,
     place: u64,
     supply: &mut S,
     trail: &mut Trail,
 ) -> Result<u64, Stop>
-    requires left { left ≤ most_left }
     requires aligned { place % 8 ≡ 0 }
     requires room { length trail.old < most_items }
     ensures same { S.memory supply.new ≡ S.memory supply.old }
     ensures later { S.faults supply.old ≤ S.faults supply.new }
     ensures kept { S.keeps supply.old supply.new }
-    ensures read { HasRead (S.memory supply.old) (Rose (S.faults supply.old) (S.faults supply.new)) walker.now left place trail.old trail.new result }
+    ensures read { HasRead (S.memory supply.old) (Rose (S.faults supply.old) (S.faults supply.new)) walker.now level place trail.old trail.new result }
 {
     match supply.word(place) {
         Some(value) => {
@@ -47,14 +45,14 @@ pub fn read<S: Supply>(
                 value,
                 moment: walker.moment,
                 stage: walker.stage,
-                level: level(left),
+                level,
                 what: What::Word,
             });
             Ok(value)
         }
         None => Err(Stop::Absent {
             stage: walker.stage,
-            level: level(left),
+            level,
             pa: place,
             s1ptw: walker.s1ptw,
         }),

@@ -65,7 +65,7 @@ fn a_base_and_its_words(rt: HostRuntime) {
     let place = place::<12>(&sizes, 0, base, 0x3abc);
     let mut supply = OneWord { value: 0x5403 };
     assert_eq!(rt;
-        read(&walker(), 0, place, &mut supply, &mut trail),
+        read(&walker(), 3, place, &mut supply, &mut trail),
         Ok(0x5403)
     );
     let lacking = Stop::Absent {
@@ -75,7 +75,7 @@ fn a_base_and_its_words(rt: HostRuntime) {
         s1ptw: true,
     };
     assert_eq!(rt;
-        read(&walker(), 2, 0x1090, &mut supply, &mut trail),
+        read(&walker(), 1, 0x1090, &mut supply, &mut trail),
         Err(lacking)
     );
     assert_eq!(rt;

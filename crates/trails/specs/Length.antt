@@ -5,3 +5,7 @@ use Rattle.std.specs.Prelude.{ℕ}
 -- for the output
 abbrev pub most_items : ℕ
 most_items = 42
+
+-- the most items of a word of stage 1: a base and five words of stage 2, and its own
+abbrev pub most_per_word : ℕ
+most_per_word = 7

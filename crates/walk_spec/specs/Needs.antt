@@ -121,7 +121,7 @@ fits r (word w) i = fits_word r w i
 
 -- the item of a word that is needed, read at a moment
 abbrev pub needed_item : (moment : ℕ) (need : WordNeed) (value : ℕ) → Item
-needed_item k w value = word_item k w.stage w.left w.place value
+needed_item k w value = word_item k w.stage (level_of w.left) w.place value
 
 -- 2 ^ class bytes of addresses, the start-th of this size
 pub record Region : Type 0 where
