@@ -27,6 +27,26 @@ needs_the_next_word
 unfolding on_worked_walks
 needs_the_next_word = refl
 
+-- any aligned base fits, and not that of the registers alone
+takes_another_base : stands (stage1_regs 0x10 0x1000) 0x40201abc (base S1 0 0x7000 ∷ []) ≡ wants_word S1 3 0x7000 0x7000 0x40201abc
+unfolding on_worked_walks
+takes_another_base = refl
+
+-- a base within a table of this size does not fit
+refuses_a_misaligned_base : stands (stage1_regs 0x10 0x1000) 0x40201abc (base S1 0 0x7800 ∷ []) ≡ bad
+unfolding on_worked_walks
+refuses_a_misaligned_base = refl
+
+-- nor does one of another start level
+refuses_a_base_of_another_level : stands (stage1_regs 0x10 0x1000) 0x40201abc (base S1 1 0x7000 ∷ []) ≡ bad
+unfolding on_worked_walks
+refuses_a_base_of_another_level = refl
+
+-- a word of another place does not fit
+refuses_a_word_of_another_place : stands (stage1_regs 0x10 0x1000) 0x40201abc (descent S1 0 0x1000 ((0x1008, 0x2003) ∷ [])) ≡ bad
+unfolding on_worked_walks
+refuses_a_word_of_another_place = refl
+
 -- a stage 2 of 25 bits from level 3, with 16 concatenated tables at 0x10000
 abbrev run_regs : Regs
 run_regs = stage2_regs 0x500e7 0x10000
