@@ -106,7 +106,10 @@ shows letter (c ∷ text) = c == letter || shows letter text
 
 -- rights of EL0 and then of EL1, written as r, w and x with a dash for each that lacks
 abbrev pub rights : String → String → Perms
-rights el0 el1 = let a = codes el0 in let b = codes el1 in perms_of record { r0 = shows 114 a; w0 = shows 119 a; x0 = shows 120 a; r1 = shows 114 b; w1 = shows 119 b; x1 = shows 120 b }
+rights el0 el1 =
+    let a = codes el0 in
+    let b = codes el1 in
+    perms_of record { r0 = shows 114 a; w0 = shows 119 a; x0 = shows 120 a; r1 = shows 114 b; w1 = shows 119 b; x1 = shows 120 b }
 
 -- write-back with hints: r and w for allocation, t for transient
 abbrev pub wb : String → Cache

@@ -100,10 +100,13 @@ asks_epd_before_the_base = (refl, refl)
 
 -- a fetch on the high side, told by bit 55: no field of the low side counts, and TG1 00 is read as 4 KB
 asks_no_field_of_the_other_side
-    : Comes1
-    (record (stage1_regs 0x880245002200ab 0x5679000000090000) { ttbr1_el1 = 0x1235800000001000; mair_el1 = 0x58440081e6bf044; vtcr_el2 = 0x80000; vttbr_el2 = 0xabcd000000000000 })
-    (access 0x12ffffffc0001abc El0 Fetch false) 2 0x800000001000 ((0x800000001000, 0x4000000000002003) ∷ (0x2008, 0x554b) ∷ [])
-    (Mapped 0x5abc (rights "r-x" "r-x") (normal (wb "+r+t") (wt "+r+w")) Nsh)
+    : Comes1 (record (stage1_regs 0x880245002200ab 0x5679000000090000) {
+      ttbr1_el1 = 0x1235800000001000;
+      mair_el1 = 0x58440081e6bf044;
+      vtcr_el2 = 0x80000;
+      vttbr_el2 = 0xabcd000000000000;
+    }) (access 0x12ffffffc0001abc El0 Fetch false) 2 0x800000001000
+    ((0x800000001000, 0x4000000000002003) ∷ (0x2008, 0x554b) ∷ []) (Mapped 0x5abc (rights "r-x" "r-x") (normal (wb "+r+t") (wt "+r+w")) Nsh)
 unfolding on_worked_walks
 asks_no_field_of_the_other_side = (refl, refl)
 

@@ -7,7 +7,7 @@ use Rattle.attributes.specs.declared.kinds.Device.TheVariants.{NGnRE, GRE}
 use Rattle.attributes.specs.declared.kinds.MemType.TheVariants.{Device}
 use Rattle.attributes.specs.declared.kinds.Share.TheVariants.{Osh}
 use Rattle.fault_codes.specs.declared.fault.Stage.TheVariants.{S1, S2}
-use Rattle.fault_codes.specs.declared.fault.Class.TheVariants.{Translation, Permission}
+use Rattle.fault_codes.specs.declared.fault.Class.TheVariants.{Translation, AddressSize, AccessFlag, Permission}
 use Rattle.trails.specs.declared.item.Item.{Item}
 use Rattle.trails.specs.declared.outcome.Outcome.TheVariants.{Mapped}
 use Rattle.walk_spec.proofs.Worked.{on_worked_walks, words_at, tables, stage1_regs, page_regs, nested_regs, access, kernel_read, base, item, descent, one_page, rights, fault, descriptor_fault, absent, descriptor_absent, Comes}
@@ -46,6 +46,20 @@ protects_the_tables
     (descriptor_fault 1 Permission)
 unfolding on_worked_walks
 protects_the_tables = (refl, refl)
+
+-- a stage 2 page whose access flag is 0, at the place of a descriptor
+wants_the_access_flag_for_a_descriptor
+    : Comes nested_regs (words_at ((0x8008, 0x210ff) ∷ [])) (kernel_read 0x1abc) (base S1 3 0x1000 ∷ one_page 0x8008 0x210ff)
+    (descriptor_fault 3 AccessFlag)
+unfolding on_worked_walks
+wants_the_access_flag_for_a_descriptor = (refl, refl)
+
+-- stage 2 with 32 bits of output maps the place of a descriptor above them
+bounds_the_page_of_a_descriptor
+    : Comes (record nested_regs { vtcr_el2 = 0xeb }) (words_at ((0x8008, 0x1000214ff) ∷ [])) (kernel_read 0x1abc)
+    (base S1 3 0x1000 ∷ one_page 0x8008 0x1000214ff) (descriptor_fault 3 AddressSize)
+unfolding on_worked_walks
+bounds_the_page_of_a_descriptor = (refl, refl)
 
 -- stage 2 doesn't let the place of a descriptor be read
 wants_a_readable_descriptor

@@ -37,15 +37,35 @@ refuses_a_misaligned_base : stands (stage1_regs 0x10 0x1000) 0x40201abc (base S1
 unfolding on_worked_walks
 refuses_a_misaligned_base = refl
 
--- nor does one of another start level
+-- nor one of another start level
 refuses_a_base_of_another_level : stands (stage1_regs 0x10 0x1000) 0x40201abc (base S1 1 0x7000 ∷ []) ≡ bad
 unfolding on_worked_walks
 refuses_a_base_of_another_level = refl
+
+-- nor one of the other stage
+refuses_a_base_of_the_other_stage : stands (stage1_regs 0x10 0x1000) 0x40201abc (base S2 0 0x7000 ∷ []) ≡ bad
+unfolding on_worked_walks
+refuses_a_base_of_the_other_stage = refl
+
+-- nor one of more than 52 bits
+refuses_a_base_above_52_bits : stands (stage1_regs 0x10 0x1000) 0x40201abc (base S1 0 0x10000000000000 ∷ []) ≡ bad
+unfolding on_worked_walks
+refuses_a_base_above_52_bits = refl
 
 -- a word of another place does not fit
 refuses_a_word_of_another_place : stands (stage1_regs 0x10 0x1000) 0x40201abc (descent S1 0 0x1000 ((0x1008, 0x2003) ∷ [])) ≡ bad
 unfolding on_worked_walks
 refuses_a_word_of_another_place = refl
+
+-- nor one of another level
+refuses_a_word_of_another_level : stands (stage1_regs 0x10 0x1000) 0x40201abc (base S1 0 0x1000 ∷ item S1 1 0x1000 0x2003 ∷ []) ≡ bad
+unfolding on_worked_walks
+refuses_a_word_of_another_level = refl
+
+-- nor one of the other stage
+refuses_a_word_of_the_other_stage : stands (stage1_regs 0x10 0x1000) 0x40201abc (base S1 0 0x1000 ∷ item S2 0 0x1000 0x2003 ∷ []) ≡ bad
+unfolding on_worked_walks
+refuses_a_word_of_the_other_stage = refl
 
 -- a stage 2 of 25 bits from level 3, with 16 concatenated tables at 0x10000
 abbrev run_regs : Regs

@@ -41,7 +41,9 @@ long_regs = record (stage1_regs 0x10 0x1000) { mair_el1 = 0xff; hcr_el2 = 1; vtc
 
 -- the words of a stage 2 that maps the first pages to themselves, and of stage 1
 abbrev long_words : List (ℕ × ℕ)
-long_words = (0x8000, 0x9003) ∷ (0x9000, 0xa003) ∷ (0xa000, 0xb003) ∷ (0xb008, 0x17ff) ∷ (0xb010, 0x27ff) ∷ (0xb018, 0x37ff) ∷ (0xb020, 0x47ff) ∷ (0xb028, 0x57ff) ∷ tables 0x5403
+long_words =
+    (0x8000, 0x9003) ∷ (0x9000, 0xa003) ∷ (0xa000, 0xb003) ∷ (0xb008, 0x17ff) ∷ (0xb010, 0x27ff) ∷ (0xb018, 0x37ff) ∷ (0xb020, 0x47ff) ∷
+    (0xb028, 0x57ff) ∷ tables 0x5403
 
 -- the five items of stage 2 for a page
 abbrev pages : ℕ → ℕ → List Item
@@ -136,8 +138,15 @@ goes_through_a_stage_2_run = (refl, refl)
 
 -- every bit of the registers and words that no rule names is 1; TG0 11 is read as 4 KB at both stages
 ignores_reserved_bits
-    : Comes
-    (record zero_regs { sctlr_el1 = 0xfdfffffffdf7efff; tcr_el1 = 0xf667f80d3f00ff6b; ttbr0_el1 = 0x1001; mair_el1 = 0xf00000; hcr_el2 = 0xffffbffcf7ffeffb; vtcr_el2 = 0xfffffffcff94ffeb; vttbr_el2 = 0x8001 })
+    : Comes (record zero_regs {
+      sctlr_el1 = 0xfdfffffffdf7efff;
+      tcr_el1 = 0xf667f80d3f00ff6b;
+      ttbr0_el1 = 0x1001;
+      mair_el1 = 0xf00000;
+      hcr_el2 = 0xffffbffcf7ffeffb;
+      vtcr_el2 = 0xfffffffcff94ffeb;
+      vttbr_el2 = 0x8001;
+    })
     (words_at ((0x8008, 0xff87000000021cff) ∷ (0x8028, 0xff87080000025fff) ∷ (0x21008, 0xff87000000005f2b) ∷ [])) (kernel_read 0x1abc)
     (base S1 3 0x1000 ∷ one_page 0x8008 0xff87000000021cff ++ item S1 3 0x21008 0xff87000000005f2b ∷ one_page 0x8028 0xff87080000025fff)
     (Mapped 0x80000025abc (rights "--x" "rwx") (Normal (wb "+r+w") (wb "+r+w") true) Ish)
@@ -146,10 +155,11 @@ ignores_reserved_bits = (refl, refl)
 
 -- the longest trail again, where stage 2 moves every page
 walks_thirty_items_under_moved_tables
-    : Comes (record long_regs { tcr_el1 = 0x500000010; mair_el1 = 0xf00000 })
-    (words_at ((0x8000, 0x9003) ∷ (0x9000, 0xa003) ∷ (0xa000, 0xb003) ∷ (0xb008, 0x414ff) ∷ (0xb010, 0x424ff) ∷ (0xb018, 0x434ff) ∷ (0xb020, 0x444ff) ∷ (0xb028, 0x457ef) ∷ (0x41000, 0x2003) ∷ (0x42008, 0x3003) ∷ (0x43008, 0x4003) ∷ (0x44008, 0x570b) ∷ []))
-    (kernel_read 0x40201abc) (base S1 0 0x1000 ∷ pages 0xb008 0x414ff ++ item S1 0 0x41000 0x2003 ∷ pages 0xb010 0x424ff ++
-    item S1 1 0x42008 0x3003 ∷ pages 0xb018 0x434ff ++ item S1 2 0x43008 0x4003 ∷ pages 0xb020 0x444ff ++ item S1 3 0x44008 0x570b ∷
-    pages 0xb028 0x457ef) (Mapped 0x45abc (rights "--x" "rwx") (normal (wt "+r+w") (wb "+r+w")) Ish)
+    : Comes (record long_regs { tcr_el1 = 0x500000010; mair_el1 = 0xf00000 }) (words_at ((0x8000, 0x9003) ∷ (0x9000, 0xa003) ∷
+    (0xa000, 0xb003) ∷ (0xb008, 0x414ff) ∷ (0xb010, 0x424ff) ∷ (0xb018, 0x434ff) ∷ (0xb020, 0x444ff) ∷ (0xb028, 0x457ef) ∷ (0x41000, 0x2003) ∷
+    (0x42008, 0x3003) ∷ (0x43008, 0x4003) ∷ (0x44008, 0x570b) ∷ [])) (kernel_read 0x40201abc) (base S1 0 0x1000 ∷ pages 0xb008 0x414ff ++
+    item S1 0 0x41000 0x2003 ∷ pages 0xb010 0x424ff ++ item S1 1 0x42008 0x3003 ∷ pages 0xb018 0x434ff ++ item S1 2 0x43008 0x4003 ∷
+    pages 0xb020 0x444ff ++ item S1 3 0x44008 0x570b ∷ pages 0xb028 0x457ef)
+    (Mapped 0x45abc (rights "--x" "rwx") (normal (wt "+r+w") (wb "+r+w")) Ish)
 unfolding on_worked_walks
 walks_thirty_items_under_moved_tables = (refl, refl)

@@ -107,9 +107,12 @@ maps_a_block_of_52_bits = (refl, refl)
 
 -- the size code 111 means 52 bits too, here on the high side with 64 KB; HPD1 drops the table's permission bits
 reads_size_code_7_as_52_bits
-    : Comes1
-    (record (stage1_regs 0x417c056002b 0x5678000000001000) { ttbr1_el1 = 0x9235800000010028; mair_el1 = 0x58440081e6bf044; vttbr_el2 = 0xabcd000000000000 })
-    (kernel_read 0xfffffc000001abcd) 2 0xa800000010000 ((0xa800000010000, 0x780000000002b003) ∷ (0xb000000020008, 0x10000000059727) ∷ [])
+    : Comes1 (record (stage1_regs 0x417c056002b 0x5678000000001000) {
+      ttbr1_el1 = 0x9235800000010028;
+      mair_el1 = 0x58440081e6bf044;
+      vttbr_el2 = 0xabcd000000000000;
+    }) (kernel_read 0xfffffc000001abcd) 2 0xa800000010000
+    ((0xa800000010000, 0x780000000002b003) ∷ (0xb000000020008, 0x10000000059727) ∷ [])
     (Mapped 0x900000005abcd (rights "--x" "rwx") (Normal (wb "+r+w") (wb "+r+w") true) Ish)
 unfolding on_worked_walks
 reads_size_code_7_as_52_bits = (refl, refl)
