@@ -11,3 +11,4 @@ pub mod WorkedAddresses
 pub mod WorkedRights
 pub mod WorkedDescriptors
 pub mod WorkedItems
+pub mod WorkedRules
