@@ -10,7 +10,7 @@ use Rattle.table_reads.specs.Items.{word_item}
 abbrev pub Memory : Type 0
 Memory = ℕ → Option ℕ
 
--- the memory that a supply stands for, where it tells that
+-- what memory holds, as far as a supply tells
 abbrev pub Told : Type 0
 Told = Option Memory
 

@@ -4,7 +4,7 @@ ghost use Rattle.table_reads.specs.Memory.{Told, Supplies};
 
 /// Descriptor words of a memory that may be told or not, with a count of faults.
 pub trait Supply {
-    /// The memory that it stands for, where it tells that. No call changes it.
+    /// What memory holds, as far as the supply tells. No call changes it.
     ghost memory: { Self → Told };
 
     /// How often it has failed.

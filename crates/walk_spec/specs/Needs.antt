@@ -33,8 +33,8 @@ regime_with c s n = record { config = c; side = s; stage1 = n; stage2 = sizes2 c
 abbrev pub regime_of : (config : Config) (side : Side) → Regime
 regime_of c s = regime_with c s (sizes1 c s)
 
--- A word of a stage with so many levels left, at a physical place. It carries the mark s1ptw of its faults, the
--- address that it is read for (VA bits 55 to 0, or the IPA of its chain), and the address of its table.
+-- A word of a stage with so many levels left, at a physical place. It carries the mark s1ptw of its faults, the input
+-- address of its stage without a tag, and the address of its table.
 pub record WordNeed : Type 0 where
   pub stage : Stage
   pub left : ℕ

@@ -1,8 +1,8 @@
 use attributes::{MemType, Share};
 use permissions::{Bits1, Perms};
 
-/// Where stage 1 ended. `class` is that of the run where the Contiguous bit counts, else that of the entry; `out` is
-/// the output for the address in bytes.
+/// Where stage 1 ended. It covers `2 ^ class` bytes: a run, where the Contiguous bit counts, or an entry. `out` is where
+/// the address goes, in bytes.
 #[derive(Clone, Copy, Debug, PartialEq, Eq)]
 pub struct Leaf1 {
     pub out: u64,
@@ -14,8 +14,8 @@ pub struct Leaf1 {
     pub global: bool,
 }
 
-/// Where stage 2 ended. `class` is that of the run where the Contiguous bit counts, else that of the entry; `pa` is
-/// the output for the IPA in bytes.
+/// Where stage 2 ended. It covers `2 ^ class` bytes: a run, where the Contiguous bit counts, or an entry. `pa` is where
+/// the IPA goes, in bytes.
 #[derive(Clone, Copy, Debug, PartialEq, Eq)]
 pub struct Leaf2 {
     pub pa: u64,
