@@ -1,3 +1,4 @@
 pub mod Indices
 pub mod Sizes
 pub mod Fits
+pub mod Leaves

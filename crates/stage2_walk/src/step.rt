@@ -1,4 +1,4 @@
-ghost use Rattle.std.specs.Prelude.{◌≡◌, ◌≤◌, ◌<◌, ◌^◌};
+ghost use Rattle.std.specs.Prelude.{◌≡◌, ◌≤◌, ◌<◌, ◌^◌, ◌%◌};
 ghost use Rattle.geometry.specs.Tables.{most_left};
 ghost use Rattle.sysregs.specs.Registers.{granule_of};
 ghost use Rattle.descriptors.specs.Meaning.{means2_of};
@@ -59,12 +59,14 @@ fn meaning<const G: u32>(left: u32, word: u64, config: &Config) -> Kind2
 }
 
 /// What a block or page gives whose word stands at a place.
+#[tactic(auto, using(geometry::proofs::Leaves::leaf_class_least, geometry::proofs::Leaves::goes_to_eights))]
 fn leaf<const G: u32>(under: &Under, left: u32, place: u64, fields: &Fields2) -> Leaf2
     requires granule { G ≡ granule_of under.now.config.now.tg2 }
     requires under { IsUnder under.now }
     requires left { left ≤ most_left }
     requires fields { fields.now.out < 2 ^ 52 × fields.now.mem_attr < 16 × fields.now.xn < 4 × fields.now.sh < 4 }
-    ensures { result ≡ leaf2_of (asked_under under.now) left place fields.now }
+    ensures value { result ≡ leaf2_of (asked_under under.now) left place fields.now }
+    ensures eights { result.pa % 8 ≡ under.now.ipa % 8 }
 {
     let dirty = under.config.ha2 & under.config.hd2;
     let class = leaf_class::<G>(
@@ -88,7 +90,7 @@ fn leaf<const G: u32>(under: &Under, left: u32, place: u64, fields: &Fields2) ->
 fn stop(under: &Under, class: Class, left: u32) -> Step<Leaf2, u64>
     requires { left ≤ most_left }
     ensures value { result ≡ Step.Stopped (fault2 (asked_under under.now) class left) }
-    ensures sound { IsSoundStep left result }
+    ensures sound { IsSoundStep left under.now.ipa result }
 {
     Step::Stopped {
         fault: fault(&under.walker(), class, left),
@@ -107,7 +109,7 @@ pub(crate) fn step_by<const G: u32>(
     requires under { IsUnder under.now }
     requires left { left ≤ most_left }
     ensures value { result ≡ step2 (asked_under under.now) left place word }
-    ensures sound { IsSoundStep left result }
+    ensures sound { IsSoundStep left under.now.ipa result }
 {
     match meaning::<G>(left, word, under.config) {
         Kind2::Invalid => stop(under, Class::Translation, left),

@@ -1,11 +1,12 @@
-ghost use Rattle.std.specs.Prelude.{◌≡◌, ◌+◌, ◌-◌, ◌≤◌, ◌<◌, ◌^◌, ◌%◌, length, IsFalse, IfErr};
+ghost use Rattle.std.specs.Prelude.{◌≡◌, ◌+◌, ◌-◌, ◌≤◌, ◌<◌, ◌^◌, ◌%◌, length, IsFalse, IfOk, IfErr};
 ghost use Rattle.bitwords.specs.Causes.{Rose};
-ghost use Rattle.geometry.specs.Tables.{left_below};
+ghost use Rattle.geometry.specs.Tables.{most_left, left_below, level_of};
 ghost use Rattle.sysregs.specs.Registers.{InRange, granule_of};
 ghost use Rattle.trails.specs.Length.{most_items};
+ghost use Rattle.table_reads.specs.Memory.{HasRead};
 ghost use Rattle.walk_spec.specs.Stage2.{is_refused2};
 ghost use Rattle.walk_spec.specs.Walked.{HasLineStop};
-ghost use Rattle.stage2_walk.specs.Under.{IsUnder, asked_under};
+ghost use Rattle.stage2_walk.specs.Under.{IsUnder, asked_under, walker_under};
 ghost use Rattle.stage2_walk.specs.Clauses.{IsTableOf, WalkedLeft, WalkedFrom};
 
 use crate::sizes::sizes2;
@@ -20,6 +21,25 @@ use walk_spec::Leaf2;
 pub struct From2 {
     pub base: u64,
     pub level: i8,
+}
+
+/// Reads the word at a place with so many levels left, and appends its item.
+fn read_word<S: Supply>(
+    under: &Under,
+    left: u32,
+    place: u64,
+    supply: &mut S,
+    trail: &mut Trail,
+) -> Result<u64, Stop>
+    requires left { left ≤ most_left }
+    requires aligned { place % 8 ≡ 0 }
+    requires room { length trail.old < most_items }
+    ensures same { S.memory supply.new ≡ S.memory supply.old }
+    ensures later { S.faults supply.old ≤ S.faults supply.new }
+    ensures kept { S.keeps supply.old supply.new }
+    ensures read { HasRead (S.memory supply.old) (Rose (S.faults supply.old) (S.faults supply.new)) (walker_under under.now) (level_of left) place trail.old trail.new result }
+{
+    read(&under.walker(), level(left), place, supply, trail)
 }
 
 /// The walk from a table with so many levels left.
@@ -40,10 +60,11 @@ fn walk_left<const G: u32, S: Supply>(
     ensures kept { S.keeps supply.old supply.new }
     ensures most { length trail.new ≤ length trail.old + left + 1 }
     ensures line { IfErr result HasLineStop }
+    ensures eights { IfOk result (λ l. l.pa % 8 ≡ under.now.ipa % 8) }
     ensures walked { WalkedLeft (S.memory supply.old) (Rose (S.faults supply.old) (S.faults supply.new)) under.now left table trail.old trail.new result }
 {
     let place = place::<G>(&under.sizes, left, table, under.ipa);
-    let word = read(&under.walker(), level(left), place, supply, trail)?;
+    let word = read_word(under, left, place, supply, trail)?;
     match step_by::<G>(under, left, place, word) {
         Step::Down { table } => walk_left::<G, S>(under, left - 1, table, supply, trail),
         Step::Reached { leaf } => Ok(leaf),
@@ -72,6 +93,7 @@ pub fn walk2<const G: u32, S: Supply>(
     ensures kept { S.keeps supply.old supply.new }
     ensures most { length trail.new ≤ length trail.old + left_below from.now.level + 1 }
     ensures line { IfErr result HasLineStop }
+    ensures eights { IfOk result (λ l. l.pa % 8 ≡ ipa % 8) }
     ensures walked { WalkedFrom (S.memory supply.old) (Rose (S.faults supply.old) (S.faults supply.new)) (record { config = config.now; ipa = ipa; s1ptw = ptw; moment = now; from = from.now }) trail.old trail.new result }
 {
     let under = Under {
