@@ -1,0 +1,9 @@
+pub use Rattle.walk_spec.specs.Ask
+pub use Rattle.walk_spec.specs.Needs
+pub use Rattle.walk_spec.specs.Steps
+pub use Rattle.walk_spec.specs.Stage2
+pub use Rattle.walk_spec.specs.Stage1
+pub use Rattle.walk_spec.specs.BothStages
+pub use Rattle.walk_spec.specs.Fresh
+pub use Rattle.walk_spec.specs.Walked
+pub mod Parts

@@ -1,0 +1,184 @@
+//! What each stage refuses before its base.
+ghost use Rattle.std.specs.Prelude.{◌≡◌, ◌≤◌, ◌<◌, ◌+◌, ◌-◌, ◌^◌, ◌==◌, pos, ◌≤ℤ◌, if◌then◌else◌};
+ghost use Rattle.bitwords.specs.Fields.{bits_of, bit};
+ghost use Rattle.geometry.specs.Tables.{is_txsz, start_level1, start_level2, is_suited_at};
+ghost use Rattle.sysregs.specs.Registers.{InRange, granule_of};
+ghost use Rattle.table_reads.specs.Numbers.{is_sized2};
+ghost use Rattle.walk_spec.specs.Stage2;
+ghost use Rattle.walk_spec.specs.BothStages.{top_bit, is_fetch, is_el0, is_refused1, is_refused_off};
+ghost use Rattle.translate.specs.Parts.{begin1_of, begin2_of};
+
+use crate::begin::Begin1;
+use bitwords::{flag, power};
+use fault_codes::{Class, Fault, Stage};
+use geometry::{case_table, start_level1, start_level2, suits2};
+use permissions::{El, Kind};
+use stage1_walk::sizes1;
+use stage2_walk::sizes2;
+use sysregs::{Config, Tg};
+use table_reads::{MOST_LEFT, Walker, fault, level};
+use trails::Access;
+
+/// The start level for a TxSZ, or None where it is out of its range.
+fn start_level(tg: Tg, txsz: u32) -> Option<i8>
+    ensures { result ≡ start_level1 (granule_of tg) txsz }
+{
+    case_table!(granule tg; start_level1(txsz))
+}
+
+/// Whether TxSZ is in its range.
+fn is_sized(tg: Tg, txsz: u32) -> bool
+    ensures { result ≡ is_txsz (granule_of tg) txsz }
+{
+    start_level(tg, txsz).is_some()
+}
+
+pub(crate) fn is_fetch(kind: Kind) -> bool
+    ensures { result ≡ is_fetch kind }
+{
+    matches!(kind, Kind::Fetch)
+}
+
+fn is_el0(el: El) -> bool
+    ensures { result ≡ is_el0 el }
+{
+    matches!(el, El::El0)
+}
+
+/// The highest VA bit that counts: 55 where the upper byte is a tag, else 63.
+fn top_bit(config: &Config, access: &Access) -> u32
+    ensures value { result ≡ top_bit config.now access.now }
+    ensures small { 55 ≤ result × result ≤ 63 }
+{
+    let side = sysregs::side(access.va);
+    if config.tbi(side) & !(is_fetch(access.kind) & config.tbid(side)) {
+        55
+    } else {
+        63
+    }
+}
+
+/// Whether VA bits `top` down to `input` are all equal to bit 55.
+fn is_extended(va: u64, top: u32, input: u32) -> bool
+    requires { 12 ≤ input × input ≤ 52 × 55 ≤ top × top ≤ 63 }
+    ensures { result ≡ (bits_of va top input == (if bit va 55 then 2 ^ (top - input + 1) - 1 else 0)) }
+{
+    let size = power(top - input + 1);
+    let upper = va / power(input) % size;
+    upper == if flag::<55>(va) { size - 1 } else { 0 }
+}
+
+/// Whether stage 1 refuses an access before any table.
+#[tactic(auto, unfolding(walk_spec::specs::BothStages::is_refused1))]
+fn is_refused(config: &Config, access: &Access) -> bool
+    requires { InRange config.now }
+    ensures { result ≡ is_refused1 config.now access.now }
+{
+    let side = sysregs::side(access.va);
+    let txsz = config.txsz(side);
+    if !is_sized(config.tg(side), txsz) {
+        return true;
+    }
+    let in_range = is_extended(access.va, top_bit(config, access), 64 - txsz);
+    !in_range | (is_el0(access.el) & config.e0pd(side)) | config.epd(side)
+}
+
+/// Whether an access of more than 52 bits of address is refused while stage 1 is off.
+fn is_refused_off(config: &Config, access: &Access) -> bool
+    ensures { result ≡ is_refused_off config.now access.now }
+{
+    let size = power(top_bit(config, access) - 52 + 1);
+    access.va / power(52) % size != 0
+}
+
+/// A fault before any table.
+pub(crate) fn refusal(stage: Stage, s1ptw: bool, class: Class) -> Fault
+    ensures { result ≡ Rattle.translate.specs.Parts.refusal stage s1ptw class }
+{
+    let walker = Walker {
+        moment: 0,
+        stage,
+        s1ptw,
+    };
+    fault(&walker, class, MOST_LEFT)
+}
+
+/// What stage 1 checks before its base: the output of a stage that is off, or the side and its start level, or the
+/// fault of an access that is refused.
+pub fn begin1(config: &Config, access: &Access) -> Result<Begin1, Fault>
+    requires { InRange config.now }
+    ensures { result ≡ begin1_of config.now access.now }
+{
+    if !config.m {
+        if is_refused_off(config, access) {
+            return Err(refusal(Stage::S1, false, Class::AddressSize));
+        }
+        return Ok(Begin1::Off {
+            ipa: access.va % (1 << 52),
+        });
+    }
+    if is_refused(config, access) {
+        return Err(refusal(Stage::S1, false, Class::Translation));
+    }
+    let side = sysregs::side(access.va);
+    Ok(Begin1::On {
+        side,
+        level: level(sizes1(config, side).start),
+    })
+}
+
+/// The stage 2 start level for SL0, or None where the code is invalid.
+fn start_level_2(tg: Tg, sl0: u32, sl2: u32) -> Option<i8>
+    requires { sl0 < 4 × sl2 < 2 }
+    ensures { result ≡ start_level2 (granule_of tg) sl0 }
+{
+    case_table!(granule tg; start_level2(sl0, sl2))
+}
+
+/// Whether a stage 2 input size suits a start level.
+fn is_suited(tg: Tg, start: i8, input: u32) -> bool
+    requires least { pos 0 ≤ℤ start }
+    requires most { start ≤ℤ pos 3 }
+    ensures { result ≡ is_suited_at (granule_of tg) start input }
+{
+    case_table!(granule tg; suits2(start, input))
+}
+
+/// Whether stage 2's sizes are in range and suit each other.
+#[tactic(auto, using(geometry::proofs::Sizes::start2_within, crate::proofs::Starts::left_below_of))]
+fn has_sizes(config: &Config) -> bool
+    requires { InRange config.now }
+    ensures { result ≡ is_sized2 config.now }
+{
+    let Some(start) = start_level_2(config.tg2, config.sl0, config.sl2) else {
+        return false;
+    };
+    if !is_sized(config.tg2, config.t2sz) {
+        return false;
+    }
+    is_suited(config.tg2, start, 64 - config.t2sz)
+}
+
+/// Whether stage 2 refuses an IPA before any table.
+#[tactic(auto, unfolding(walk_spec::specs::Stage2::is_refused2), using(crate::proofs::Starts::sized_input))]
+fn is_refused2(config: &Config, ipa: u64) -> bool
+    requires { InRange config.now }
+    ensures { result ≡ Stage2.is_refused2 config.now ipa }
+{
+    if !has_sizes(config) {
+        return true;
+    }
+    ipa >= power(64 - config.t2sz)
+}
+
+/// What stage 2 checks before its base: the start level, or the fault of an IPA that is refused. `ptw` marks the place
+/// of a stage 1 descriptor.
+pub fn begin2(config: &Config, ipa: u64, ptw: bool) -> Result<i8, Fault>
+    requires { InRange config.now }
+    ensures { result ≡ begin2_of config.now ipa ptw }
+{
+    if is_refused2(config, ipa) {
+        return Err(refusal(Stage::S2, ptw, Class::Translation));
+    }
+    Ok(level(sizes2(config).start))
+}
