@@ -97,7 +97,7 @@ pub fn walk1<const G: u32, S: Supply1>(
     requires config { InRange config.now }
     requires granule { G ≡ granule_of (tg_of config.now (side_of access.now.va)) }
     requires accepted { IsFalse (is_refused1 config.now access.now) }
-    requires table { IsTableOf config.now access.now from.now }
+    requires table { IsTableOf config.now (side_of access.now.va) from.now }
     requires room { length trail.old + most_per_word * (left_below from.now.level + 1) ≤ most_items }
     ensures most { length trail.new ≤ length trail.old + most_per_word * (left_below from.now.level + 1) }
     ensures code { IfErr result HasCode }

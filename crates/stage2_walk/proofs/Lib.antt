@@ -1,2 +1,3 @@
 pub mod OnWords
 pub mod Accepted
+pub mod Levels

@@ -1,6 +1,8 @@
 ghost use Rattle.std.specs.Prelude.{◌≡◌, ◌≤◌, ◌<◌, ◌^◌, ◌%◌};
 ghost use Rattle.geometry.specs.Tables.{most_left};
 ghost use Rattle.sysregs.specs.Registers.{granule_of};
+ghost use Rattle.fault_codes.specs.Status.{HasLevel};
+ghost use Rattle.fault_codes.specs.declared.fault.Class.TheVariants.{Permission};
 ghost use Rattle.descriptors.specs.Meaning.{means2_of};
 ghost use Rattle.descriptors.specs.Bounds.{IsBounded2};
 ghost use Rattle.walk_spec.specs.Stage2.{fault2, leaf2_of, step2};
@@ -67,6 +69,7 @@ fn leaf<const G: u32>(under: &Under, left: u32, place: u64, fields: &Fields2) ->
     requires fields { fields.now.out < 2 ^ 52 × fields.now.mem_attr < 16 × fields.now.xn < 4 × fields.now.sh < 4 }
     ensures value { result ≡ leaf2_of (asked_under under.now) left place fields.now }
     ensures eights { result.pa % 8 ≡ under.now.ipa % 8 }
+    ensures level { HasLevel Permission result.level }
 {
     let dirty = under.config.ha2 & under.config.hd2;
     let class = leaf_class::<G>(

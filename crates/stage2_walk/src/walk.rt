@@ -7,6 +7,7 @@ ghost use Rattle.table_reads.specs.Memory.{HasRead};
 ghost use Rattle.walk_spec.specs.Stage2.{is_refused2};
 ghost use Rattle.walk_spec.specs.Walked.{HasLineStop};
 ghost use Rattle.stage2_walk.specs.Under.{IsUnder, asked_under, walker_under};
+ghost use Rattle.stage2_walk.specs.SoundSteps.{IsSoundLeaf};
 ghost use Rattle.stage2_walk.specs.Clauses.{IsTableOf, WalkedLeft, WalkedFrom};
 
 use crate::sizes::sizes2;
@@ -60,7 +61,7 @@ fn walk_left<const G: u32, S: Supply>(
     ensures kept { S.keeps supply.old supply.new }
     ensures most { length trail.new ≤ length trail.old + left + 1 }
     ensures line { IfErr result HasLineStop }
-    ensures eights { IfOk result (λ l. l.pa % 8 ≡ under.now.ipa % 8) }
+    ensures sound { IfOk result (IsSoundLeaf under.now.ipa) }
     ensures walked { WalkedLeft (S.memory supply.old) (Rose (S.faults supply.old) (S.faults supply.new)) under.now left table trail.old trail.new result }
 {
     let place = place::<G>(&under.sizes, left, table, under.ipa);
@@ -93,7 +94,7 @@ pub fn walk2<const G: u32, S: Supply>(
     ensures kept { S.keeps supply.old supply.new }
     ensures most { length trail.new ≤ length trail.old + left_below from.now.level + 1 }
     ensures line { IfErr result HasLineStop }
-    ensures eights { IfOk result (λ l. l.pa % 8 ≡ ipa % 8) }
+    ensures sound { IfOk result (IsSoundLeaf ipa) }
     ensures walked { WalkedFrom (S.memory supply.old) (Rose (S.faults supply.old) (S.faults supply.new)) (record { config = config.now; ipa = ipa; s1ptw = ptw; moment = now; from = from.now }) trail.old trail.new result }
 {
     let under = Under {

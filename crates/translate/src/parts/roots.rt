@@ -8,6 +8,8 @@ ghost use Rattle.trails.specs.Length.{most_items};
 ghost use Rattle.table_reads.specs.Numbers.{AreSound, is_sized1, is_sized2};
 ghost use Rattle.table_reads.specs.Items.{base_item};
 ghost use Rattle.walk_spec.specs.Fresh.{start_base1, start_base2};
+ghost use Rattle.stage1_walk.specs.Clauses;
+ghost use Rattle.stage2_walk.specs.Clauses as Clauses2;
 ghost use Rattle.translate.specs.Parts.{AreFieldsOf, root1_of, root2_of};
 
 use crate::parts::refusals::refusal;
@@ -77,7 +79,7 @@ pub fn root1(
     requires room { length trail.old < most_items }
     ensures item { trail.new ≡ trail.old ++ base_item now S1 (Rattle.table_reads.specs.Numbers.sizes1 (config_of regs.now) side) (start_base1 regs.now side) ∷ [] }
     ensures value { result ≡ root1_of regs.now side }
-    ensures sound { IfOk result (λ from. from.base < 2 ^ 52 × from.base % 8 ≡ 0) }
+    ensures table { IfOk result (Clauses.IsTableOf config.now side) }
 {
     let sizes = sizes_of1(regs, config, side);
     let base = base_of1(regs, side, &sizes);
@@ -141,7 +143,7 @@ pub fn root2(
     requires room { length trail.old < most_items }
     ensures item { trail.new ≡ trail.old ++ base_item now S2 (Rattle.table_reads.specs.Numbers.sizes2 (config_of regs.now)) (start_base2 regs.now) ∷ [] }
     ensures value { result ≡ root2_of regs.now ptw }
-    ensures sound { IfOk result (λ from. from.base < 2 ^ 52 × from.base % 8 ≡ 0) }
+    ensures table { IfOk result (Clauses2.IsTableOf config.now) }
 {
     let sizes = sizes_of2(regs, config);
     let base = base_of2(regs, &sizes);
