@@ -127,16 +127,21 @@ fn leaf1(kind: Kind1) -> [u32; 10] {
     }
 }
 
-/// APTable, PXNTable and UXNTable.
-fn table1(kind: Kind1) -> [bool; 4] {
+/// APTable[0], APTable[1], PXNTable and UXNTable.
+fn table1(kind: Kind1) -> [u32; 4] {
     match kind {
-        Kind1::Table { bits, .. } => [bits.no_el0, bits.read_only, bits.pxn, bits.uxn],
-        _ => [false; 4],
+        Kind1::Table { bits, .. } => [
+            u32::from(bits.no_el0),
+            u32::from(bits.read_only),
+            u32::from(bits.pxn),
+            u32::from(bits.uxn),
+        ],
+        _ => [9; 4],
     }
 }
 
 #[test]
-fn fields_of_stage_1(rt: HostRuntime) {
+fn leaves_of_stage_1(rt: HostRuntime) {
     let fields = config(&Regs::zero());
     for (w, want) in [
         (0x501f, [7, 0, 0, 1, 0, 0, 0, 0, 0, 0]),
@@ -157,44 +162,18 @@ fn fields_of_stage_1(rt: HostRuntime) {
             "word {w:#x}"
         );
     }
+}
+
+#[test]
+fn tables_of_stage_1(rt: HostRuntime) {
     for (tcr_el1, w, low, high) in [
-        (
-            0,
-            0x800_0000_0000_5003,
-            [false, false, true, false],
-            [false, false, true, false],
-        ),
-        (
-            0,
-            0x1000_0000_0000_5003,
-            [false, false, false, true],
-            [false, false, false, true],
-        ),
-        (
-            0,
-            0x2000_0000_0000_5003,
-            [true, false, false, false],
-            [true, false, false, false],
-        ),
-        (
-            0,
-            0x4000_0000_0000_5003,
-            [false, true, false, false],
-            [false, true, false, false],
-        ),
-        (0, 0x87ff_0000_0000_5fff, [false; 4], [false; 4]),
-        (
-            0x200_0000_0000,
-            0x7800_0000_0000_5003,
-            [false; 4],
-            [true; 4],
-        ),
-        (
-            0x400_0000_0000,
-            0x7800_0000_0000_5003,
-            [true; 4],
-            [false; 4],
-        ),
+        (0, 0x800_0000_0000_5003, [0, 0, 1, 0], [0, 0, 1, 0]),
+        (0, 0x1000_0000_0000_5003, [0, 0, 0, 1], [0, 0, 0, 1]),
+        (0, 0x2000_0000_0000_5003, [1, 0, 0, 0], [1, 0, 0, 0]),
+        (0, 0x4000_0000_0000_5003, [0, 1, 0, 0], [0, 1, 0, 0]),
+        (0, 0x87ff_0000_0000_5fff, [0; 4], [0; 4]),
+        (0x200_0000_0000, 0x7800_0000_0000_5003, [0; 4], [1; 4]),
+        (0x400_0000_0000, 0x7800_0000_0000_5003, [1; 4], [0; 4]),
     ] {
         let fields = config(&Regs {
             tcr_el1,
@@ -236,7 +215,7 @@ fn leaf2(kind: Kind2) -> [u32; 8] {
 }
 
 #[test]
-fn fields_of_stage_2(rt: HostRuntime) {
+fn leaves_of_stage_2(rt: HostRuntime) {
     let fields = config(&Regs::zero());
     for (w, want) in [
         (0x503f, [15, 0, 0, 0, 0, 0, 0, 0]),
