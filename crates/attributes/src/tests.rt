@@ -1,5 +1,3 @@
-ghost use Rattle.std.specs.Prelude.{◌<◌};
-
 use crate::Share::{Ish, Nsh, Osh};
 use crate::types::{alone, combine, mair, mmu_off, s2_attr, share};
 use crate::{Cache, Device, MemType};
