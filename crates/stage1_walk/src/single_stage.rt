@@ -4,7 +4,7 @@ ghost use Rattle.geometry.specs.Tables.{left_below, level_of};
 ghost use Rattle.sysregs.specs.Registers.{InRange, config_of};
 ghost use Rattle.sysregs.specs.Sides.{side_of};
 ghost use Rattle.permissions.specs.Rights.{no_bits};
-ghost use Rattle.trails.specs.Length.{most_items};
+ghost use Rattle.trails.specs.Lengths.{most_items};
 ghost use Rattle.table_reads.specs.Numbers.{AreSound};
 ghost use Rattle.walk_spec.specs.BothStages.{is_refused1};
 ghost use Rattle.walk_spec.specs.Fresh.{start_base1};

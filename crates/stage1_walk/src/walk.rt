@@ -3,7 +3,7 @@ ghost use Rattle.bitwords.specs.Causes.{Rose};
 ghost use Rattle.geometry.specs.Tables.{left_below};
 ghost use Rattle.sysregs.specs.Registers.{InRange, granule_of};
 ghost use Rattle.sysregs.specs.Sides.{side_of, tg_of};
-ghost use Rattle.trails.specs.Length.{most_items};
+ghost use Rattle.trails.specs.Lengths.{most_items};
 ghost use Rattle.table_reads.specs.Places.{place_of};
 ghost use Rattle.walk_spec.specs.Stage1.{untagged, entry1};
 ghost use Rattle.walk_spec.specs.BothStages.{is_refused1};
