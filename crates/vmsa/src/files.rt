@@ -5,7 +5,7 @@ ghost use Rattle.vmsa.specs.FilesInMemory.{held_of};
 
 use std::alloc::Global;
 use std::fs::OpenFile;
-use std::io::{Read, Seek, SeekFrom};
+use std::os::unix::fs::FileExt;
 use std::{io, rt};
 
 /// A file's size or its bytes could not be read.
@@ -181,6 +181,26 @@ struct Open<F> {
     file: F,
 }
 
+/// How often a read that was interrupted is tried.
+const TRIES: u32 = u32::MAX;
+
+/// One read from a place on. One that was interrupted goes on. A place above what the system can name lies behind every
+/// file's end.
+fn read_file<T: FileExt>(file: &T, at: u64, into: &mut [u8]) -> io::Result<usize>
+    ensures { IfOk result (λ n. n ≤ length into.new) }
+{
+    if i64::try_from(at).is_err() {
+        return Ok(0);
+    }
+    for _ in 0..TRIES {
+        match file.read_at(into, at) {
+            Err(e) if e.kind() == io::ErrorKind::Interrupted => {}
+            answer => return answer,
+        }
+    }
+    Err(io::Error::from(io::ErrorKind::Interrupted))
+}
+
 /// The files of the system. The one that was used last stays open. They don't tell what they hold.
 #[derive(Drop)]
 pub struct RealFiles<R: rt::Files> {
@@ -191,7 +211,10 @@ pub struct RealFiles<R: rt::Files> {
     missing: u64,
 }
 
-impl<R: rt::Files> RealFiles<R> {
+impl<R: rt::Files> RealFiles<R>
+where
+    R::File: FileExt,
+{
     pub fn new(rt: R, alloc: Global) -> RealFiles<R> {
         RealFiles {
             rt,
@@ -251,21 +274,22 @@ impl<R: rt::Files> RealFiles<R> {
         ensures faults { self.new.faults ≡ self.old.faults }
         ensures missing { self.new.missing ≡ self.old.missing }
     {
-        if let Some(open) = &mut self.held {
+        if let Some(open) = &self.held {
             if open.name.as_str() == name {
-                open.file.seek(SeekFrom::Start(at))?;
-                return open.file.read(into);
+                return read_file(&open.file, at, into);
             }
         }
-        let mut file = std::fs::open(&self.rt, name)?;
-        file.seek(SeekFrom::Start(at))?;
-        let count = file.read(into)?;
+        let file = std::fs::open(&self.rt, name)?;
+        let count = read_file(&file, at, into)?;
         self.hold(name, file);
         Ok(count)
     }
 }
 
-impl<R: rt::Files> Files for RealFiles<R> {
+impl<R: rt::Files> Files for RealFiles<R>
+where
+    R::File: FileExt,
+{
     ghost holds = { λ _ _. Untold };
 
     ghost faults = { λ s. s.faults };
@@ -302,22 +326,72 @@ impl<R: rt::Files> Files for RealFiles<R> {
 #[cfg(test)]
 mod tests {
     use super::*;
+    use std::cell::Cell;
     use std::test::Fail;
+
+    /// A file whose reads give the place's lowest byte, three times at most. Every other read is interrupted.
+    #[derive(Drop)]
+    struct Slow {
+        reads: Cell<u32>,
+    }
+
+    impl FileExt for Slow {
+        fn read_at(&self, into: &mut [u8], at: u64) -> io::Result<usize> {
+            let reads = self.reads.get();
+            self.reads.set(reads.wrapping_add(1));
+            if reads % 2 == 0 {
+                return Err(io::Error::from(io::ErrorKind::Interrupted));
+            }
+            let count = into.len().min(3);
+            into[..count].fill((at % 256) as u8);
+            Ok(count)
+        }
+
+        fn write_at(&self, _piece: &[u8], _at: u64) -> io::Result<usize> {
+            Err(io::Error::from(io::ErrorKind::Unsupported))
+        }
+    }
+
+    #[test]
+    fn goes_on_where_interrupted(rt: HostRuntime) {
+        let slow = Slow {
+            reads: Cell::new(0),
+        };
+        let mut into = [0u8; 8];
+        assert!(rt; read_file(&slow, 5, &mut into).is_ok_and(|count| count == 3));
+        assert_eq!(rt; into, [5, 5, 5, 0, 0, 0, 0, 0]);
+        assert!(rt; read_file(&slow, 1 << 63, &mut into).is_ok_and(|count| count == 0));
+        assert_eq!(rt; slow.reads.get(), 2);
+    }
+
+    /// The program that runs this is a file of the system, which begins with 0x7f and `ELF`.
+    const SELF: &str = "/proc/self/exe";
 
     #[test]
     fn reads_real_files(rt: HostRuntime) -> Result<(), Fail> {
         let alloc = rt.alloc();
-        let mut into = [0u8; 8];
+        let mut into = [0u8; 3];
         let mut files = RealFiles::new(&rt, alloc);
+        assert_eq!(rt; files.read_at(SELF, 1, &mut into), Ok(3));
+        assert_eq!(rt; into, *b"ELF");
+        assert_eq!(rt;
+            files.size(SELF),
+            Ok(Some(std::fs::metadata(&rt, SELF)?.len()))
+        );
+        assert_eq!(rt; files.read_at(SELF, 2, &mut into[..2]), Ok(2));
+        assert_eq!(rt; into, *b"LFF");
         assert_eq!(rt; files.size("/dev/null"), Ok(Some(0)));
-        assert_eq!(rt; files.read_at("/dev/null", 0, &mut into), Ok(0));
-        assert_eq!(rt; (files.missing, files.faults), (1, 0));
-        assert_eq!(rt; files.read_at("/dev/zero", 8, &mut into), Ok(8));
+        for at in [0, 1 << 47, u64::MAX] {
+            assert_eq!(rt; files.read_at("/dev/null", at, &mut into), Ok(0));
+        }
+        assert_eq!(rt; (files.missing, files.faults), (3, 0));
+        assert_eq!(rt; files.read_at("/dev/zero", 8, &mut into), Ok(3));
         assert_eq!(rt; files.size("/there/is/no/such/file"), Ok(None));
-        assert_eq!(rt; (files.missing, files.faults), (2, 0));
+        assert_eq!(rt; (files.missing, files.faults), (4, 0));
         assert_eq!(rt; files.size("/"), Err(ReadFailed));
         assert_eq!(rt; files.read_at("/", 0, &mut into), Err(ReadFailed));
-        assert_eq!(rt; (files.missing, files.faults), (2, 2));
+        assert_eq!(rt; files.size("/dev/null/below"), Err(ReadFailed));
+        assert_eq!(rt; (files.missing, files.faults), (4, 3));
         Ok(())
     }
 }
