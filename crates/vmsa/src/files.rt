@@ -1,4 +1,4 @@
-ghost use Rattle.std.specs.Prelude.{◌≡◌, ℕ, ◌≤◌, ◌<◌, List, length, IfOk, MatchOption, MatchResult, Contains};
+ghost use Rattle.std.specs.Prelude.{◌≡◌, ℕ, ◌≤◌, ◌<◌, List, length, take, IfOk, MatchOption, MatchResult, Contains};
 ghost use Rattle.bitwords.specs.Causes.{HasCause, Rose};
 ghost use Rattle.vmsa.specs.Held.{Holding, IsSize, IsRead, Untold};
 ghost use Rattle.vmsa.specs.FilesInMemory.{held_of};
@@ -23,6 +23,9 @@ pub trait Files {
     /// How often a name was found missing or a file found ended.
     ghost missing: { Self → ℕ };
 
+    /// One read: the files before it, the name, the place, the bytes that came and the files after it.
+    ghost reads: { Self → List ℕ → ℕ → List ℕ → Self → Type 0 };
+
     /// The file's size in bytes, or None where there is no such file. No byte of it is read.
     fn size(&mut self, name: &str) -> Result<Option<u64>, ReadFailed>
         ensures same { holds self.new ≡ holds self.old }
@@ -36,6 +39,7 @@ pub trait Files {
         ensures same { holds self.new ≡ holds self.old }
         ensures bound { IfOk result (λ n. n ≤ length into.new) }
         ensures bytes { IfOk result (IsRead (holds self.old name.now) (missing self.old) (missing self.new) at into.new) }
+        ensures read { IfOk result (λ n. reads self.old name.now at (take n into.new) self.new) }
         ensures missing { missing self.old ≤ missing self.new }
         ensures cause { HasCause (faults self.old) (faults self.new) result };
 }
@@ -108,6 +112,8 @@ impl Files for MemoryFiles {
 
     ghost missing = { λ _. 0 };
 
+    ghost reads = { λ _ _ _ _ _. Unit {0} };
+
     fn size(&mut self, name: &str) -> Result<Option<u64>, ReadFailed> {
         Ok(size_of(self.files.as_slice(), name))
     }
@@ -162,6 +168,8 @@ impl Files for FailingFiles {
     ghost faults = { λ s. s.faults };
 
     ghost missing = { λ _. 0 };
+
+    ghost reads = { λ _ _ _ _ _. Unit {0} };
 
     fn size(&mut self, name: &str) -> Result<Option<u64>, ReadFailed> {
         self.count()?;
@@ -295,6 +303,8 @@ where
     ghost faults = { λ s. s.faults };
 
     ghost missing = { λ s. s.missing };
+
+    ghost reads = { λ _ _ _ _ _. Unit {0} };
 
     fn size(&mut self, name: &str) -> Result<Option<u64>, ReadFailed> {
         match self.real_size(name) {

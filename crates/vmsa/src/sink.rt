@@ -159,13 +159,22 @@ mod tests {
         Ok(())
     }
 
-    /// A writer that takes nothing.
+    /// A writer that takes so many bytes at once, and counts what it got and its last byte.
     #[derive(Drop)]
-    struct Nothing;
+    struct Slow {
+        most: usize,
+        count: u64,
+        last: u8,
+    }
 
-    impl io::Write for Nothing {
-        fn write(&mut self, _piece: &[u8]) -> io::Result<usize> {
-            Ok(0)
+    impl io::Write for Slow {
+        fn write(&mut self, piece: &[u8]) -> io::Result<usize> {
+            let taken = piece.len().min(self.most);
+            if taken > 0 {
+                self.last = piece[taken - 1];
+            }
+            self.count = self.count.saturating_add(taken as u64);
+            Ok(taken)
         }
 
         fn flush(&mut self) -> io::Result<()> {
@@ -173,10 +182,27 @@ mod tests {
         }
     }
 
+    fn slow(most: usize) -> Adapter<Slow> {
+        Adapter::new(Slow {
+            most,
+            count: 0,
+            last: 0,
+        })
+    }
+
     #[test]
-    fn a_write_that_takes_nothing_fails(rt: HostRuntime) {
-        let mut sink = Adapter::new(Nothing);
-        assert!(rt; sink.put(b"").is_ok());
-        assert_eq!(rt; sink.put(b"piece"), Err(WriteFailed));
+    fn writes_the_whole_piece_or_fails(rt: HostRuntime) {
+        let mut piece = [b'x'; 100];
+        piece[99] = b'!';
+        let mut sink = slow(7);
+        assert!(rt; sink.put(&piece).is_ok());
+        assert_eq!(rt;
+            (sink.inner.count, sink.inner.last, sink.faults),
+            (100, b'!', 0)
+        );
+        let mut none = slow(0);
+        assert!(rt; none.put(b"").is_ok());
+        assert_eq!(rt; none.put(b"piece"), Err(WriteFailed));
+        assert_eq!(rt; none.faults, 1);
     }
 }
