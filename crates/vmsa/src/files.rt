@@ -1,4 +1,6 @@
-ghost use Rattle.std.specs.Prelude.{◌≡◌, ℕ, ◌≤◌, ◌<◌, List, length, take, IfOk, MatchOption, MatchResult, Contains};
+ghost use Rattle.std.specs.Prelude.{◌≡◌, ◌≢◌, ℕ, ◌≤◌, ◌<◌, List, length, take, IfOk, MatchOption, MatchResult, Contains};
+ghost use Rattle.std.specs.IoError.{error_kind};
+ghost use Rattle.std.specs.declared.io.ErrorKind.TheVariants.{NotFound};
 ghost use Rattle.bitwords.specs.Causes.{HasCause, Rose};
 ghost use Rattle.vmsa.specs.Held.{Holding, IsSize, IsRead, Untold};
 ghost use Rattle.vmsa.specs.FilesInMemory.{held_of};
@@ -277,6 +279,26 @@ where
         Ok(metadata.len())
     }
 
+    /// What is told of a size: None where the system answers that there is no such file, and a failure where it answers
+    /// another error.
+    fn told_size(&mut self, size: io::Result<u64>) -> Result<Option<u64>, ReadFailed>
+        ensures told { MatchResult size (λ n. result ≡ Ok (Some n)) (λ e. MatchResult result (λ n. (n ≡ None) × (error_kind e ≡ NotFound)) (λ _. error_kind e ≢ NotFound)) }
+        ensures missing { (self.old.missing ≤ self.new.missing) × (result ≡ Ok None → Rose self.old.missing self.new.missing) }
+        ensures cause { HasCause self.old.faults self.new.faults result }
+    {
+        match size {
+            Ok(size) => Ok(Some(size)),
+            Err(e) => {
+                if e.kind() == io::ErrorKind::NotFound {
+                    self.count_missing();
+                    Ok(None)
+                } else {
+                    Err(self.failed())
+                }
+            }
+        }
+    }
+
     fn real_read(&mut self, name: &str, at: u64, into: &mut [u8]) -> io::Result<usize>
         ensures bound { IfOk result (λ n. n ≤ length into.new) }
         ensures faults { self.new.faults ≡ self.old.faults }
@@ -307,17 +329,8 @@ where
     ghost reads = { λ _ _ _ _ _. Unit {0} };
 
     fn size(&mut self, name: &str) -> Result<Option<u64>, ReadFailed> {
-        match self.real_size(name) {
-            Ok(size) => Ok(Some(size)),
-            Err(e) => {
-                if e.kind() == io::ErrorKind::NotFound {
-                    self.count_missing();
-                    Ok(None)
-                } else {
-                    Err(self.failed())
-                }
-            }
-        }
+        let size = self.real_size(name);
+        self.told_size(size)
     }
 
     fn read_at(&mut self, name: &str, at: u64, into: &mut [u8]) -> Result<usize, ReadFailed> {

@@ -182,7 +182,7 @@ mod tests {
         }
     }
 
-    fn slow(most: usize) -> Adapter<Slow> {
+    fn adapter_of(most: usize) -> Adapter<Slow> {
         Adapter::new(Slow {
             most,
             count: 0,
@@ -194,13 +194,13 @@ mod tests {
     fn writes_the_whole_piece_or_fails(rt: HostRuntime) {
         let mut piece = [b'x'; 100];
         piece[99] = b'!';
-        let mut sink = slow(7);
+        let mut sink = adapter_of(7);
         assert!(rt; sink.put(&piece).is_ok());
         assert_eq!(rt;
             (sink.inner.count, sink.inner.last, sink.faults),
             (100, b'!', 0)
         );
-        let mut none = slow(0);
+        let mut none = adapter_of(0);
         assert!(rt; none.put(b"").is_ok());
         assert_eq!(rt; none.put(b"piece"), Err(WriteFailed));
         assert_eq!(rt; none.faults, 1);
