@@ -70,6 +70,26 @@ runs 'a word that is not UTF-8' 2 '' "$usage" raw image 0x10 0x1000 $'\xff'
 runs 'a name that is not UTF-8' 2 '' "$usage" raw $'imag\xe9' 0x10 0x1000 0x0
 runs 'an unsupported field' 4 '' $'vmsa: raw: unsupported TCR_EL1.DS\n' raw image 0x800000000000010 0x1000 0x0
 
+# Words that memory is refused for: a limit at which the program starts, and its words don't fit.
+if command -v prlimit >/dev/null; then
+    words=()
+    for _ in {1..15}; do words+=("$(printf 'a%.0s' {1..120000})"); done
+    refused=no
+    right=yes
+    for limit in {40..90..5}; do
+        prlimit --as="${limit}00000" ./vmsa "${words[@]}" >out 2>err
+        case $? in
+        7) refused=yes; [ -s out ] || [ -s err ] && right=no ;;
+        2) [ "$(cat out err)"$'\n' = "$usage" ] || right=no ;;
+        127) [ -s out ] && right=no ;;
+        *) right=no ;;
+        esac
+    done
+    [ $right = yes ] && told 'memory for the words is refused' $refused || told 'memory for the words is refused' no
+else
+    echo 'edges: no prlimit, so want of memory for the words was not tried'
+fi
+
 # Sizes.
 : >empty
 truncate -s 7 seven
