@@ -102,16 +102,3 @@ fn main(rt: HostRuntime) -> ExitCode {
     let mut files = RealFiles::new(rt, alloc);
     run(alloc, words, &mut files, &mut out, &mut err)
 }
-
-#[cfg(test)]
-mod tests {
-    use super::*;
-
-    #[test]
-    fn words_that_are_not_utf_8_are_no_command(rt: HostRuntime) {
-        let unread = no_words(rt.alloc(), io::Error::from(io::ErrorKind::InvalidData));
-        assert!(rt; unread.is_ok_and(|words| words.is_empty()));
-        let refused = no_words(rt.alloc(), io::Error::from(io::ErrorKind::OutOfMemory));
-        assert!(rt; refused.is_err());
-    }
-}

@@ -146,18 +146,6 @@ impl Sink for FailingMemory {
 #[cfg(test)]
 mod tests {
     use super::*;
-    use std::fs::OpenOptions;
-    use std::test::Fail;
-
-    #[test]
-    fn writes_to_real_files(rt: HostRuntime) -> Result<(), Fail> {
-        let mut null = Adapter::new(OpenOptions::new().write(true).open(&rt, "/dev/null")?);
-        assert!(rt; null.put(b"taken").is_ok());
-        let mut full = Adapter::new(OpenOptions::new().write(true).open(&rt, "/dev/full")?);
-        assert_eq!(rt; full.put(b"refused"), Err(WriteFailed));
-        assert_eq!(rt; (null.faults, full.faults), (0, 1));
-        Ok(())
-    }
 
     /// A writer that takes so many bytes at once, and counts what it got and its last byte.
     #[derive(Drop)]
