@@ -1,5 +1,5 @@
 -- What is due comes, and what comes was due.
-use Rattle.std.proofs.Common.{◌≡◌, ◌≢◌, ◌⊎◌, ℕ, ◌≤◌, List, Option, Some, None, Result, Ok, Err, inl, inr, refl, sym, ap, ◌∙◌, subst, arith}
+use Rattle.std.proofs.Common.{◌≡◌, ◌≢◌, ◌⊎◌, ℕ, ◌≤◌, List, Option, Some, None, Ok, Err, inl, inr, refl, sym, ap, ◌∙◌, subst, arith}
 use Rattle.sysregs.specs.declared.regs.Reg.TheVariants.{TcrEl1}
 use Rattle.sysregs.specs.declared.regs.Field.{Field}
 use Rattle.sysregs.specs.Refused.{refused_field}
@@ -9,11 +9,11 @@ use Rattle.trails.specs.declared.outcome.Outcome.{Outcome}
 use Rattle.walk_spec.specs.Walked.{IsFresh, WalkedWhole}
 use Rattle.walk_spec.proofs.Walks.{lacks_weaker}
 use Rattle.vmsa.specs.Held.{Holding, Untold, Absent, Bytes, Reading, ReadFails, IsMissingBy}
-use Rattle.vmsa.specs.Written.{Writing, WriteFails, Got, GotPrefix, GotNothing}
+use Rattle.vmsa.specs.Written.{Writing, WriteFails, Got, GotNothing}
 use Rattle.vmsa.specs.ImageSupply.{memory_of}
 use Rattle.vmsa.specs.Raw.{raw_regs, raw_access, raw_text, IsRawText, IsRawTextThere}
-use Rattle.vmsa.specs.Command.{RawWords, Asked, Raw}
-use Rattle.vmsa.specs.Answers.{Due, IsAccepted, IsRefused, Lacks, SurelyLacks, FailsToRead, IsAnswerable, IsText, MayRefuse, IsDue, Tells, TellsPrefix, Comes, UsageWhere, RefusedWhere, NoFileWhere, NoMemoryWhere, ReadFaultWhere, WriteFaultWhere, DoneWhere, IsQuiet, IsComplete}
+use Rattle.vmsa.specs.Command.{Asked, Raw}
+use Rattle.vmsa.specs.Answers.{Due, IsAccepted, IsRefused, Lacks, SurelyLacks, FailsToRead, IsAnswerable, IsText, IsDue, Tells, Comes, UsageWhere, RefusedWhere, NoFileWhere, NoMemoryWhere, ReadFaultWhere, WriteFaultWhere, DoneWhere, IsComplete}
 use Rattle.vmsa.specs.declared.status.Why.{Why}
 use Rattle.vmsa.specs.declared.status.Why.TheVariants.{Word}
 use Rattle.vmsa.specs.declared.status.Status.{Status}

@@ -4,7 +4,7 @@ use Rattle.std.proofs.Math.Seq.{take-add, drop-drop}
 use Rattle.std.proofs.lemmas.List.{take-append-le, drop_at, length-take-le}
 use Rattle.std.proofs.lemmas.Slice.{take-put_mid_below}
 use borrow.Rule.Slice.PartMut.{put_mid, post_of}
-use Rattle.vmsa.specs.Held.{Holding, Untold, Absent, Bytes, IsRead, CameBy, InTurns}
+use Rattle.vmsa.specs.Held.{Holding, Untold, Absent, Bytes, IsRead, InTurns}
 use Rattle.vmsa.specs.Image.{IsFront}
 
 behind : (done k : ℕ) (into rest : List ℕ) → done ≤ length into → drop done (put_mid done k into rest) ≡ rest ++ post_of done k into
@@ -34,9 +34,9 @@ front_more (Bytes bytes) before now at done k got into rest h m p r = (
       ∙ sym (take-add done got (drop at bytes)),
 )
 
-module _ {F : Type 0} (reads : F → List ℕ → ℕ → List ℕ → F → Type 0) (name : List ℕ) (at done k got : ℕ) (into rest : List ℕ) (before between after : F) where
+module _ {F : Type 0} (read : F → ℕ → List ℕ → F → Type 0) (at done k got : ℕ) (into rest : List ℕ) (before between after : F) where
   -- one more read from where the last one ended
-  pub turns_more : done ≤ length into → got ≤ length rest → InTurns reads name at before (take done into) between → reads between name (at + done) (take got rest) after → InTurns reads name at before (take (done + got) (put_mid done k into rest)) after
+  pub turns_more : done ≤ length into → got ≤ length rest → InTurns read at before (take done into) between → read between (at + done) (take got rest) after → InTurns read at before (take (done + got) (put_mid done k into rest)) after
   turns_more h m t r = record {
     turns = suc t.turns;
     came = (
@@ -44,13 +44,13 @@ module _ {F : Type 0} (reads : F → List ℕ → ℕ → List ℕ → F → Typ
       take done into,
       take got rest,
       t.came,
-      subst (λ (n : ℕ). reads between name (at + n) (take got rest) after) (sym (length-take-le done into h)) r,
+      subst (λ (n : ℕ). read between (at + n) (take got rest) after) (sym (length-take-le done into h)) r,
       front done k got into rest h m,
     );
   }
 
   -- the last read gave nothing
-  pub turns_end : done ≤ length into → got ≡ 0 → InTurns reads name at before (take done into) between → reads between name (at + done) (take got rest) after → InTurns reads name at before (take done (put_mid done k into rest)) after
+  pub turns_end : done ≤ length into → got ≡ 0 → InTurns read at before (take done into) between → read between (at + done) (take got rest) after → InTurns read at before (take done (put_mid done k into rest)) after
   turns_end h e t r =
       let same : done + got ≡ done = omega arith in
-      subst (λ (n : ℕ). InTurns reads name at before (take n (put_mid done k into rest)) after) same (turns_more h (omega arith) t r)
+      subst (λ (n : ℕ). InTurns read at before (take n (put_mid done k into rest)) after) same (turns_more h (omega arith) t r)

@@ -22,21 +22,19 @@ IsRead Untold before now at new n = n ≡ 0 → Rose before now
 IsRead Absent before now at new n = n ≡ 0
 IsRead (Bytes bytes) before now at new n = (n ≡ min (length new) (length bytes - at)) × (take n new ≡ take n (drop at bytes))
 
--- This many reads of a file gave these bytes from a place on, each from where the one before had ended. A read is told by
--- the files before it, the name, the place, the bytes that came and the files after it.
-abbrev pub CameBy : {F : Type 0} (reads : F → List ℕ → ℕ → List ℕ → F → Type 0) (name : List ℕ) (at turns : ℕ)
-    (before : F) (bytes : List ℕ) (after : F) → Type 0
-CameBy reads name at zero before bytes after = (after ≡ before) × (bytes ≡ [])
-CameBy {F} reads name at (suc turns) before bytes after =
+-- This many reads of a file gave these bytes from a place on, each from where the one before had ended. One read is told
+-- by the files before it, the place, the bytes that came and the files after it.
+abbrev pub CameBy : {F : Type 0} (read : F → ℕ → List ℕ → F → Type 0) (at turns : ℕ) (before : F) (bytes : List ℕ) (after : F) → Type 0
+CameBy read at zero before bytes after = (after ≡ before) × (bytes ≡ [])
+CameBy {F} read at (suc turns) before bytes after =
     (between : F) × (front : List ℕ) × (more : List ℕ)
-    × CameBy reads name at turns before front between
-    × reads between name (at + length front) more after × (bytes ≡ front ++ more)
+    × CameBy read at turns before front between
+    × read between (at + length front) more after × (bytes ≡ front ++ more)
 
 -- reads of a file gave these bytes from a place on, each from where the one before had ended
-pub record InTurns {F : Type 0} (reads : F → List ℕ → ℕ → List ℕ → F → Type 0) (name : List ℕ) (at : ℕ)
-    (before : F) (bytes : List ℕ) (after : F) : Type 0 where
+pub record InTurns {F : Type 0} (read : F → ℕ → List ℕ → F → Type 0) (at : ℕ) (before : F) (bytes : List ℕ) (after : F) : Type 0 where
   pub turns : ℕ
-  pub came : CameBy reads name at turns before bytes after
+  pub came : CameBy read at turns before bytes after
 
 -- the files over a call: what they hold, and their counts before and after it
 pub record Reading : Type 0 where

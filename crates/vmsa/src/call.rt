@@ -65,9 +65,11 @@ fn walk<F: Files>(asked: &RawArgs, image: &mut Image<F>) -> (Outcome, Trail)
     ensures failed { image.old.failures < image.new.failures → Rose (F.faults image.old.files.now) (F.faults image.new.files.now) }
     ensures counted { image.old.failures ≤ image.new.failures }
     ensures outcome { IsToldOutcome result.0 }
-    ensures walked { WalkedWhole (raw_regs asked.now.tcr asked.now.ttbr0) (raw_access asked.now.va) 0 (memory_of (F.holds image.old.files.now image.old.name.now))
+    ensures walked { WalkedWhole (raw_regs asked.now.tcr asked.now.ttbr0) (raw_access asked.now.va) 0
+        (memory_of (F.holds image.old.files.now image.old.name.now))
         (Rose image.old.failures image.new.failures) result.1 result.0 }
-    ensures fresh { IsFresh (raw_regs asked.now.tcr asked.now.ttbr0) (raw_access asked.now.va) 0 (memory_of (F.holds image.old.files.now image.old.name.now))
+    ensures fresh { IsFresh (raw_regs asked.now.tcr asked.now.ttbr0) (raw_access asked.now.va) 0
+        (memory_of (F.holds image.old.files.now image.old.name.now))
         (Rose image.old.failures image.new.failures) result.1 result.0 }
 {
     translate1(&registers(asked.tcr, asked.ttbr0), &access(asked.va), image)

@@ -25,8 +25,8 @@ pub trait Files {
     /// How often a name was found missing or a file found ended.
     ghost missing: { Self → ℕ };
 
-    /// One read: the files before it, the name, the place, the bytes that came and the files after it.
-    ghost reads: { Self → List ℕ → ℕ → List ℕ → Self → Type 0 };
+    /// One read: the name, the files before it, the place, the bytes that came and the files after it.
+    ghost reads: { List ℕ → Self → ℕ → List ℕ → Self → Type 0 };
 
     /// The file's size in bytes, or None where there is no such file. No byte of it is read.
     fn size(&mut self, name: &str) -> Result<Option<u64>, ReadFailed>
@@ -41,7 +41,7 @@ pub trait Files {
         ensures same { holds self.new ≡ holds self.old }
         ensures bound { IfOk result (λ n. n ≤ length into.new) }
         ensures bytes { IfOk result (IsRead (holds self.old name.now) (missing self.old) (missing self.new) at into.new) }
-        ensures read { IfOk result (λ n. reads self.old name.now at (take n into.new) self.new) }
+        ensures read { IfOk result (λ n. reads name.now self.old at (take n into.new) self.new) }
         ensures missing { missing self.old ≤ missing self.new }
         ensures cause { HasCause (faults self.old) (faults self.new) result };
 }
@@ -282,7 +282,8 @@ where
     /// What is told of a size: None where the system answers that there is no such file, and a failure where it answers
     /// another error.
     fn told_size(&mut self, size: io::Result<u64>) -> Result<Option<u64>, ReadFailed>
-        ensures told { MatchResult size (λ n. result ≡ Ok (Some n)) (λ e. MatchResult result (λ n. (n ≡ None) × (error_kind e ≡ NotFound)) (λ _. error_kind e ≢ NotFound)) }
+        ensures told { MatchResult size (λ n. result ≡ Ok (Some n))
+            (λ e. MatchResult result (λ n. (n ≡ None) × (error_kind e ≡ NotFound)) (λ _. error_kind e ≢ NotFound)) }
         ensures missing { (self.old.missing ≤ self.new.missing) × (result ≡ Ok None → Rose self.old.missing self.new.missing) }
         ensures cause { HasCause self.old.faults self.new.faults result }
     {

@@ -18,7 +18,7 @@ pub fn fill_from<F: Files>(
     ensures same { F.holds files.new ≡ F.holds files.old }
     ensures bound { IfOk result (λ n. n ≤ length into.new) }
     ensures bytes { IfOk result (IsFilled (F.holds files.old name.now) (F.missing files.old) (F.missing files.new) at into.new) }
-    ensures turns { IfOk result (λ n. InTurns F.reads name.now at files.old (take n into.new) files.new) }
+    ensures turns { IfOk result (λ n. InTurns (F.reads name.now) at files.old (take n into.new) files.new) }
     ensures missing { F.missing files.old ≤ F.missing files.new }
     ensures cause { HasCause (F.faults files.old) (F.faults files.new) result }
 {

@@ -14,8 +14,8 @@ loop-done-preserved g c =
       missing = omega (arith, got.missing);
       faults = omega (arith, got.cause.later);
       front = front_more _ _ _ _ _ _ _ _ _ c.loop-done.invariant.within got.bound c.loop-done.invariant.front (rw c.loop-done.invariant.same at got.bytes);
-      turns = turns_more _ _ _ _ _ _ _ _ _ _ _ c.loop-done.invariant.within got.bound c.loop-done.invariant.turns got.read;
+      turns = turns_more _ _ _ _ _ _ _ _ _ _ c.loop-done.invariant.within got.bound c.loop-done.invariant.turns got.read;
     }
 
 pub returns-then-count-eq0-clause-turns : goal.returns-then-count-eq0-clause-turns
-returns-then-count-eq0-clause-turns g c = turns_end _ _ _ _ _ _ _ _ _ _ _ c.loop-done.invariant.within c.if-count-eq0.true c.loop-done.invariant.turns c.in_ok-count.ensures.read
+returns-then-count-eq0-clause-turns g c = turns_end _ _ _ _ _ _ _ _ _ _ c.loop-done.invariant.within c.if-count-eq0.true c.loop-done.invariant.turns c.in_ok-count.ensures.read

@@ -10,7 +10,7 @@ invariant-loop-done g l = record {
   missing : g.F.Files.missing l.fn.files ≤ g.F.Files.missing l.files;
   faults : g.F.Files.faults l.fn.files ≤ g.F.Files.faults l.files;
   front : IsFront (g.F.Files.holds l.fn.files l.name) l.at l.into l.done;
-  turns : InTurns g.F.Files.reads l.name l.at l.fn.files (take l.done l.into) l.files;
+  turns : InTurns (g.F.Files.reads l.name) l.at l.fn.files (take l.done l.into) l.files;
 }
 
 abbrev pub decreases-loop-done : goal.decreases-loop-done
