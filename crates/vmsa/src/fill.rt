@@ -1,5 +1,6 @@
-ghost use Rattle.std.specs.Prelude.{◌≡◌, ◌≤◌, ◌+◌, ◌%◌, ◌^◌, length, IfOk};
+ghost use Rattle.std.specs.Prelude.{◌≡◌, ◌≤◌, ◌+◌, ◌%◌, ◌^◌, length, take, IfOk};
 ghost use Rattle.bitwords.specs.Causes.{HasCause};
+ghost use Rattle.vmsa.specs.Held.{InTurns};
 ghost use Rattle.vmsa.specs.Image.{IsFilled, IsImageWord, IsMissed};
 
 use crate::files::{Files, ReadFailed};
@@ -17,6 +18,7 @@ pub fn fill_from<F: Files>(
     ensures same { F.holds files.new ≡ F.holds files.old }
     ensures bound { IfOk result (λ n. n ≤ length into.new) }
     ensures bytes { IfOk result (IsFilled (F.holds files.old name.now) (F.missing files.old) (F.missing files.new) at into.new) }
+    ensures turns { IfOk result (λ n. InTurns (F.reads name.now) at files.old (take n into.new) files.new) }
     ensures missing { F.missing files.old ≤ F.missing files.new }
     ensures cause { HasCause (F.faults files.old) (F.faults files.new) result }
 {
@@ -46,60 +48,4 @@ pub fn word_at<F: Files>(files: &mut F, name: &str, pa: u64) -> Result<Option<u6
         return Ok(None);
     }
     Ok(Some(LittleEndian::read_u64(&bytes)))
-}
-
-#[cfg(test)]
-mod tests {
-    use super::*;
-    use crate::files::{FailingFiles, MemoryFile, MemoryFiles};
-    use std::alloc::{AllocError, Global};
-    use std::test::Fail;
-
-    /// A file of 20 bytes, which are 1, 2 and so on.
-    fn image(alloc: Global) -> Result<Vec<MemoryFile>, AllocError> {
-        let file = MemoryFile {
-            name: String::from_str(alloc, "image")?,
-            bytes: Vec::from_slice(
-                alloc,
-                &[
-                    1, 2, 3, 4, 5, 6, 7, 8, 9, 10, 11, 12, 13, 14, 15, 16, 17, 18, 19, 20,
-                ],
-            )?,
-        };
-        let mut files = Vec::new(alloc);
-        files.push(file)?;
-        Ok(files)
-    }
-
-    #[test]
-    fn reads_words_up_to_the_end_of_the_file(rt: HostRuntime) -> Result<(), Fail> {
-        let mut files = MemoryFiles {
-            files: image(rt.alloc())?,
-        };
-        assert_eq!(rt;
-            word_at(&mut files, "image", 0),
-            Ok(Some(0x0807_0605_0403_0201))
-        );
-        assert_eq!(rt;
-            word_at(&mut files, "image", 8),
-            Ok(Some(0x100f_0e0d_0c0b_0a09))
-        );
-        assert_eq!(rt; word_at(&mut files, "image", 16), Ok(None));
-        assert_eq!(rt; word_at(&mut files, "image", u64::MAX - 7), Ok(None));
-        assert_eq!(rt; word_at(&mut files, "other", 0), Ok(None));
-        Ok(())
-    }
-
-    #[test]
-    fn a_read_fails(rt: HostRuntime) -> Result<(), Fail> {
-        let mut files = FailingFiles::new(image(rt.alloc())?, vec![in rt.alloc(); 1]?);
-        assert_eq!(rt; files.size("image"), Ok(Some(20)));
-        assert_eq!(rt; word_at(&mut files, "image", 8), Err(ReadFailed));
-        assert_eq!(rt;
-            word_at(&mut files, "image", 8),
-            Ok(Some(0x100f_0e0d_0c0b_0a09))
-        );
-        assert_eq!(rt; (files.calls, files.faults), (3, 1));
-        Ok(())
-    }
 }

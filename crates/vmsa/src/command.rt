@@ -1,6 +1,6 @@
 ghost use Rattle.std.specs.Prelude.{◌≡◌, map, string_bytes, option_map};
 ghost use Rattle.std.specs.List.{list_all};
-ghost use Rattle.vmsa.specs.Words.{command_of, is_plain, raw_of, raw_with, raw_words_of};
+ghost use Rattle.vmsa.specs.Command.{asked_of, command_of, is_plain, raw_of, raw_words_of};
 
 use crate::numbers::number;
 
@@ -11,6 +11,12 @@ pub struct RawArgs<'a> {
     pub tcr: u64,
     pub ttbr0: u64,
     pub va: u64,
+}
+
+/// A command and its arguments.
+#[derive(Clone, Copy, Debug, PartialEq, Eq)]
+pub enum Command<'a> {
+    Raw(RawArgs<'a>),
 }
 
 fn plain(word: &str) -> bool
@@ -36,7 +42,7 @@ fn raw_with<'a>(
     ttbr0: Option<u64>,
     va: Option<u64>,
 ) -> Option<RawArgs<'a>>
-    ensures { option_map raw_words_of result ≡ Rattle.vmsa.specs.Words.raw_with image.now tcr ttbr0 va }
+    ensures { option_map raw_words_of result ≡ Rattle.vmsa.specs.Command.raw_with image.now tcr ttbr0 va }
 {
     Some(RawArgs {
         image,
@@ -66,64 +72,16 @@ fn raw(words: &[String]) -> Option<RawArgs<'_>>
 }
 
 /// What the words after the program's name ask for: `raw IMAGE TCR TTBR0 VA`. None where they are no command.
-pub fn command(words: &[String]) -> Option<RawArgs<'_>>
-    ensures { option_map raw_words_of result ≡ command_of (map string_bytes words.now) }
+pub fn read_command(words: &[String]) -> Option<Command<'_>>
+    ensures { option_map asked_of result ≡ command_of (map string_bytes words.now) }
 {
     if !all_plain(words) {
         return None;
     }
     let (name, rest) = words.split_first()?;
     if name.as_str() == "raw" {
-        raw(rest)
+        Some(Command::Raw(raw(rest)?))
     } else {
         None
-    }
-}
-
-#[cfg(test)]
-mod tests {
-    use super::*;
-    use std::alloc::{AllocError, Global};
-    use std::test::Fail;
-
-    fn owned(alloc: Global, words: &[&str]) -> Result<Vec<String>, AllocError> {
-        let mut list = Vec::new(alloc);
-        for word in words {
-            list.push(String::from_str(alloc, *word)?)?;
-        }
-        Ok(list)
-    }
-
-    #[test]
-    fn reads_a_command(rt: HostRuntime) -> Result<(), Fail> {
-        let words = owned(rt.alloc(), &["raw", "image", "0x10", "4096", "0xABC"])?;
-        let expected = RawArgs {
-            image: "image",
-            tcr: 0x10,
-            ttbr0: 4096,
-            va: 0xabc,
-        };
-        assert_eq!(rt; command(words.as_slice()), Some(expected));
-        Ok(())
-    }
-
-    #[test]
-    fn refuses_what_is_no_command(rt: HostRuntime) -> Result<(), Fail> {
-        let cases: [&[&str]; 9] = [
-            &[],
-            &["raw"],
-            &["walk", "image", "1", "2", "3"],
-            &["raw", "image", "1", "2"],
-            &["raw", "image", "1", "2", "3", "4"],
-            &["raw", "", "1", "2", "3"],
-            &["raw", "-x", "1", "2", "3"],
-            &["-raw", "image", "1", "2", "3"],
-            &["raw", "image", "1", "two", "3"],
-        ];
-        for (i, case) in cases.iter().enumerate() {
-            let words = owned(rt.alloc(), *case)?;
-            assert!(rt; command(words.as_slice()).is_none(), "case {i}");
-        }
-        Ok(())
     }
 }
