@@ -1,7 +1,7 @@
 -- What an image says as a supply of words.
 use Rattle.std.specs.Prelude.{ℕ, ◌≡◌, ◌≤◌, ◌<◌, List, Some, None}
 use Rattle.bitwords.specs.Causes.{Rose}
-use Rattle.walk_spec.specs.Walked.{Told}
+use Rattle.table_reads.specs.Memory.{Told}
 use Rattle.vmsa.specs.Held.{Holding, Untold, Absent, Bytes}
 use Rattle.vmsa.specs.Image.{image_word}
 use Rattle.vmsa.specs.declared.image.Image.{Image}

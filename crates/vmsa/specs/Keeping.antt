@@ -2,7 +2,7 @@
 use Rattle.std.proofs.Common.{ℕ, ◌<◌, ◌≤◌, List, refl, ◌∙◌, arith, inl, inr}
 use Rattle.std.proofs.lemmas.Bool.{cases_lt}
 use Rattle.bitwords.specs.Causes.{Rose}
-use Rattle.walk_spec.proofs.Walks.{rose_weaker}
+use Rattle.table_reads.proofs.Weaker.{rose_weaker}
 use Rattle.vmsa.specs.Held.{Holding}
 use Rattle.vmsa.specs.ImageSupply.{Keeps}
 use Rattle.vmsa.specs.declared.image.Image.{Image}

@@ -1,6 +1,6 @@
 ghost use Rattle.std.specs.Prelude.{◌≡◌, ◌⊎◌, ◌≤◌, ◌<◌, ◌++◌, map, flat_map, string_bytes, IfOk, IfErr, Some};
 ghost use Rattle.bitwords.specs.Causes.{Rose, HasCause};
-ghost use Rattle.walk_spec.specs.Walked.{IsToldOutcome, IsFresh, WalkedWhole};
+ghost use Rattle.walk_spec.specs.Walked.{HasLine, IsFresh, WalkedWhole};
 ghost use Rattle.trails.specs.Texts.{item_text};
 ghost use Rattle.vmsa.specs.ErrText.{err_text};
 ghost use Rattle.vmsa.specs.Held.{reading_of};
@@ -64,7 +64,7 @@ fn walk<F: Files>(asked: &RawArgs, image: &mut Image<F>) -> (Outcome, Trail)
     ensures later { F.faults image.old.files.now ≤ F.faults image.new.files.now }
     ensures failed { image.old.failures < image.new.failures → Rose (F.faults image.old.files.now) (F.faults image.new.files.now) }
     ensures counted { image.old.failures ≤ image.new.failures }
-    ensures outcome { IsToldOutcome result.0 }
+    ensures outcome { HasLine result.0 }
     ensures walked { WalkedWhole (raw_regs asked.now.tcr asked.now.ttbr0) (raw_access asked.now.va) 0
         (memory_of (F.holds image.old.files.now image.old.name.now))
         (Rose image.old.failures image.new.failures) result.1 result.0 }
@@ -78,7 +78,7 @@ fn walk<F: Files>(asked: &RawArgs, image: &mut Image<F>) -> (Outcome, Trail)
 /// The answer over a file that is there.
 fn answer_over<F: Files>(asked: &RawArgs, files: &mut F) -> Result<Answer, Status>
     ensures later { F.faults files.old ≤ F.faults files.new }
-    ensures outcome { IfOk result (λ a. IsToldOutcome a.outcome) }
+    ensures outcome { IfOk result (λ a. HasLine a.outcome) }
     ensures text { IfOk result (λ a. IsRawTextThere (F.holds files.old asked.now.image.now) (raw_words_of asked.now) (answer_text a)) }
     ensures fault { IfErr result (λ s. (s ≡ Status.ReadFault) × Rose (F.faults files.old) (F.faults files.new)) }
 {
@@ -111,7 +111,7 @@ fn no_file(alloc: Global, name: &str) -> Status
 /// What comes of an accepted read over an image.
 fn read_image<F: Files>(alloc: Global, asked: &RawArgs, files: &mut F) -> Result<Answer, Status>
     requires { IsAccepted (Asked.Raw (raw_words_of asked.now)) }
-    ensures outcome { IfOk result (λ a. IsToldOutcome a.outcome) }
+    ensures outcome { IfOk result (λ a. HasLine a.outcome) }
     ensures due { IsDue (reading_of F.holds F.faults F.missing files.old files.new) (Some (Asked.Raw (raw_words_of asked.now))) (due_of result) }
 {
     match files.size(asked.image) {
@@ -123,7 +123,7 @@ fn read_image<F: Files>(alloc: Global, asked: &RawArgs, files: &mut F) -> Result
 
 /// What comes of an EL1 read over an image.
 fn raw<F: Files>(alloc: Global, asked: &RawArgs, files: &mut F) -> Result<Answer, Status>
-    ensures outcome { IfOk result (λ a. IsToldOutcome a.outcome) }
+    ensures outcome { IfOk result (λ a. HasLine a.outcome) }
     ensures due { IsDue (reading_of F.holds F.faults F.missing files.old files.new) (Some (Asked.Raw (raw_words_of asked.now))) (due_of result) }
 {
     if let Err(at) = check_reg(Reg::TcrEl1, asked.tcr) {
@@ -136,7 +136,7 @@ fn raw<F: Files>(alloc: Global, asked: &RawArgs, files: &mut F) -> Result<Answer
 
 /// What is due, before anything is written: an answer, or a refusal.
 fn due<F: Files>(alloc: Global, words: &[String], files: &mut F) -> Result<Answer, Status>
-    ensures outcome { IfOk result (λ a. IsToldOutcome a.outcome) }
+    ensures outcome { IfOk result (λ a. HasLine a.outcome) }
     ensures due { IsDue (reading_of F.holds F.faults F.missing files.old files.new) (command_of (map string_bytes words.now)) (due_of result) }
 {
     match read_command(words) {
@@ -147,7 +147,7 @@ fn due<F: Files>(alloc: Global, words: &[String], files: &mut F) -> Result<Answe
 
 /// The last line of an answer.
 fn outcome_line<O: Sink>(out: &mut O, outcome: &Outcome) -> Result<(), WriteFailed>
-    requires { IsToldOutcome outcome.now }
+    requires { HasLine outcome.now }
     ensures text { Wrote (O.written out.old) (O.written out.new) result (raw_outcome_text outcome.now) }
     ensures cause { HasCause (O.faults out.old) (O.faults out.new) result }
 {
@@ -167,7 +167,7 @@ fn outcome_line<O: Sink>(out: &mut O, outcome: &Outcome) -> Result<(), WriteFail
 /// The lines behind the first.
 #[tactic(auto, using(crate::proofs::Sinks::fails_first, crate::proofs::Sinks::goes_on))]
 fn walk_lines<O: Sink>(out: &mut O, answer: &Answer) -> Result<(), WriteFailed>
-    requires { IsToldOutcome answer.now.outcome }
+    requires { HasLine answer.now.outcome }
     ensures text { Wrote (O.written out.old) (O.written out.new) result (flat_map item_text answer.now.trail ++ raw_outcome_text answer.now.outcome) }
     ensures cause { HasCause (O.faults out.old) (O.faults out.new) result }
 {
@@ -178,7 +178,7 @@ fn walk_lines<O: Sink>(out: &mut O, answer: &Answer) -> Result<(), WriteFailed>
 /// The text of an answer.
 #[tactic(auto, using(crate::proofs::Sinks::fails_first, crate::proofs::Sinks::goes_on))]
 fn answer_lines<O: Sink>(out: &mut O, answer: &Answer) -> Result<(), WriteFailed>
-    requires { IsToldOutcome answer.now.outcome }
+    requires { HasLine answer.now.outcome }
     ensures text { Wrote (O.written out.old) (O.written out.new) result (answer_text answer.now) }
     ensures cause { HasCause (O.faults out.old) (O.faults out.new) result }
 {
@@ -205,7 +205,7 @@ fn error_line<E: Sink>(err: &mut E, status: &Status) -> Result<(), WriteFailed>
 
 /// Writes what is due.
 fn tell<O: Sink, E: Sink>(out: &mut O, err: &mut E, due: Result<Answer, Status>) -> Status
-    requires { IfOk due (λ a. IsToldOutcome a.outcome) }
+    requires { IfOk due (λ a. HasLine a.outcome) }
     ensures { Tells (writing_of O.written O.faults out.old out.new) (writing_of E.written E.faults err.old err.new) (due_of due) result }
 {
     match due {

@@ -1,6 +1,6 @@
 use crate::files::Files;
 use crate::fill::word_at;
-use walk_spec::Supply;
+use table_reads::Supply;
 
 /// A file whose bytes are memory from address 0, with a count of the reads that failed.
 #[derive(Drop)]
