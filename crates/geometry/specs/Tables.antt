@@ -46,7 +46,8 @@ row_at (row ∷ rows) a b = if row.0 == a && row.1 == b then Some row.2 else row
 
 -- stage 2: granule, SL0, and the levels left at the start (VTCR_EL2.SL0); no row is an invalid code
 abbrev pub start_rows2 : List (ℕ × ℕ × ℕ)
-start_rows2 = (12, 0, 1) ∷ (12, 1, 2) ∷ (12, 2, 3) ∷ (12, 3, 0) ∷ (14, 0, 0) ∷ (14, 1, 1) ∷ (14, 2, 2) ∷ (16, 0, 0) ∷ (16, 1, 1) ∷ (16, 2, 2) ∷ []
+start_rows2 =
+    (12, 0, 1) ∷ (12, 1, 2) ∷ (12, 2, 3) ∷ (12, 3, 0) ∷ (14, 0, 0) ∷ (14, 1, 1) ∷ (14, 2, 2) ∷ (16, 0, 0) ∷ (16, 1, 1) ∷ (16, 2, 2) ∷ []
 
 -- stage 2: the levels left at the start
 abbrev pub start_left2 : (granule sl0 : ℕ) → Option ℕ

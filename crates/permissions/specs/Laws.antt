@@ -34,7 +34,8 @@ TablesOnlyTake =
 -- PXNTable and UXNTable give no right at all.
 abbrev pub FetchBitsOnlyTake : Type 0
 FetchBitsOnlyTake =
-    (leaf : Bits1) → (tables more : TableBits) → (dirty wxn : Bool) → more.no_el0 ≡ false → more.read_only ≡ false → (el : El) → (kind : Kind) →
+    (leaf : Bits1) → (tables more : TableBits) → (dirty wxn : Bool)
+    → more.no_el0 ≡ false → more.read_only ≡ false → (el : El) → (kind : Kind) →
     IsTrue (may (set_of1 leaf (joined tables more) dirty wxn) el kind) → IsTrue (may (set_of1 leaf tables dirty wxn) el kind)
 
 -- Where the second set gives an exception level a fetch that the first doesn't, it lacks a write that the first gives.

@@ -76,7 +76,8 @@ fn walk_granule<S: Supply>(
     ensures later { S.faults supply.old ≤ S.faults supply.new }
     ensures kept { S.keeps supply.old supply.new }
     ensures line { IfErr result HasLineStop }
-    ensures walked { WalkedFrom (S.memory supply.old) (Rose (S.faults supply.old) (S.faults supply.new)) config.now access.now from.now trail.old trail.new result }
+    ensures walked { WalkedFrom (S.memory supply.old) (Rose (S.faults supply.old) (S.faults supply.new))
+        config.now access.now from.now trail.old trail.new result }
 {
     case_table!(granule config.tg(sysregs::side(access.va)); walk1::<_, S>(config, access, from, supply, trail))
 }

@@ -45,7 +45,8 @@ fn walk_left<const G: u32, S: Supply>(
     ensures later { S.faults supply.old ≤ S.faults supply.new }
     ensures kept { S.keeps supply.old supply.new }
     ensures line { IfErr result HasLineStop }
-    ensures walked { WalkedLeft (S.memory supply.old) (Rose (S.faults supply.old) (S.faults supply.new)) (asked_under under.now) left table trail.old trail.new result }
+    ensures walked { WalkedLeft (S.memory supply.old) (Rose (S.faults supply.old) (S.faults supply.new))
+        (asked_under under.now) left table trail.old trail.new result }
 {
     let entry = Entry1 {
         table,
@@ -87,7 +88,8 @@ pub fn walk1<const G: u32, S: Supply>(
     ensures later { S.faults supply.old ≤ S.faults supply.new }
     ensures kept { S.keeps supply.old supply.new }
     ensures line { IfErr result HasLineStop }
-    ensures walked { WalkedFrom (S.memory supply.old) (Rose (S.faults supply.old) (S.faults supply.new)) config.now access.now from.now trail.old trail.new result }
+    ensures walked { WalkedFrom (S.memory supply.old) (Rose (S.faults supply.old) (S.faults supply.new))
+        config.now access.now from.now trail.old trail.new result }
 {
     let side = sysregs::side(access.va);
     let under = Under {

@@ -71,4 +71,5 @@ fault_text f =
 abbrev pub absent_text : (stage : Stage) (level : ℤ) (place : ℕ) (s1ptw : Bool) → List ℕ
 absent_text s level pa s1ptw =
     joined_text
-    (codes "absent stage " ∷ stage_digit s ∷ codes " level " ∷ level_text level ∷ codes " at " ∷ hex_text pa ∷ mark_text s1ptw ∷ codes "\n" ∷ [])
+    (codes "absent stage " ∷ stage_digit s ∷ codes " level " ∷ level_text level
+    ∷ codes " at " ∷ hex_text pa ∷ mark_text s1ptw ∷ codes "\n" ∷ [])
