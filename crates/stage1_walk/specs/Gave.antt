@@ -5,7 +5,7 @@ use Rattle.fault_codes.specs.Status.{HasStatus}
 use Rattle.trails.specs.declared.item.Item.{Item}
 use Rattle.trails.specs.declared.outcome.Stop.{Stop}
 use Rattle.trails.specs.declared.outcome.Stop.TheVariants.{Fault, Absent, Conflict}
-use Rattle.trails.specs.Length.{most_per_word}
+use Rattle.trails.specs.Lengths.{most_per_word}
 use Rattle.walk_spec.specs.declared.entry.Entry1.{Entry1}
 use Rattle.walk_spec.specs.declared.entry.Table1.{Table1}
 use Rattle.walk_spec.specs.declared.leaf.Leaf1.{Leaf1}

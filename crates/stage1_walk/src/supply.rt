@@ -1,7 +1,7 @@
 ghost use Rattle.std.specs.Prelude.{◌≡◌, ◌+◌, ◌≤◌, ◌%◌, ℕ, ℤ, List, length, Result, IfErr};
 ghost use Rattle.trails.specs.declared.item.Item.{Item};
 ghost use Rattle.trails.specs.declared.outcome.Stop.{Stop};
-ghost use Rattle.trails.specs.Length.{most_items, most_per_word};
+ghost use Rattle.trails.specs.Lengths.{most_items, most_per_word};
 ghost use Rattle.stage1_walk.specs.Gave.{Gave, HasCode};
 
 use trails::{Stop, Trail};

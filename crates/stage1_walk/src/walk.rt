@@ -2,7 +2,7 @@ ghost use Rattle.std.specs.Prelude.{◌≡◌, ◌+◌, ◌-◌, ◌*◌, ◌≤
 ghost use Rattle.geometry.specs.Tables.{most_left, left_below, level_of};
 ghost use Rattle.sysregs.specs.Registers.{InRange, granule_of};
 ghost use Rattle.sysregs.specs.Sides.{side_of, tg_of};
-ghost use Rattle.trails.specs.Length.{most_items, most_per_word};
+ghost use Rattle.trails.specs.Lengths.{most_items, most_per_word};
 ghost use Rattle.walk_spec.specs.Stage1.{untagged};
 ghost use Rattle.walk_spec.specs.BothStages.{asked, is_refused1};
 ghost use Rattle.stage1_walk.specs.Under.{IsUnder, asked_under};

@@ -4,7 +4,7 @@ ghost use Rattle.geometry.specs.Tables.{level_of};
 ghost use Rattle.sysregs.specs.Registers.{InRange, config_of};
 ghost use Rattle.permissions.specs.Rights.{no_bits};
 ghost use Rattle.fault_codes.specs.declared.fault.Stage.TheVariants.{S1, S2};
-ghost use Rattle.trails.specs.Length.{most_items};
+ghost use Rattle.trails.specs.Lengths.{most_items};
 ghost use Rattle.table_reads.specs.Numbers.{AreSound, is_sized1, is_sized2};
 ghost use Rattle.table_reads.specs.Items.{base_item};
 ghost use Rattle.walk_spec.specs.Fresh.{start_base1, start_base2};
