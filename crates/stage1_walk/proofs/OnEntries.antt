@@ -50,7 +50,7 @@ none_behind : (ys : List Item) (j : Item) (A : Type 0) → [] ≡ ys ++ j ∷ []
 none_behind ys j A e = absurd (omega (arith, ap length e, length-append ys (j ∷ [])))
 
 -- lists that end in one item and are equal have equal last items
-last_same : (xs ys : List Item) (i j : Item) → xs ++ i ∷ [] ≡ ys ++ j ∷ [] → i ≡ j
+pub last_same : (xs ys : List Item) (i j : Item) → xs ++ i ∷ [] ≡ ys ++ j ∷ [] → i ≡ j
 last_same [] [] i j e = cc
 last_same [] (y ∷ ys) i j e = let f : [] ≡ ys ++ j ∷ [] = cc in none_behind ys j (i ≡ j) f
 last_same (x ∷ xs) [] i j e = let f : [] ≡ xs ++ i ∷ [] = cc in none_behind xs i (i ≡ j) f

@@ -6,4 +6,6 @@ pub use Rattle.walk_spec.specs.Stage1
 pub use Rattle.walk_spec.specs.BothStages
 pub use Rattle.walk_spec.specs.Fresh
 pub use Rattle.walk_spec.specs.Walked
+pub mod Checked
 pub mod Parts
+pub mod Deep

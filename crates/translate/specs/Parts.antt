@@ -73,6 +73,11 @@ abbrev pub leaf1_or_off : (config : Config) (access : Access) (leaf : Option Lea
 leaf1_or_off c a None = off_leaf c a
 leaf1_or_off c a (Some l) = l
 
+-- the output of stage 1; while it is off, VA bits 51 to 0
+abbrev pub out_of : (access : Access) (leaf : Option Leaf1) → ℕ
+out_of a None = a.va % 2 ^ 52
+out_of a (Some l) = l.out
+
 -- how an access comes out behind both leaves; without one of stage 2 that stage is off
 abbrev pub finish_of : (config : Config) (access : Access) (leaf1 : Option Leaf1) (leaf2 : Option Leaf2) → Outcome
 finish_of c a leaf1 None = outcome_of (reaches (landed (leaf1_or_off c a leaf1)))

@@ -2,9 +2,15 @@
 #![tactic(auto)]
 
 mod begin;
+mod deep;
 pub mod parts;
+mod stage1;
+mod stage2;
+mod under;
+mod whole;
 
 pub use begin::Begin1;
+pub use whole::translate;
 
 #[cfg(test)]
 mod tests;

@@ -1,0 +1,128 @@
+//! The words of stage 1, each by the stage 2 of its place.
+ghost use Rattle.std.specs.Prelude.{◌≡◌, ◌+◌, ◌*◌, ◌≤◌, length, true, IsFalse, IfErr};
+ghost use Rattle.bitwords.specs.Causes.{Rose};
+ghost use Rattle.geometry.specs.Tables.{left_below};
+ghost use Rattle.sysregs.specs.Registers.{InRange, config_of};
+ghost use Rattle.sysregs.specs.Sides.{side_of};
+ghost use Rattle.trails.specs.Lengths.{most_items, most_per_word};
+ghost use Rattle.walk_spec.specs.BothStages.{asked, is_refused1};
+ghost use Rattle.walk_spec.specs.Walked.{HasLineStop};
+ghost use Rattle.stage1_walk.specs.Clauses.{IsTableOf, table_from};
+ghost use Rattle.stage1_walk.specs.Gave.{HasCode, Walked1};
+ghost use Rattle.translate.specs.Deep.{DeepGave, WalkedFrom1, walker1};
+
+use crate::parts::descriptor_read;
+use crate::stage2::stage2;
+use crate::under::Under;
+use fault_codes::Stage;
+use geometry::case_table;
+use stage1_walk::{From1, Supply1, walk1};
+use sysregs::{Config, Tg};
+use table_reads::{Supply, Walker, read};
+use trails::{Access, Stop, Trail};
+use walk_spec::Leaf1;
+
+/// Words of stage 1 over a supply of words of memory.
+#[derive(Drop)]
+pub struct Deep<'a, S> {
+    under: &'a Under,
+    supply: &'a mut S,
+}
+
+/// Stage 1 at moment 0.
+fn walker1() -> Walker
+    ensures { result ≡ walker1 }
+{
+    Walker {
+        moment: 0,
+        stage: Stage::S1,
+        s1ptw: false,
+    }
+}
+
+impl<'a, S: Supply> Supply1 for Deep<'a, S> {
+    ghost gives = { DeepGave S.memory S.faults S.keeps };
+
+    fn word_at(&mut self, level: i8, ipa: u64, trail: &mut Trail) -> Result<u64, Stop> {
+        let config = self.under.config();
+        if !config.vm {
+            return read(&walker1(), level, ipa, self.supply, trail);
+        }
+        let leaf = match stage2(self.under, ipa, true, self.supply, trail) {
+            Ok(leaf) => leaf,
+            Err(stop) => return Err(stop),
+        };
+        if let Err(fault) = descriptor_read(config, &leaf) {
+            return Err(Stop::Fault { fault });
+        }
+        read(&walker1(), level, leaf.pa, self.supply, trail)
+    }
+}
+
+/// The walk from a table over any supply of words of stage 1, by the granule of the side.
+fn walk_granule<D: Supply1>(
+    config: &Config,
+    access: &Access,
+    from: &From1,
+    supply: &mut D,
+    trail: &mut Trail,
+) -> Result<Leaf1, Stop>
+    requires config { InRange config.now }
+    requires accepted { IsFalse (is_refused1 config.now access.now) }
+    requires table { IsTableOf config.now (side_of access.now.va) from.now }
+    requires room { length trail.old + most_per_word * (left_below from.now.level + 1) ≤ most_items }
+    ensures most { length trail.new ≤ length trail.old + most_per_word * (left_below from.now.level + 1) }
+    ensures code { IfErr result HasCode }
+    ensures walked { Walked1 D.gives (asked config.now true access.now) (left_below from.now.level) (table_from from.now)
+        supply.old trail.old trail.new result supply.new }
+{
+    let tg = config.tg(sysregs::side(access.va));
+    case_table!(granule tg; walk1::<_, D>(config, access, from, supply, trail))
+}
+
+/// Stage 1 from a table, over a supply that keeps its reference.
+fn walk_kept<S: Supply>(
+    under: &Under,
+    access: &Access,
+    from: &From1,
+    deep: &mut Deep<S>,
+    trail: &mut Trail,
+) -> Result<Leaf1, Stop>
+    requires under { deep.old.under.now ≡ under.now }
+    requires accepted { IsFalse (is_refused1 (config_of under.now) access.now) }
+    requires table { IsTableOf (config_of under.now) (side_of access.now.va) from.now }
+    requires room { length trail.old + most_per_word * (left_below from.now.level + 1) ≤ most_items }
+    ensures same_reference { deep.new.supply.ghost_name ≡ deep.old.supply.ghost_name }
+    ensures same { S.memory deep.new.supply.now ≡ S.memory deep.old.supply.now }
+    ensures later { S.faults deep.old.supply.now ≤ S.faults deep.new.supply.now }
+    ensures kept { S.keeps deep.old.supply.now deep.new.supply.now }
+    ensures most { length trail.new ≤ length trail.old + most_per_word * (left_below from.now.level + 1) }
+    ensures line { IfErr result HasLineStop }
+    ensures walked { WalkedFrom1 (S.memory deep.old.supply.now) (Rose (S.faults deep.old.supply.now) (S.faults deep.new.supply.now))
+        under.now access.now (left_below from.now.level) (table_from from.now) trail.old trail.new result }
+{
+    walk_granule::<Deep<S>>(under.config(), access, from, deep, trail)
+}
+
+/// Stage 1 from a table, with the stage 2 of its words.
+pub(crate) fn stage1_from<S: Supply>(
+    under: &Under,
+    access: &Access,
+    from: &From1,
+    supply: &mut S,
+    trail: &mut Trail,
+) -> Result<Leaf1, Stop>
+    requires accepted { IsFalse (is_refused1 (config_of under.now) access.now) }
+    requires table { IsTableOf (config_of under.now) (side_of access.now.va) from.now }
+    requires room { length trail.old + most_per_word * (left_below from.now.level + 1) ≤ most_items }
+    ensures same { S.memory supply.new ≡ S.memory supply.old }
+    ensures later { S.faults supply.old ≤ S.faults supply.new }
+    ensures kept { S.keeps supply.old supply.new }
+    ensures most { length trail.new ≤ length trail.old + most_per_word * (left_below from.now.level + 1) }
+    ensures line { IfErr result HasLineStop }
+    ensures walked { WalkedFrom1 (S.memory supply.old) (Rose (S.faults supply.old) (S.faults supply.new))
+        under.now access.now (left_below from.now.level) (table_from from.now) trail.old trail.new result }
+{
+    let mut deep = Deep { under, supply };
+    walk_kept::<S>(under, access, from, &mut deep, trail)
+}
