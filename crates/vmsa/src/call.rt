@@ -21,11 +21,11 @@ use crate::lines::{
 use crate::sink::{Sink, WriteFailed};
 use crate::status::{Name, Status, Why};
 use permissions::{El, Kind};
-use stage1_walk::translate1;
 use std::alloc::Global;
 use sysregs::fields::check_reg;
 use sysregs::{Reg, Regs};
 use trails::{Access, Outcome, Trail};
+use translate::translate;
 
 /// What an EL1 read over an image comes to.
 #[derive(Drop)]
@@ -60,6 +60,7 @@ fn access(va: u64) -> Access
 
 /// The walk over an image. A read that fails counts in the image.
 fn walk<F: Files>(asked: &RawArgs, image: &mut Image<F>) -> (Outcome, Trail)
+    requires { IsAccepted (Asked.Raw (raw_words_of asked.now)) }
     ensures same_reference { image.new.files.ghost_name ≡ image.old.files.ghost_name }
     ensures later { F.faults image.old.files.now ≤ F.faults image.new.files.now }
     ensures failed { image.old.failures < image.new.failures → Rose (F.faults image.old.files.now) (F.faults image.new.files.now) }
@@ -72,11 +73,12 @@ fn walk<F: Files>(asked: &RawArgs, image: &mut Image<F>) -> (Outcome, Trail)
         (memory_of (F.holds image.old.files.now image.old.name.now))
         (Rose image.old.failures image.new.failures) result.1 result.0 }
 {
-    translate1(&registers(asked.tcr, asked.ttbr0), &access(asked.va), image)
+    translate(&registers(asked.tcr, asked.ttbr0), &access(asked.va), image)
 }
 
 /// The answer over a file that is there.
 fn answer_over<F: Files>(asked: &RawArgs, files: &mut F) -> Result<Answer, Status>
+    requires { IsAccepted (Asked.Raw (raw_words_of asked.now)) }
     ensures later { F.faults files.old ≤ F.faults files.new }
     ensures outcome { IfOk result (λ a. HasLine a.outcome) }
     ensures text { IfOk result (λ a. IsRawTextThere (F.holds files.old asked.now.image.now) (raw_words_of asked.now) (answer_text a)) }

@@ -1,7 +1,11 @@
+use Rattle.vmsa.proofs.Accepted.{raw_accepted}
 use Rattle.vmsa.proofs.call.walk.Goals as goal
 
+pub translate-requires : goal.translate-requires
+translate-requires g c = record { accepted = rw c.registers.ensures (raw_accepted c.args.asked.now.tcr c.args.asked.now.ttbr0 c.requires) }
+
 pub returns-clause-walked : goal.returns-clause-walked
-returns-clause-walked g c = rw (c.registers.ensures, c.access.ensures) at c.translate1.ensures.walked
+returns-clause-walked g c = rw (c.registers.ensures, c.access.ensures) at c.translate.ensures.walked
 
 pub returns-clause-fresh : goal.returns-clause-fresh
-returns-clause-fresh g c = rw (c.registers.ensures, c.access.ensures) at c.translate1.ensures.fresh
+returns-clause-fresh g c = rw (c.registers.ensures, c.access.ensures) at c.translate.ensures.fresh
