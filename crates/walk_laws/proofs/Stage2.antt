@@ -1,0 +1,274 @@
+-- Stage 2 for two IPAs of one region, side by side.
+use Rattle.std.proofs.Common.{◌≡◌, ℕ, zero, suc, ◌/◌, ◌%◌, ◌^◌, ◌≤◌, List, [], ◌∷◌, refl, sym, ap, ◌∙◌, arith, Bool, true, false, cond, ◌||◌, inl, inr, Ok, Result, subst}
+use Rattle.std.specs.Prelude.{◌⊎◌, not, Some}
+use Rattle.std.proofs.lemmas.Bool.{eqb-true}
+use Rattle.geometry.specs.Tables.{IsGranule, class_of, table_size, most_left}
+use Rattle.geometry.specs.Runs.{goes_to}
+use Rattle.fault_codes.specs.declared.fault.Fault.{Fault}
+use Rattle.fault_codes.specs.declared.fault.Stage.TheVariants.{S2}
+use Rattle.fault_codes.specs.declared.fault.Class.{Class}
+use Rattle.fault_codes.specs.declared.fault.Class.TheVariants.{Translation, AddressSize, AccessFlag}
+use Rattle.descriptors.specs.declared.kinds.Kind2.{Kind2}
+use Rattle.descriptors.specs.declared.kinds.Kind2.TheVariants.{Invalid, Table, Leaf}
+use Rattle.descriptors.specs.Meaning.{means2_of}
+use Rattle.trails.specs.declared.item.Item.{Item}
+use Rattle.trails.specs.declared.item.What.{What}
+use Rattle.trails.specs.declared.item.What.TheVariants.{Base, Word}
+use Rattle.table_reads.specs.declared.step.Step.{Step}
+use Rattle.table_reads.specs.declared.step.Step.TheVariants.{Down, Reached, Stopped}
+use Rattle.table_reads.specs.Numbers.{AreSound}
+use Rattle.table_reads.specs.Places.{place_of, is_too_large}
+use Rattle.table_reads.specs.Items.{fault_at}
+use Rattle.walk_spec.specs.declared.leaf.Leaf2.{Leaf2}
+use Rattle.walk_spec.specs.declared.leaf.Fields2.{Fields2}
+use Rattle.walk_spec.specs.Ask.{Ask, done, ask, after}
+use Rattle.walk_spec.specs.Needs.{Regime, Need, base2, fits, is_base, mapping_of, class_by}
+use Rattle.walk_spec.specs.Steps.{End, stops, reaches, step_then}
+use Rattle.walk_spec.specs.Stage2.{fault2, leaf2_of, step2, level2, walk2_from, is_refused2, walk2_behind, walk2}
+use Rattle.walk_spec.specs.Stage1.{asked2}
+use Rattle.walk_laws.specs.Moved.{moved2}
+use Rattle.walk_laws.proofs.Numbers.{goes_to_again}
+use Rattle.walk_laws.proofs.Stepping.{Takes, InStep, LastIs}
+use Rattle.walk_laws.proofs.Places.{IsAligned, run_below, class_up, class_least, class_by_least, class_by_most, class_by_fits, alike_places, serves_alike, word_at, SameRegion, first_of_and, second_of_and}
+use Rattle.walk_laws.proofs.Aligned.{aligned_page, aligned_start, table2_page}
+use Rattle.walk_laws.proofs.Levels.{levels, beneath, Twins, Way, way, no_leaf}
+use Rattle.walk_laws.proofs.Sound.{IsOfFields, granule2, sound2, range2}
+
+-- What a word of stage 2 leads to, whatever the IPA: the next table, a block or page, or a fault.
+pub data Turn2 (r : Regime) (left : ℕ) (i : Item) : Type 0 where
+  table : (next : ℕ) → next % 2 ^ 12 ≡ 0 → ((p : Bool) (x : ℕ) → step2 (asked2 r p x) left i.pa i.value ≡ Down next) → Turn2 r left i
+  leaf : (f : Fields2) → mapping_of r S2 left i.value ≡ Some (f.out, f.contiguous) → ((p : Bool) (x : ℕ) → step2 (asked2 r p x) left i.pa i.value ≡ Reached (leaf2_of (asked2 r p x) left i.pa f)) → Turn2 r left i
+  fault : (k : Class) → ((p : Bool) (x : ℕ) → step2 (asked2 r p x) left i.pa i.value ≡ Stopped (fault2 (asked2 r p x) k left)) → Turn2 r left i
+
+module _ (r : Regime) (left : ℕ) (i : Item) where
+  turn_table : (next : ℕ) (big : Bool) → means2_of r.config left i.value ≡ Table next → is_too_large r.stage2 next ≡ big → Turn2 r left i
+  unfolding step2
+  turn_table next true e b = fault AddressSize (λ p x. rw (e, b) refl)
+  turn_table next false e b = table next (table2_page r.config left i.value next e) (λ p x. rw (e, b) refl)
+
+  turn_leaf : (out mem_attr xn sh : ℕ) (read write af dbm contiguous big off : Bool) → means2_of r.config left i.value ≡ Leaf out mem_attr read write xn sh af dbm contiguous → is_too_large r.stage2 out ≡ big → not (af || r.config.ha2) ≡ off → Turn2 r left i
+  unfolding step2
+  turn_leaf out mem_attr xn sh read write af dbm contiguous true off e b n = fault AddressSize (λ p x. rw (e, b) refl)
+  turn_leaf out mem_attr xn sh read write af dbm contiguous false true e b n = fault AccessFlag (λ p x. rw (e, b, n) refl)
+  turn_leaf out mem_attr xn sh read write af dbm contiguous false false e b n =
+      leaf record { out = out; mem_attr = mem_attr; xn = xn; sh = sh; read = read; write = write; dbm = dbm; contiguous = contiguous } (rw e refl) (λ p x. rw (e, b, n) refl)
+
+  turn_by : (kind : Kind2) → means2_of r.config left i.value ≡ kind → Turn2 r left i
+  unfolding step2
+  turn_by Invalid e = fault Translation (λ p x. rw e refl)
+  turn_by (Table next) e = turn_table next (is_too_large r.stage2 next) e refl
+  turn_by (Leaf out mem_attr read write xn sh af dbm contiguous) e = turn_leaf out mem_attr xn sh read write af dbm contiguous (is_too_large r.stage2 out) (not (af || r.config.ha2)) e refl refl
+
+  pub turn2 : Turn2 r left i
+  turn2 = turn_by (means2_of r.config left i.value) refl
+
+leaf2_again : (r : Regime) (p : Bool) (left pa : ℕ) (f : Fields2) (x y : ℕ) → leaf2_of (asked2 r p y) left pa f ≡ moved2 (leaf2_of (asked2 r p x) left pa f) y
+leaf2_again r p left pa f x y =
+    let l : Leaf2 = leaf2_of (asked2 r p x) left pa f in
+    let g : ℕ → Leaf2 = λ n. record (leaf2_of (asked2 r p x) left pa f) { pa = n } in
+    ap g (sym (goes_to_again f.out (leaf2_of (asked2 r p x) left pa f).class x y))
+
+module _ (r : Regime) where
+  -- the word of a level, what it leads to, and the levels that are left
+  abbrev pub had2 : (s1ptw : Bool) (ipa left table : ℕ) → Ask Need Item (Result Item Fault)
+  had2 p x left t = ask (word_at S2 left (place_of r.stage2 left t x) p x t) (λ i. done (Ok i))
+
+  abbrev pub by2 : (s1ptw : Bool) (ipa left table : ℕ) (item : Item) → Step Leaf2 ℕ
+  by2 p x left t i = step2 (asked2 r p x) left i.pa i.value
+
+  abbrev pub last2 : (s1ptw : Bool) → Fault
+  last2 p = fault_at S2 p Translation 0
+
+  abbrev pub levels2 : (s1ptw : Bool) (ipa left table : ℕ) → Ask Need Item (End Leaf2)
+  levels2 p x = levels (had2 p x) (by2 p x) (last2 p)
+
+  walk2_levels_all : (p : Bool) (x left : ℕ) → walk2_from (asked2 r p x) left ≡ levels2 p x left
+  walk2_levels_all p x zero = refl
+  walk2_levels_all p x (suc left) =
+      let f : (ℕ → Ask Need Item (End Leaf2)) → ℕ → Ask Need Item (End Leaf2) = λ below. λ t. after (level2 (asked2 r p x) (suc left) t) (step_then below) in
+      ap f (walk2_levels_all p x left)
+
+  pub walk2_levels : (p : Bool) (x left t : ℕ) → walk2_from (asked2 r p x) left t ≡ levels2 p x left t
+  walk2_levels p x left t = ap (λ f. f t) (walk2_levels_all p x left)
+
+  abbrev pub class2 : ℕ → Item → ℕ
+  class2 left i = class_by (mapping_of r S2 left i.value) r.stage2 left i.pa
+
+  abbrev pub low2 : ℕ → ℕ
+  low2 left = class_of r.stage2.granule left
+
+  abbrev pub Any : Item → Type 0
+  Any i = Unit {0}
+
+  abbrev pub Same : (x y : ℕ) → ℕ → Type 0
+  Same x y k = x / 2 ^ k ≡ y / 2 ^ k
+
+  abbrev pub Law2 : (p : Bool) (x y : ℕ) → Type 0
+  Law2 p x y = Twins (fits r) (SameRegion r) (had2 p x) (had2 p y) (by2 p x) (by2 p y) Any (IsAligned r.stage2) low2 class2 (Same x y)
+
+  none2 : (p : Bool) (x left t : ℕ) (i : Item) → Takes (fits r) (had2 p x left t) [] (done (Ok i)) → ⊥
+  none2 p x left t i h = absurd cc
+
+  whole2 : (p : Bool) (x left t : ℕ) (items : List Item) (u : Ask Need Item (Result Item Fault)) (i : Item) → Takes (fits r) (had2 p x left t) items u → LastIs items i → u ≡ done (Ok i)
+  whole2 p x left t [] u i h e = absurd e
+  whole2 p x left t (j ∷ []) u i h e = h.1 ∙ ap (λ z. done (Ok z)) e
+  whole2 p x left t (j ∷ (k ∷ items)) u i h e = absurd h.1
+
+  words2 : (g : IsGranule r.stage2.granule) (p : Bool) (x y left t : ℕ) (items : List Item) (i : Item) (k : ℕ) → IsAligned r.stage2 left t → Takes (fits r) (had2 p x left t) items (done (Ok i)) → k ≤ class2 left i → x / 2 ^ k ≡ y / 2 ^ k → InStep (fits r) (SameRegion r) (had2 p x left t) (had2 p y left t) items (done (Ok i)) (done (Ok i))
+  words2 g p x y left t [] i k a h l s = absurd cc
+  words2 g p x y left t (j ∷ []) i k a h l s =
+      let z : done (Ok i) ≡ done (Ok j) = h.1 in
+      let e : j ≡ i = cc in
+      let q = alike_places r.stage2 left t i.pa (mapping_of r S2 left i.value) x y k g a l s in
+      let v = serves_alike r S2 left (place_of r.stage2 left t x) (place_of r.stage2 left t y) p x y t t k i q l s in
+      let f : fits r (word_at S2 left (place_of r.stage2 left t x) p x t) i ≡ true = rw e at h.0 in
+      rw e (f, v.fit f, v.region, (refl, refl))
+  words2 g p x y left t (j ∷ (k' ∷ items)) i k a h l s = absurd h.1
+
+  tables2 : (g : IsGranule r.stage2.granule) (p : Bool) (x y left : ℕ) (i : Item) (next : ℕ) → Turn2 r left i → step2 (asked2 r p x) left i.pa i.value ≡ Down next → (step2 (asked2 r p y) left i.pa i.value ≡ Down next) × ((below : ℕ) → IsAligned r.stage2 below next)
+  tables2 g p x y left i next (table n a d) h =
+      let e : Down n ≡ Down next = sym (d p x) ∙ h in
+      let q : n ≡ next = cc in
+      (d p y ∙ e, λ below w. aligned_page r.stage2.granule below next g (rw q at a))
+  tables2 g p x y left i next (leaf f m d) h = (let e : Reached (leaf2_of (asked2 r p x) left i.pa f) ≡ Down next = sym (d p x) ∙ h in absurd cc)
+  tables2 g p x y left i next (fault k d) h = (let e : Stopped (fault2 (asked2 r p x) k left) ≡ Down next = sym (d p x) ∙ h in absurd cc)
+
+  law2 : (g : IsGranule r.stage2.granule) (p : Bool) (x y : ℕ) → Law2 p x y
+  law2 g p x y = record {
+    none = λ left t i h. none2 p x left t i h;
+    whole = λ left t items u i h e o. whole2 p x left t items u i h e;
+    words = λ left t items i k a h l s. words2 g p x y left t items i k a h l s;
+    tables = λ left t i next h. tables2 g p x y left i next (turn2 r left i) h;
+    least = λ left i. class_by_least (mapping_of r S2 left i.value) r.stage2 left i.pa g;
+    shrinks = λ m left i l. (let a = class_by_most (mapping_of r S2 m i.value) r.stage2 m i.pa g in let b = run_below r.stage2.granule m left g l in omega (arith, a, b));
+  }
+
+what_base : (w : What) → is_base w ≡ true → w ≡ Base
+what_base Base h = refl
+what_base Word h = absurd cc
+
+same_base : (r : Regime) (x y : ℕ) (b : Item) → fits r (base2 y) b ≡ fits r (base2 x) b
+unfolding fits
+same_base r x y b = refl
+
+-- a base of stage 2 is a multiple of its table's size
+base_fits : (r : Regime) (x : ℕ) (b : Item) → fits r (base2 x) b ≡ true → (b.what ≡ Base) × (b.value % table_size r.stage2.granule r.stage2.input r.stage2.start ≡ 0)
+unfolding fits
+base_fits r x b h =
+    let d = first_of_and _ _ h in
+    (what_base b.what (first_of_and _ _ (first_of_and _ _ (first_of_and _ _ (first_of_and _ _ d)))), eqb-true _ _ (second_of_and _ _ d))
+
+-- the items end at a leaf, or with a word
+abbrev pub Closes2 : List Item → Ask Need Item (End Leaf2) → Type 0
+Closes2 items u = ((l : Leaf2) × (u ≡ done (reaches l))) ⊎ ((i : Item) × LastIs items i × (i.what ≡ Word))
+
+module _ (r : Regime) (p : Bool) (x y : ℕ) where
+  -- how stage 2 goes on behind a word, for either IPA
+  abbrev pub behind2 : (ipa left : ℕ) (item : Item) → Ask Need Item (End Leaf2)
+  behind2 z left i = step_then (beneath (had2 r p z) (by2 r p z) (last2 r p) left) (step2 (asked2 r p z) left i.pa i.value)
+
+  -- Stage 2 has taken the items, the last of them a word, and stage 2 of the other IPA goes in step where the two agree
+  -- above the class of this word.
+  pub record Stepped2 (items : List Item) (u : Ask Need Item (End Leaf2)) : Type 0 where
+    pub left : ℕ
+    pub item : Item
+    pub sound : AreSound r.stage2
+    pub most : class2 r left item ≤ r.stage2.input
+    pub fit : (place table : ℕ) × (fits r (word_at S2 left place p x table) item ≡ true)
+    pub left_as : u ≡ behind2 x left item
+    pub is_last : (i : Item) → LastIs items i → i.what ≡ Word → i ≡ item
+    pub shift : (k : ℕ) → k ≤ class2 r left item → x / 2 ^ k ≡ y / 2 ^ k → InStep (fits r) (SameRegion r) (walk2 (asked2 r p x)) (walk2 (asked2 r p y)) items u (behind2 y left item)
+
+  fed_fit : (left t : ℕ) (front : List Item) (i : Item) → Takes (fits r) (had2 r p x left t) front (done (Ok i)) → fits r (word_at S2 left (place_of r.stage2 left t x) p x t) i ≡ true
+  fed_fit left t [] i h = absurd cc
+  fed_fit left t (j ∷ []) i h = let z : done (Ok i) ≡ done (Ok j) = h.1 in let e : j ≡ i = cc in rw e at h.0
+  fed_fit left t (j ∷ (k ∷ front)) i h = absurd h.1
+
+  abbrev Way2 : (g : IsGranule r.stage2.granule) (left t : ℕ) (items : List Item) (u : Ask Need Item (End Leaf2)) → Type 0
+  Way2 g left t items u = Way (fits r) (SameRegion r) (had2 r p x) (had2 r p y) (by2 r p x) (by2 r p y) (Any r) (IsAligned r.stage2) (low2 r) (class2 r) (Same r x y) (last2 r p) (last2 r p) (law2 r g p x y) left t items u
+
+  from_way : (f : IsOfFields r) (b : Item) (rest : List Item) (u : Ask Need Item (End Leaf2)) → is_refused2 r.config x ≡ false → fits r (base2 x) b ≡ true → is_too_large r.stage2 b.value ≡ false → Way2 (granule2 r f) r.stage2.start b.value rest u → Stepped2 (b ∷ rest) u
+  from_way f b rest u n h o w =
+      let s = sound2 r x f n in
+      let e = s.0.entries in
+      let m = class_up r.stage2.granule w.at r.stage2.start w.most in
+      let c : class2 r w.at w.item ≤ r.stage2.input = class_by_fits (mapping_of r S2 w.at w.item.value) r.stage2 w.at w.item.pa (omega (arith, m, e)) in
+      record {
+        left = w.at;
+        item = w.item;
+        sound = s.0;
+        most = c;
+        fit = (place_of r.stage2 w.at w.table x, w.table, fed_fit w.at w.table w.fed.0 w.item w.fed.1);
+        left_as = w.left_as;
+        is_last = λ i l o. last_behind b rest i l o (base_fits r x b h).0 w.is_last;
+        shift = λ k l q. (let ny = range2 r x y k f (omega (arith, c, l)) q n in
+            let a = aligned_start r.stage2 b.value (granule2 r f) (base_fits r x b h).1 in
+            rw (n, ny) (h, same_base r x y b ∙ h, refl, rw o (rw (walk2_levels r p x r.stage2.start b.value, walk2_levels r p y r.stage2.start b.value) (w.shift k a l q))));
+      }
+    where
+      last_behind : (b : Item) (rest : List Item) (i : Item) → LastIs (b ∷ rest) i → i.what ≡ Word → b.what ≡ Base → {j : Item} → ((i : Item) → LastIs rest i → Unit {0} → i ≡ j) → i ≡ j
+      last_behind b [] i l o v f = (let e : b ≡ i = l in let q : Base ≡ Word = sym v ∙ ap (λ z. z.what) e ∙ o in absurd cc)
+      last_behind b (k ∷ rest) i l o v f = f i l tt
+
+  closes_behind : (b : Item) (rest : List Item) (u : Ask Need Item (End Leaf2)) → b.what ≡ Base → Closes2 (b ∷ rest) u → ((l : Leaf2) × (u ≡ done (reaches l))) ⊎ ((i : Item) × LastIs rest i × Unit {0})
+  closes_behind b rest u v (inl l) = inl l
+  closes_behind b [] u v (inr i) = (let e : b ≡ i.0 = i.1 in let q : Base ≡ Word = sym v ∙ ap (λ z. z.what) e ∙ i.2 in absurd cc)
+  closes_behind b (k ∷ rest) u v (inr i) = inr (i.0, i.1, tt)
+
+  no_close : (b : Item) (f : Fault) (u : Ask Need Item (End Leaf2)) → b.what ≡ Base → u ≡ done (stops f) → Closes2 (b ∷ []) u → ⊥
+  no_close b f u v e (inl l) = let q : done (reaches l.0) ≡ done (stops f) = sym l.1 ∙ e in cc
+  no_close b f u v e (inr i) = let w : b ≡ i.0 = i.1 in let q : Base ≡ Word = sym v ∙ ap (λ z. z.what) w ∙ i.2 in cc
+
+  no_close_none : (u : Ask Need Item (End Leaf2)) → ((l : Leaf2) → u ≡ done (reaches l) → ⊥) → Closes2 [] u → ⊥
+  no_close_none u n (inl l) = n l.0 l.1
+  no_close_none u n (inr i) = i.1
+
+  stepped_behind : (f : IsOfFields r) (b : Item) (rest : List Item) (u : Ask Need Item (End Leaf2)) (big : Bool) → is_too_large r.stage2 b.value ≡ big → is_refused2 r.config x ≡ false → fits r (base2 x) b ≡ true → Takes (fits r) (cond big (done (stops (fault2 (asked2 r p x) AddressSize most_left))) (walk2_from (asked2 r p x) r.stage2.start b.value)) rest u → Closes2 (b ∷ rest) u → Stepped2 (b ∷ rest) u
+  stepped_behind f b [] u true o n h w c = absurd (no_close b _ u (base_fits r x b h).0 w c)
+  stepped_behind f b (k ∷ rest) u true o n h w c = absurd w
+  stepped_behind f b rest u false o n h w c =
+      from_way f b rest u n h o (way (fits r) (SameRegion r) (had2 r p x) (had2 r p y) (by2 r p x) (by2 r p y) (Any r) (IsAligned r.stage2) (low2 r) (class2 r) (Same r x y) (last2 r p) (last2 r p) (law2 r (granule2 r f) p x y) r.stage2.start b.value rest u (rw (walk2_levels r p x r.stage2.start b.value) at w) (closes_behind b rest u (base_fits r x b h).0 c))
+
+  stepped_by : (f : IsOfFields r) (items : List Item) (u : Ask Need Item (End Leaf2)) (refused : Bool) → is_refused2 r.config x ≡ refused → Takes (fits r) (cond refused (done (stops (fault2 (asked2 r p x) Translation most_left))) (ask (base2 x) (λ i. walk2_behind (asked2 r p x) i.value))) items u → Closes2 items u → Stepped2 items u
+  stepped_by f [] u true n h c = absurd (no_close_none u (λ l e. (let q : done (reaches l) ≡ done (stops (fault2 (asked2 r p x) Translation most_left)) = sym e ∙ h in cc)) c)
+  stepped_by f (b ∷ rest) u true n h c = absurd h
+  stepped_by f [] u false n h c = absurd (no_close_none u (λ l e. (let q : done (reaches l) ≡ ask (base2 x) (λ i. walk2_behind (asked2 r p x) i.value) = sym e ∙ h in cc)) c)
+  stepped_by f (b ∷ rest) u false n h c = stepped_behind f b rest u (is_too_large r.stage2 b.value) refl n h.0 h.1 c
+
+  -- Stage 2 that has taken items up to a word or a leaf goes in step with that of another IPA of the word's region.
+  pub stepped2 : IsOfFields r → (items : List Item) (u : Ask Need Item (End Leaf2)) → Takes (fits r) (walk2 (asked2 r p x)) items u → Closes2 items u → Stepped2 items u
+  stepped2 f items u h c = stepped_by f items u (is_refused2 r.config x) refl h c
+
+  -- what is known of a leaf that stage 2 reached
+  pub record Reached2 (items : List Item) (l : Leaf2) : Type 0 where
+    pub least : 12 ≤ l.class
+    pub most : l.class ≤ r.stage2.input
+    pub here : l.pa ≡ goes_to l.pa l.class x
+    pub shift : x / 2 ^ l.class ≡ y / 2 ^ l.class → InStep (fits r) (SameRegion r) (walk2 (asked2 r p x)) (walk2 (asked2 r p y)) items (done (reaches l)) (done (reaches (moved2 l y)))
+
+  at_leaf : IsOfFields r → (items : List Item) (l : Leaf2) (w : Stepped2 items (done (reaches l))) → Turn2 r w.left w.item → Reached2 items l
+  at_leaf f items l w (table next a d) =
+      let e : done (reaches l) ≡ beneath (had2 r p x) (by2 r p x) (last2 r p) w.left next = w.left_as ∙ rw (d p x) refl in
+      absurd (no_leaf (fits r) (SameRegion r) (had2 r p x) (had2 r p y) (by2 r p x) (by2 r p y) (Any r) (IsAligned r.stage2) (low2 r) (class2 r) (Same r x y) (last2 r p) (last2 r p) (law2 r (granule2 r f) p x y) w.left next l (sym e))
+  at_leaf f items l w (fault k d) = (let e : done (reaches l) ≡ done (stops (fault2 (asked2 r p x) k w.left)) = w.left_as ∙ rw (d p x) refl in absurd cc)
+  at_leaf f items l w (leaf v m d) =
+      let e : done (reaches l) ≡ done (reaches (leaf2_of (asked2 r p x) w.left w.item.pa v)) = w.left_as ∙ rw (d p x) refl in
+      let q : l ≡ leaf2_of (asked2 r p x) w.left w.item.pa v = cc in
+      let c : l.class ≡ class2 r w.left w.item = ap (λ z. z.class) q ∙ rw m refl in
+      let h : l.pa ≡ goes_to v.out l.class x = ap (λ z. z.pa) q ∙ ap (λ k. goes_to v.out k x) (sym (ap (λ z. z.class) q)) in
+      let g = granule2 r f in
+      let a = class_by_least (mapping_of r S2 w.left w.item.value) r.stage2 w.left w.item.pa g in
+      let b = class_least r.stage2.granule w.left g in
+      let n = w.most in
+      record {
+        least = omega (arith, a, b, c);
+        most = omega (arith, c, n);
+        here = h ∙ sym (ap (λ z. goes_to z l.class x) h ∙ goes_to_again v.out l.class x x);
+        shift = λ s. (let i = w.shift l.class (omega (arith, c)) s in
+            let o : behind2 y w.left w.item ≡ done (reaches (moved2 l y)) = rw (d p y) (ap (λ z. done (reaches z)) (leaf2_again r p w.left w.item.pa v x y ∙ ap (λ z. moved2 z y) (sym q))) in
+            subst (λ z. InStep (fits r) (SameRegion r) (walk2 (asked2 r p x)) (walk2 (asked2 r p y)) items (done (reaches l)) z) o i);
+      }
+
+  -- a leaf of stage 2 serves each IPA of its region
+  pub reached2 : IsOfFields r → (items : List Item) (l : Leaf2) → Takes (fits r) (walk2 (asked2 r p x)) items (done (reaches l)) → Reached2 items l
+  reached2 f items l h = let w = stepped2 f items (done (reaches l)) h (inl (l, refl)) in at_leaf f items l w (turn2 r w.left w.item)
