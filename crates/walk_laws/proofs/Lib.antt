@@ -5,4 +5,5 @@ pub mod Levels
 pub mod Sound
 pub mod Aligned
 pub mod Stage2
+pub mod Tables2
 pub mod Shifts

@@ -33,18 +33,14 @@ last_here [] l = refl
 last_here (i ∷ []) l = refl
 last_here (i ∷ (i' ∷ front)) l = last_here (i' ∷ front) l
 
+-- no item is left over
+abbrev pub UsesAll : {N I A : Type 0} → Stands N I A → Type 0
+UsesAll (needs n) = Unit {0}
+UsesAll bad = ⊥
+UsesAll (ends a []) = Unit {0}
+UsesAll (ends a (i ∷ items)) = ⊥
+
 module _ {N I : Type 0} (fits : N → I → Bool) where
-  fit_true : {A : Type 0} (b : Bool) (s : Stands N I A) → (cond b s bad ≡ bad → ⊥) → (b ≡ true) × (s ≡ bad → ⊥)
-  fit_true true s h = (refl, h)
-  fit_true false s h = absurd (h refl)
-
-  -- no item is left over
-  abbrev pub UsesAll : {A : Type 0} → Stands N I A → Type 0
-  UsesAll (needs n) = Unit {0}
-  UsesAll bad = ⊥
-  UsesAll (ends a []) = Unit {0}
-  UsesAll (ends a (i ∷ items)) = ⊥
-
   uses_fit : {A : Type 0} (b : Bool) (s : Stands N I A) → UsesAll (cond b s bad) → (b ≡ true) × UsesAll s
   uses_fit true s h = (refl, h)
   uses_fit false s h = absurd h

@@ -1,12 +1,18 @@
 -- The law Shift: the items of a walk serve every address of the region that its last word speaks of. The register fields
 -- and the items are the same on both sides. This project's own law, of the definitions alone.
-use Rattle.std.specs.Prelude.{◌≡◌, ℕ, ◌/◌, ◌^◌, Bool, List, [], Option}
+use Rattle.std.specs.Prelude.{◌≡◌, ℕ, ◌/◌, ◌^◌, Bool, List, [], ◌∷◌, ◌++◌, Option}
+use Rattle.geometry.specs.Tables.{class_of, level_of}
 use Rattle.sysregs.specs.declared.regs.Config.{Config}
 use Rattle.sysregs.specs.declared.regs.Side.{Side}
+use Rattle.fault_codes.specs.declared.fault.Stage.TheVariants.{S2}
+use Rattle.descriptors.specs.declared.kinds.Kind2.TheVariants.{Table as Table2}
+use Rattle.descriptors.specs.Meaning.{means2_of}
 use Rattle.trails.specs.declared.item.Item.{Item}
+use Rattle.trails.specs.declared.item.What.TheVariants.{Word}
+use Rattle.table_reads.specs.Numbers.{sizes2}
 use Rattle.walk_spec.specs.declared.leaf.Leaf2.{Leaf2}
-use Rattle.walk_spec.specs.Ask.{Stands, ends, on}
-use Rattle.walk_spec.specs.Needs.{Need, fits, regime_of, Region}
+use Rattle.walk_spec.specs.Ask.{Stands, needs, bad, ends, on}
+use Rattle.walk_spec.specs.Needs.{Need, base1, base2, word, fits, regime_of, Region}
 use Rattle.walk_spec.specs.Steps.{End, reaches}
 use Rattle.walk_spec.specs.Stage2.{walk2}
 use Rattle.walk_spec.specs.Stage1.{asked2}
@@ -32,3 +38,31 @@ abbrev pub Stage2Shifts : Type 0
 Stage2Shifts =
     (c : Config) (s : Side) (s1ptw : Bool) (x y : ℕ) (items : List Item) (l : Leaf2) → stands2 c s s1ptw x items ≡ ends (reaches l) [] → SameAbove l.class x y →
     (stands2 c s s1ptw y items ≡ ends (reaches (moved2 l y)) []) × (regions2 c s s1ptw x items ≡ regions2 c s s1ptw y items)
+
+-- a walk needs a word
+abbrev pub NeedsWord : {A : Type 0} → (stands : Stands Need Item A) → Type 0
+NeedsWord (needs base1) = ⊥
+NeedsWord (needs (base2 x)) = ⊥
+NeedsWord (needs (word w)) = Unit {0}
+NeedsWord bad = ⊥
+NeedsWord (ends e items) = ⊥
+
+-- the last item of a list is a stage 2 table, whose entry covers 2 ^ class bytes
+pub record EndsInTable2 (config : Config) (items : List Item) (class : ℕ) : Type 0 where
+  pub front : List Item
+  pub item : Item
+  pub left : ℕ
+  pub next : ℕ
+  pub last : items ≡ front ++ item ∷ []
+  pub stage : item.stage ≡ S2
+  pub what : item.what ≡ Word
+  pub level : item.level ≡ level_of left
+  pub means : means2_of config left item.value ≡ Table2 next
+  pub covers : class ≡ class_of (sizes2 config).granule left
+
+-- Where the last item is a stage 2 table and stage 2 for x needs a word, it needs one on the same items for every y of the
+-- table's region. Each word has the same region for both.
+abbrev pub Table2Shifts : Type 0
+Table2Shifts =
+    (c : Config) (s : Side) (s1ptw : Bool) (x y : ℕ) (items : List Item) (class : ℕ) → EndsInTable2 c items class → NeedsWord (stands2 c s s1ptw x items) →
+    SameAbove class x y → NeedsWord (stands2 c s s1ptw y items) × (regions2 c s s1ptw x items ≡ regions2 c s s1ptw y items)

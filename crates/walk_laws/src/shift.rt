@@ -1,6 +1,11 @@
-ghost use Rattle.walk_laws.specs.Shift.{Stage2Shifts};
+ghost use Rattle.walk_laws.specs.Shift.{Stage2Shifts, Table2Shifts};
 
 /// The items on which stage 2 reaches a leaf serve each IPA of the leaf's region.
 pub fn stage2_shifts()
     ensures { Stage2Shifts }
+{}
+
+/// The items up to a table of stage 2 serve each IPA of the table's region.
+pub fn table2_shifts()
+    ensures { Table2Shifts }
 {}
