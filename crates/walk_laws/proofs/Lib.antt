@@ -6,4 +6,6 @@ pub mod Sound
 pub mod Aligned
 pub mod Stage2
 pub mod Tables2
+pub mod Stage1
+pub mod Landings
 pub mod Shifts

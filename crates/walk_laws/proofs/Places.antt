@@ -1,5 +1,5 @@
 -- The places of two addresses of one region, in either stage, and the items that serve both.
-use Rattle.std.proofs.Common.{◌≡◌, ℕ, ◌+◌, ◌-◌, ◌*◌, ◌/◌, ◌%◌, ◌^◌, ◌<◌, ◌≤◌, refl, sym, ap, ◌∙◌, arith, Bool, true, false, cond, ◌&&◌, ◌||◌}
+use Rattle.std.proofs.Common.{◌≡◌, ℕ, ◌+◌, ◌-◌, ◌*◌, ◌/◌, ◌%◌, ◌^◌, ◌<◌, ◌≤◌, refl, sym, ap, ◌∙◌, arith, Bool, true, false, cond, ◌&&◌, ◌||◌, List, [], ◌∷◌, Ok, Result}
 use Rattle.std.specs.Prelude.{◌==◌, Option, Some, None}
 use Rattle.std.proofs.lemmas.Bool.Decides.{nat_tests}
 use Rattle.std.proofs.lemmas.Bool.{leb-true}
@@ -7,12 +7,15 @@ use Rattle.std.proofs.Math.Nat.{mul-le-mul_right}
 use Rattle.geometry.specs.Tables.{IsGranule, class_of, top_of, level_of}
 use Rattle.geometry.specs.Runs.{run_of, class_in, fits_run, is_counted, is_one_run}
 use Rattle.geometry.proofs.Indices.{same_index}
+use Rattle.fault_codes.specs.declared.fault.Fault.{Fault}
 use Rattle.fault_codes.specs.declared.fault.Stage.{Stage}
 use Rattle.trails.specs.declared.item.Item.{Item}
 use Rattle.table_reads.specs.declared.sizes.Sizes.{Sizes}
 use Rattle.table_reads.specs.Places.{place_of}
 use Rattle.walk_spec.specs.Needs.{Regime, Need, word, fits, is_word, stage_eq, level_eq, sizes_of, mapping_of, serves_run, class_by, Region}
+use Rattle.walk_spec.specs.Ask.{Ask, done, ask}
 use Rattle.walk_laws.specs.Regions.{region_met}
+use Rattle.walk_laws.proofs.Stepping.{Takes, InStep, LastIs}
 use Rattle.walk_laws.proofs.Numbers.{coarser, one_line, line_bytes}
 
 -- the class of a run of a level, or of an entry where the level has none
@@ -169,3 +172,25 @@ same_region r s left p p' q x y t t' k i l h =
 
 pub serves_alike : (r : Regime) (s : Stage) (left p p' : ℕ) (q : Bool) (x y t t' k : ℕ) (i : Item) → Alike (sizes_of r s) left i.pa (mapping_of r s left i.value) p p' → k ≤ class_by (mapping_of r s left i.value) (sizes_of r s) left i.pa → x / 2 ^ k ≡ y / 2 ^ k → Serves r (word_at s left p q x t) (word_at s left p' q y t') i
 serves_alike r s left p p' q x y t t' k i a l h = record { fit = fits_alike r s left p p' q x y t t' i a; region = same_region r s left p p' q x y t t' k i l h }
+
+-- the word of a need
+abbrev pub one_word : (need : Need) → Ask Need Item (Result Item Fault)
+one_word n = ask n (λ i. done (Ok i))
+
+-- it takes one item, which is the word
+pub one_last : (r : Regime) (n : Need) (items : List Item) (u : Ask Need Item (Result Item Fault)) (i : Item) → Takes (fits r) (one_word n) items u → LastIs items i → u ≡ done (Ok i)
+one_last r n [] u i h e = absurd e
+one_last r n (j ∷ []) u i h e = h.1 ∙ ap (λ z. done (Ok z)) e
+one_last r n (j ∷ (k ∷ items)) u i h e = absurd h.1
+
+pub one_taken : (r : Regime) (n : Need) (items : List Item) (i : Item) → Takes (fits r) (one_word n) items (done (Ok i)) → (items ≡ i ∷ []) × (fits r n i ≡ true)
+one_taken r n [] i h = absurd cc
+one_taken r n (j ∷ []) i h = let z : done (Ok i) ≡ done (Ok j) = h.1 in let e : j ≡ i = cc in (ap (λ k. k ∷ []) e, rw e at h.0)
+one_taken r n (j ∷ (k ∷ items)) i h = absurd h.1
+
+-- the word of two places that it serves alike
+pub word_flat : (r : Regime) (s : Stage) (left p p' : ℕ) (q : Bool) (x y t t' k : ℕ) (items : List Item) (i : Item) → Alike (sizes_of r s) left i.pa (mapping_of r s left i.value) p p' → k ≤ class_by (mapping_of r s left i.value) (sizes_of r s) left i.pa → x / 2 ^ k ≡ y / 2 ^ k → Takes (fits r) (one_word (word_at s left p q x t)) items (done (Ok i)) → InStep (fits r) (SameRegion r) (one_word (word_at s left p q x t)) (one_word (word_at s left p' q y t')) items (done (Ok i)) (done (Ok i))
+word_flat r s left p p' q x y t t' k items i a l e h =
+    let o = one_taken r (word_at s left p q x t) items i h in
+    let v = serves_alike r s left p p' q x y t t' k i a l e in
+    rw o.0 (o.1, v.fit o.1, v.region, (refl, refl))

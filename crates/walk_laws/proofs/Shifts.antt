@@ -1,13 +1,26 @@
 -- The law Shift, as it is stated, from walks in step.
-use Rattle.std.proofs.Common.{[], refl}
+use Rattle.std.proofs.Common.{◌≡◌, ℕ, ◌/◌, ◌%◌, ◌^◌, ◌≤◌, List, [], refl, sym, ap, ◌∙◌, arith, Bool, false, subst}
+use Rattle.std.specs.Prelude.{◌==◌, if◌then◌else◌}
+use Rattle.bitwords.specs.Fields.{bit}
+use Rattle.geometry.proofs.Indices.{field_at}
+use Rattle.sysregs.specs.declared.regs.Side.TheVariants.{Low, High}
+use Rattle.sysregs.specs.Sides.{side_of}
+use Rattle.trails.specs.declared.item.Item.{Item}
+use Rattle.trails.specs.declared.outcome.Access.{Access}
+use Rattle.walk_spec.specs.Steps.{End, reaches}
+use Rattle.walk_spec.specs.BothStages.{Landing, walk, walk_by}
+use Rattle.walk_laws.specs.Moved.{moved}
+use Rattle.walk_laws.proofs.Numbers.{coarser}
+use Rattle.walk_laws.proofs.Stage1.{under}
+use Rattle.walk_laws.proofs.Landings.{walk_in_step}
 use Rattle.sysregs.specs.declared.regs.Config.{Config}
 use Rattle.sysregs.specs.declared.regs.Side.{Side}
-use Rattle.walk_spec.specs.Ask.{on}
-use Rattle.walk_spec.specs.Needs.{Regime, fits, regime_of}
+use Rattle.walk_spec.specs.Ask.{Stands, ends, on}
+use Rattle.walk_spec.specs.Needs.{Need, Regime, fits, regime_of}
 use Rattle.walk_spec.specs.Stage2.{walk2}
-use Rattle.walk_spec.specs.Stage1.{asked2}
-use Rattle.walk_laws.specs.Regions.{region_met}
-use Rattle.walk_laws.specs.Shift.{Stage2Shifts, Table2Shifts, NeedsWord}
+use Rattle.walk_spec.specs.Stage1.{untagged, asked2}
+use Rattle.walk_laws.specs.Regions.{region_met, regions_met}
+use Rattle.walk_laws.specs.Shift.{Stage2Shifts, Table2Shifts, NeedsWord, WalkShifts, regions}
 use Rattle.walk_laws.proofs.Stepping.{last_here, takes_ends, step_stands, step_met}
 use Rattle.walk_laws.proofs.Places.{SameRegion}
 use Rattle.walk_laws.proofs.Sound.{IsOfFields}
@@ -29,3 +42,28 @@ table2_shifts c s p x y items class e h m =
     let t = tables2_in_step (regime_of c s) p x y (of_fields c s) items e.item e.left e.next (rw e.last (last_here e.front e.item)) e.what e.level e.means (rw e.covers at m) h in
     let n : NeedsWord (on (fits (regime_of c s)) t.1 []) = needs_word (fits (regime_of c s)) t.1 t.4 in
     (rw (step_stands (fits (regime_of c s)) (SameRegion (regime_of c s)) _ _ items _ _ t.2) n, step_met (fits (regime_of c s)) (region_met (regime_of c s)) _ _ items _ _ t.2)
+
+side_by : (b b' : Bool) → b ≡ b' → (if b then High else Low) ≡ (if b' then High else Low)
+side_by b b' h = ap (λ z. if z then High else Low) h
+
+-- addresses with equal bits from 55 or below are of one side
+pub same_side : (x y k : ℕ) → k ≤ 55 → untagged x / 2 ^ k ≡ untagged y / 2 ^ k → side_of x ≡ side_of y
+same_side x y k l h =
+    let t = coarser (untagged x) (untagged y) k 55 l h in
+    let e : x / 2 ^ 55 % 2 ^ 1 ≡ y / 2 ^ 55 % 2 ^ 1 = sym (field_at x 56 55 (omega arith)) ∙ t ∙ field_at y 56 55 (omega arith) in
+    side_by (bit x 55) (bit y 55) (ap (λ n. n == 1) e)
+
+-- what the law says of the other access, by the side under which it walks
+abbrev Shifted : (c : Config) (j : Bool) (a b : Access) (items : List Item) (says : Stands Need Item (End Landing) → Type 0) (s : Side) → Type 0
+Shifted c j a b items says s =
+    says (on (fits (regime_of c s)) (walk_by (under (regime_of c s) j b)) items) × (regions c j a items ≡ regions_met (regime_of c s) (walk_by (under (regime_of c s) j b)) items)
+
+pub walk_shifts : WalkShifts
+walk_shifts c a b items n m h same ok =
+    let s : Side = side_of a.va in
+    let t = takes_ends (fits (regime_of c (side_of a.va))) (walk c false a) items _ h in
+    let d = walk_in_step (regime_of c (side_of a.va)) (of_fields c (side_of a.va)) a b m refl items n t in
+    let l = d.most in
+    let i = d.shift same ok in
+    let e : side_of a.va ≡ side_of b.va = same_side a.va b.va n.class (omega (arith, l)) same in
+    subst (Shifted c false a b items (λ z. z ≡ ends (reaches (moved n (untagged b.va))) [])) e (step_stands (fits (regime_of c (side_of a.va))) (SameRegion (regime_of c (side_of a.va))) _ _ items _ _ i, step_met (fits (regime_of c (side_of a.va))) (region_met (regime_of c (side_of a.va))) _ _ items _ _ i)

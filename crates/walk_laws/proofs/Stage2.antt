@@ -29,7 +29,7 @@ use Rattle.walk_spec.specs.Stage1.{asked2}
 use Rattle.walk_laws.specs.Moved.{moved2}
 use Rattle.walk_laws.proofs.Numbers.{goes_to_again}
 use Rattle.walk_laws.proofs.Stepping.{Takes, InStep, LastIs}
-use Rattle.walk_laws.proofs.Places.{IsAligned, run_below, class_up, class_least, class_by_least, class_by_most, class_by_fits, alike_places, serves_alike, word_at, SameRegion, first_of_and, second_of_and}
+use Rattle.walk_laws.proofs.Places.{one_word, one_last, one_taken, word_flat, IsAligned, run_below, class_up, class_least, class_by_least, class_by_most, class_by_fits, alike_places, word_at, SameRegion, first_of_and, second_of_and}
 use Rattle.walk_laws.proofs.Aligned.{aligned_page, aligned_start, table2_page}
 use Rattle.walk_laws.proofs.Levels.{levels, beneath, Twins, Way, way, no_leaf}
 use Rattle.walk_laws.proofs.Sound.{IsOfFields, granule2, sound2, range2}
@@ -71,7 +71,7 @@ leaf2_again r p left pa f x y =
 module _ (r : Regime) where
   -- the word of a level, what it leads to, and the levels that are left
   abbrev pub had2 : (s1ptw : Bool) (ipa left table : ℕ) → Ask Need Item (Result Item Fault)
-  had2 p x left t = ask (word_at S2 left (place_of r.stage2 left t x) p x t) (λ i. done (Ok i))
+  had2 p x left t = one_word (word_at S2 left (place_of r.stage2 left t x) p x t)
 
   abbrev pub by2 : (s1ptw : Bool) (ipa left table : ℕ) (item : Item) → Step Leaf2 ℕ
   by2 p x left t i = step2 (asked2 r p x) left i.pa i.value
@@ -109,22 +109,6 @@ module _ (r : Regime) where
   none2 : (p : Bool) (x left t : ℕ) (i : Item) → Takes (fits r) (had2 p x left t) [] (done (Ok i)) → ⊥
   none2 p x left t i h = absurd cc
 
-  whole2 : (p : Bool) (x left t : ℕ) (items : List Item) (u : Ask Need Item (Result Item Fault)) (i : Item) → Takes (fits r) (had2 p x left t) items u → LastIs items i → u ≡ done (Ok i)
-  whole2 p x left t [] u i h e = absurd e
-  whole2 p x left t (j ∷ []) u i h e = h.1 ∙ ap (λ z. done (Ok z)) e
-  whole2 p x left t (j ∷ (k ∷ items)) u i h e = absurd h.1
-
-  words2 : (g : IsGranule r.stage2.granule) (p : Bool) (x y left t : ℕ) (items : List Item) (i : Item) (k : ℕ) → IsAligned r.stage2 left t → Takes (fits r) (had2 p x left t) items (done (Ok i)) → k ≤ class2 left i → x / 2 ^ k ≡ y / 2 ^ k → InStep (fits r) (SameRegion r) (had2 p x left t) (had2 p y left t) items (done (Ok i)) (done (Ok i))
-  words2 g p x y left t [] i k a h l s = absurd cc
-  words2 g p x y left t (j ∷ []) i k a h l s =
-      let z : done (Ok i) ≡ done (Ok j) = h.1 in
-      let e : j ≡ i = cc in
-      let q = alike_places r.stage2 left t i.pa (mapping_of r S2 left i.value) x y k g a l s in
-      let v = serves_alike r S2 left (place_of r.stage2 left t x) (place_of r.stage2 left t y) p x y t t k i q l s in
-      let f : fits r (word_at S2 left (place_of r.stage2 left t x) p x t) i ≡ true = rw e at h.0 in
-      rw e (f, v.fit f, v.region, (refl, refl))
-  words2 g p x y left t (j ∷ (k' ∷ items)) i k a h l s = absurd h.1
-
   tables2 : (g : IsGranule r.stage2.granule) (p : Bool) (x y left : ℕ) (i : Item) (next : ℕ) → Turn2 r left i → step2 (asked2 r p x) left i.pa i.value ≡ Down next → (step2 (asked2 r p y) left i.pa i.value ≡ Down next) × ((below : ℕ) → IsAligned r.stage2 below next)
   tables2 g p x y left i next (table n a d) h =
       let e : Down n ≡ Down next = sym (d p x) ∙ h in
@@ -136,14 +120,14 @@ module _ (r : Regime) where
   law2 : (g : IsGranule r.stage2.granule) (p : Bool) (x y : ℕ) → Law2 p x y
   law2 g p x y = record {
     none = λ left t i h. none2 p x left t i h;
-    whole = λ left t items u i h e o. whole2 p x left t items u i h e;
-    words = λ left t items i k a h l s. words2 g p x y left t items i k a h l s;
+    whole = λ left t items u i h e o. one_last r (word_at S2 left (place_of r.stage2 left t x) p x t) items u i h e;
+    words = λ left t items i k a h l s. word_flat r S2 left (place_of r.stage2 left t x) (place_of r.stage2 left t y) p x y t t k items i (alike_places r.stage2 left t i.pa (mapping_of r S2 left i.value) x y k g a l s) l s h;
     tables = λ left t i next h. tables2 g p x y left i next (turn2 r left i) h;
     least = λ left i. class_by_least (mapping_of r S2 left i.value) r.stage2 left i.pa g;
     shrinks = λ m left i l. (let a = class_by_most (mapping_of r S2 m i.value) r.stage2 m i.pa g in let b = run_below r.stage2.granule m left g l in omega (arith, a, b));
   }
 
-what_base : (w : What) → is_base w ≡ true → w ≡ Base
+pub what_base : (w : What) → is_base w ≡ true → w ≡ Base
 what_base Base h = refl
 what_base Word h = absurd cc
 
@@ -179,11 +163,6 @@ module _ (r : Regime) (p : Bool) (x y : ℕ) where
     pub is_last : (i : Item) → LastIs items i → i.what ≡ Word → i ≡ item
     pub shift : (k : ℕ) → k ≤ class2 r left item → x / 2 ^ k ≡ y / 2 ^ k → InStep (fits r) (SameRegion r) (walk2 (asked2 r p x)) (walk2 (asked2 r p y)) items u (behind2 y left item)
 
-  fed_fit : (left t : ℕ) (front : List Item) (i : Item) → Takes (fits r) (had2 r p x left t) front (done (Ok i)) → fits r (word_at S2 left (place_of r.stage2 left t x) p x t) i ≡ true
-  fed_fit left t [] i h = absurd cc
-  fed_fit left t (j ∷ []) i h = let z : done (Ok i) ≡ done (Ok j) = h.1 in let e : j ≡ i = cc in rw e at h.0
-  fed_fit left t (j ∷ (k ∷ front)) i h = absurd h.1
-
   abbrev Way2 : (g : IsGranule r.stage2.granule) (left t : ℕ) (items : List Item) (u : Ask Need Item (End Leaf2)) → Type 0
   Way2 g left t items u = Way (fits r) (SameRegion r) (had2 r p x) (had2 r p y) (by2 r p x) (by2 r p y) (Any r) (IsAligned r.stage2) (low2 r) (class2 r) (Same r x y) (last2 r p) (last2 r p) (law2 r g p x y) left t items u
 
@@ -198,7 +177,7 @@ module _ (r : Regime) (p : Bool) (x y : ℕ) where
         item = w.item;
         sound = s.0;
         most = c;
-        fit = (place_of r.stage2 w.at w.table x, w.table, fed_fit w.at w.table w.fed.0 w.item w.fed.1);
+        fit = (place_of r.stage2 w.at w.table x, w.table, (one_taken r (word_at S2 w.at (place_of r.stage2 w.at w.table x) p x w.table) w.fed.0 w.item w.fed.1).1);
         left_as = w.left_as;
         is_last = λ i l o. last_behind b rest i l o (base_fits r x b h).0 w.is_last;
         shift = λ k l q. (let ny = range2 r x y k f (omega (arith, c, l)) q n in

@@ -40,6 +40,11 @@ UsesAll bad = ⊥
 UsesAll (ends a []) = Unit {0}
 UsesAll (ends a (i ∷ items)) = ⊥
 
+-- what holds of each question of a walk
+abbrev pub Asks : {N I A : Type 0} → (holds : N → Type 0) (walk : Ask N I A) → Type 0
+Asks P (done a) = Unit {0}
+Asks {I} P (ask n k) = P n × ((i : I) → Asks P (k i))
+
 module _ {N I : Type 0} (fits : N → I → Bool) where
   uses_fit : {A : Type 0} (b : Bool) (s : Stands N I A) → UsesAll (cond b s bad) → (b ≡ true) × UsesAll s
   uses_fit true s h = (refl, h)
@@ -89,12 +94,7 @@ module _ {N I : Type 0} (fits : N → I → Bool) where
   takes_after (ask n k) f [] u h = inl (n, k, refl, h)
   takes_after (ask n k) f (i ∷ items) u h = further n k f i items u h.0 (takes_after (k i) f items u h.1)
 
-  -- what holds of each question of a walk
-  abbrev pub Asks : {A : Type 0} → (N → Type 0) → Ask N I A → Type 0
-  Asks P (done a) = Unit {0}
-  Asks {A} P (ask n k) = P n × ((i : I) → Asks P (k i))
-
-  -- holds of the question that took the last item
+  -- it holds of the question that took the last item
   pub last_asked : {A : Type 0} (P : N → Type 0) (t : Ask N I A) (items : List I) (u : Ask N I A) (l : I) → Asks P t → Takes fits t items u → LastIs items l → (n : N) × P n × (fits n l ≡ true)
   last_asked P t [] u l p h e = absurd e
   last_asked P (done a) (i ∷ items) u l p h e = absurd h

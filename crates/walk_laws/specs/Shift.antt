@@ -1,23 +1,26 @@
 -- The law Shift: the items of a walk serve every address of the region that its last word speaks of. The register fields
 -- and the items are the same on both sides. This project's own law, of the definitions alone.
-use Rattle.std.specs.Prelude.{◌≡◌, ℕ, ◌/◌, ◌^◌, Bool, List, [], ◌∷◌, ◌++◌, Option}
+use Rattle.std.specs.Prelude.{◌≡◌, ℕ, ◌/◌, ◌^◌, Bool, true, false, List, [], ◌∷◌, ◌++◌, Option}
 use Rattle.geometry.specs.Tables.{class_of, level_of}
 use Rattle.sysregs.specs.declared.regs.Config.{Config}
 use Rattle.sysregs.specs.declared.regs.Side.{Side}
+use Rattle.sysregs.specs.Sides.{side_of}
 use Rattle.fault_codes.specs.declared.fault.Stage.TheVariants.{S2}
 use Rattle.descriptors.specs.declared.kinds.Kind2.TheVariants.{Table as Table2}
 use Rattle.descriptors.specs.Meaning.{means2_of}
 use Rattle.trails.specs.declared.item.Item.{Item}
 use Rattle.trails.specs.declared.item.What.TheVariants.{Word}
+use Rattle.trails.specs.declared.outcome.Access.{Access}
 use Rattle.table_reads.specs.Numbers.{sizes2}
 use Rattle.walk_spec.specs.declared.leaf.Leaf2.{Leaf2}
 use Rattle.walk_spec.specs.Ask.{Stands, needs, bad, ends, on}
 use Rattle.walk_spec.specs.Needs.{Need, base1, base2, word, fits, regime_of, Region}
 use Rattle.walk_spec.specs.Steps.{End, reaches}
 use Rattle.walk_spec.specs.Stage2.{walk2}
-use Rattle.walk_spec.specs.Stage1.{asked2}
+use Rattle.walk_spec.specs.Stage1.{untagged, asked2}
+use Rattle.walk_spec.specs.BothStages.{Landing, is_refused1, walk}
 use Rattle.walk_laws.specs.Regions.{regions_met}
-use Rattle.walk_laws.specs.Moved.{moved2}
+use Rattle.walk_laws.specs.Moved.{moved, moved2}
 
 -- two numbers have the same bits from this one up
 abbrev pub SameAbove : (class x y : ℕ) → Type 0
@@ -66,3 +69,24 @@ abbrev pub Table2Shifts : Type 0
 Table2Shifts =
     (c : Config) (s : Side) (s1ptw : Bool) (x y : ℕ) (items : List Item) (class : ℕ) → EndsInTable2 c items class → NeedsWord (stands2 c s s1ptw x items) →
     SameAbove class x y → NeedsWord (stands2 c s s1ptw y items) × (regions2 c s s1ptw x items ≡ regions2 c s s1ptw y items)
+
+-- how the walk of an access stands on a list of items
+abbrev pub stands : (config : Config) (judged : Bool) (access : Access) (items : List Item) → Stands Need Item (End Landing)
+stands c j a items = on (fits (regime_of c (side_of a.va))) (walk c j a) items
+
+-- the regions of the words that the walk of an access met
+abbrev pub regions : (config : Config) (judged : Bool) (access : Access) (items : List Item) → List (Option Region)
+regions c j a items = regions_met (regime_of c (side_of a.va)) (walk c j a) items
+
+-- two accesses have equal VA bits 55 to class
+abbrev pub SameBits : (class : ℕ) (a b : Access) → Type 0
+SameBits k a b = SameAbove k (untagged a.va) (untagged b.va)
+
+-- Where stage 1 is on and the walk of an access, unjudged, lands with no item left over, the walk of every access of the
+-- piece that stage 1 doesn't refuse lands on the same items. Class, rights, type and shareability are those of the landing,
+-- and the address goes to its own offset in the same bytes. Each word has the same region for both.
+abbrev pub WalkShifts : Type 0
+WalkShifts =
+    (c : Config) (a b : Access) (items : List Item) (n : Landing) → c.m ≡ true → stands c false a items ≡ ends (reaches n) [] →
+    SameBits n.class a b → is_refused1 c b ≡ false →
+    (stands c false b items ≡ ends (reaches (moved n (untagged b.va))) []) × (regions c false a items ≡ regions c false b items)

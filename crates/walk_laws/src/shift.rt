@@ -1,4 +1,4 @@
-ghost use Rattle.walk_laws.specs.Shift.{Stage2Shifts, Table2Shifts};
+ghost use Rattle.walk_laws.specs.Shift.{Stage2Shifts, Table2Shifts, WalkShifts};
 
 /// The items on which stage 2 reaches a leaf serve each IPA of the leaf's region.
 pub fn stage2_shifts()
@@ -8,4 +8,9 @@ pub fn stage2_shifts()
 /// The items up to a table of stage 2 serve each IPA of the table's region.
 pub fn table2_shifts()
     ensures { Table2Shifts }
+{}
+
+/// The items on which a walk lands serve each access of the piece that stage 1 doesn't refuse.
+pub fn walk_shifts()
+    ensures { WalkShifts }
 {}
