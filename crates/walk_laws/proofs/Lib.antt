@@ -8,4 +8,5 @@ pub mod Stage2
 pub mod Tables2
 pub mod Stage1
 pub mod Landings
+pub mod Tables1
 pub mod Shifts

@@ -20,11 +20,12 @@ use Rattle.walk_spec.specs.Needs.{Need, Regime, fits, regime_of}
 use Rattle.walk_spec.specs.Stage2.{walk2}
 use Rattle.walk_spec.specs.Stage1.{untagged, asked2}
 use Rattle.walk_laws.specs.Regions.{region_met, regions_met}
-use Rattle.walk_laws.specs.Shift.{Stage2Shifts, Table2Shifts, NeedsWord, WalkShifts, regions}
+use Rattle.walk_laws.specs.Shift.{Stage2Shifts, Table2Shifts, NeedsWord, WalkShifts, IsOpen, Table1Shifts, regions}
 use Rattle.walk_laws.proofs.Stepping.{last_here, takes_ends, step_stands, step_met}
 use Rattle.walk_laws.proofs.Places.{SameRegion}
 use Rattle.walk_laws.proofs.Sound.{IsOfFields}
 use Rattle.walk_laws.proofs.Stage2.{reached2}
+use Rattle.walk_laws.proofs.Tables1.{tables1_in_step, is_open}
 use Rattle.walk_laws.proofs.Tables2.{tables2_in_step, needs_word}
 
 pub of_fields : (c : Config) (s : Side) → IsOfFields (regime_of c s)
@@ -67,3 +68,13 @@ walk_shifts c a b items n m h same ok =
     let i = d.shift same ok in
     let e : side_of a.va ≡ side_of b.va = same_side a.va b.va n.class (omega (arith, l)) same in
     subst (Shifted c false a b items (λ z. z ≡ ends (reaches (moved n (untagged b.va))) [])) e (step_stands (fits (regime_of c (side_of a.va))) (SameRegion (regime_of c (side_of a.va))) _ _ items _ _ i, step_met (fits (regime_of c (side_of a.va))) (region_met (regime_of c (side_of a.va))) _ _ items _ _ i)
+
+pub table1_shifts : Table1Shifts
+table1_shifts c j a b items class e h same ok =
+    let d = tables1_in_step (regime_of c (side_of a.va)) j a b items e.item e.left e.next e.bits (of_fields c (side_of a.va)) refl (rw e.last (last_here e.front e.item)) e.stage e.what e.level e.means h in
+    let l = d.most in
+    let t = d.shift (rw e.covers at same) ok in
+    let k = e.covers in
+    let q : side_of a.va ≡ side_of b.va = same_side a.va b.va class (omega (arith, l, k)) same in
+    let n : IsOpen (on (fits (regime_of c (side_of a.va))) t.1 []) = is_open (fits (regime_of c (side_of a.va))) t.1 t.4 in
+    subst (Shifted c j a b items IsOpen) q (rw (step_stands (fits (regime_of c (side_of a.va))) (SameRegion (regime_of c (side_of a.va))) _ _ items _ _ t.2) n, step_met (fits (regime_of c (side_of a.va))) (region_met (regime_of c (side_of a.va))) _ _ items _ _ t.2)

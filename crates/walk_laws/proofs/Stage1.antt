@@ -126,7 +126,8 @@ module _ (r : Regime) (p : Bool) (x : ℕ) where
   pub last_stage2 : (items : List Item) (u : Ask Need Item (End Leaf2)) (i : Item) → Takes (fits r) (walk2 (asked2 r p x)) items u → LastIs items i → i.stage ≡ S2
   last_stage2 items u i h l = let n = last_asked (fits r) IsStage2 (walk2 (asked2 r p x)) items u i asks_stage2 h l in fits_stage2 r n.0 i n.1 n.2
 
-two_stages : (i : Item) → i.stage ≡ S1 → i.stage ≡ S2 → ⊥
+-- an item is of one stage
+pub two_stages : (i : Item) → i.stage ≡ S1 → i.stage ≡ S2 → ⊥
 two_stages i h k = let q : S1 ≡ S2 = sym h ∙ k in cc
 
 -- How the word of an entry is had. With stage 2 on, its place is translated first.
@@ -135,10 +136,11 @@ module _ (r : Regime) (e : Entry1) where
   abbrev pub entry_at : ℕ → Need
   entry_at p = word_at S1 e.left p false e.address e.table.address
 
-  abbrev read_fault : Leaf2 → Fault
+  abbrev pub read_fault : Leaf2 → Fault
   read_fault l = record { stage = S2; level = l.level; class = Permission; s1ptw = true }
 
-  abbrev had_by : Bool → Ask Need Item (Result Item Fault)
+  -- the same by whether stage 2 is on
+  abbrev pub had_by : Bool → Ask Need Item (Result Item Fault)
   had_by vm = cond vm (after (walk2 (asked2 r true e.place)) (read1_by r.config e)) (one_word (entry_at e.place))
 
   no_word_deep : (refused : Bool) (i : Item) → after (cond refused (done (stops (fault2 (asked2 r true e.place) Translation most_left))) (ask (base2 e.place) (λ i. walk2_behind (asked2 r true e.place) i.value))) (read1_by r.config e) ≡ done (Ok i) → ⊥

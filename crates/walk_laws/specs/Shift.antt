@@ -1,21 +1,23 @@
 -- The law Shift: the items of a walk serve every address of the region that its last word speaks of. The register fields
 -- and the items are the same on both sides. This project's own law, of the definitions alone.
-use Rattle.std.specs.Prelude.{◌≡◌, ℕ, ◌/◌, ◌^◌, Bool, true, false, List, [], ◌∷◌, ◌++◌, Option}
+use Rattle.std.specs.Prelude.{◌≡◌, ℕ, ◌/◌, ◌^◌, Bool, true, false, List, [], ◌∷◌, ◌++◌, Option, pos}
 use Rattle.geometry.specs.Tables.{class_of, level_of}
 use Rattle.sysregs.specs.declared.regs.Config.{Config}
 use Rattle.sysregs.specs.declared.regs.Side.{Side}
 use Rattle.sysregs.specs.Sides.{side_of}
-use Rattle.fault_codes.specs.declared.fault.Stage.TheVariants.{S2}
+use Rattle.permissions.specs.declared.bits.TableBits.{TableBits}
+use Rattle.fault_codes.specs.declared.fault.Stage.TheVariants.{S1, S2}
+use Rattle.descriptors.specs.declared.kinds.Kind1.TheVariants.{Table as Table1}
 use Rattle.descriptors.specs.declared.kinds.Kind2.TheVariants.{Table as Table2}
-use Rattle.descriptors.specs.Meaning.{means2_of}
+use Rattle.descriptors.specs.Meaning.{means1_of, means2_of}
 use Rattle.trails.specs.declared.item.Item.{Item}
 use Rattle.trails.specs.declared.item.What.TheVariants.{Word}
 use Rattle.trails.specs.declared.outcome.Access.{Access}
-use Rattle.table_reads.specs.Numbers.{sizes2}
+use Rattle.table_reads.specs.Numbers.{sizes1, sizes2}
 use Rattle.walk_spec.specs.declared.leaf.Leaf2.{Leaf2}
 use Rattle.walk_spec.specs.Ask.{Stands, needs, bad, ends, on}
 use Rattle.walk_spec.specs.Needs.{Need, base1, base2, word, fits, regime_of, Region}
-use Rattle.walk_spec.specs.Steps.{End, reaches}
+use Rattle.walk_spec.specs.Steps.{End, stops, reaches}
 use Rattle.walk_spec.specs.Stage2.{walk2}
 use Rattle.walk_spec.specs.Stage1.{untagged, asked2}
 use Rattle.walk_spec.specs.BothStages.{Landing, is_refused1, walk}
@@ -90,3 +92,33 @@ WalkShifts =
     (c : Config) (a b : Access) (items : List Item) (n : Landing) → c.m ≡ true → stands c false a items ≡ ends (reaches n) [] →
     SameBits n.class a b → is_refused1 c b ≡ false →
     (stands c false b items ≡ ends (reaches (moved n (untagged b.va))) []) × (regions c false a items ≡ regions c false b items)
+
+-- a walk needs something, or it has ended in a stage 2 fault at level 0 with no item left over
+abbrev pub IsOpen : {L : Type 0} → (stands : Stands Need Item (End L)) → Type 0
+IsOpen (needs n) = Unit {0}
+IsOpen bad = ⊥
+IsOpen (ends (stops f) []) = (f.stage ≡ S2) × (f.level ≡ pos 0)
+IsOpen (ends (stops f) (i ∷ items)) = ⊥
+IsOpen (ends (reaches l) items) = ⊥
+
+-- the last item of a list is a stage 1 table of a side, whose entry covers 2 ^ class bytes
+pub record EndsInTable1 (config : Config) (side : Side) (items : List Item) (class : ℕ) : Type 0 where
+  pub front : List Item
+  pub item : Item
+  pub left : ℕ
+  pub next : ℕ
+  pub bits : TableBits
+  pub last : items ≡ front ++ item ∷ []
+  pub stage : item.stage ≡ S1
+  pub what : item.what ≡ Word
+  pub level : item.level ≡ level_of left
+  pub means : means1_of config side left item.value ≡ Table1 next bits
+  pub covers : class ≡ class_of (sizes1 config side).granule left
+
+-- Where the last item is a stage 1 table and the walk of an access, judged or not, needs something or has ended in a stage 2
+-- fault at level 0, so does on the same items the walk of every access of the table's region that stage 1 doesn't refuse.
+-- Each word has the same region for both.
+abbrev pub Table1Shifts : Type 0
+Table1Shifts =
+    (c : Config) (judged : Bool) (a b : Access) (items : List Item) (class : ℕ) → EndsInTable1 c (side_of a.va) items class → IsOpen (stands c judged a items) →
+    SameBits class a b → is_refused1 c b ≡ false → IsOpen (stands c judged b items) × (regions c judged a items ≡ regions c judged b items)

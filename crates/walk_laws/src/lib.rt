@@ -4,4 +4,4 @@
 
 mod shift;
 
-pub use shift::{stage2_shifts, table2_shifts, walk_shifts};
+pub use shift::{stage2_shifts, table1_shifts, table2_shifts, walk_shifts};
