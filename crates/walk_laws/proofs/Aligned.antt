@@ -73,7 +73,6 @@ table1_where k nothing pointer mapping true false b2 false a next bits bits' e n
 pub table2_page : (c : Config) (left w next : ℕ) → means2_of c left w ≡ Table2 next → next % 2 ^ 12 ≡ 0
 unfolding means2_of
 table2_page c left w next e =
-    let g : ℕ = granule_of c.tg2 in
     let q : next ≡ address_in (granule_of c.tg2) w (granule_of c.tg2) = table2_where (kind2_of (granule_of c.tg2) left w) _ _ _ (bit w 0) (bit w 1) (eqb left 0) (has_block (granule_of c.tg2) left) _ next e refl refl (λ h. cc) in
     rw q (address_page (granule_of c.tg2) w (granule_of_is_granule c.tg2))
 

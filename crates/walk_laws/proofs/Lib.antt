@@ -2,6 +2,7 @@ pub mod Numbers
 pub mod Stepping
 pub mod Places
 pub mod Levels
+pub mod Roots
 pub mod Sound
 pub mod Aligned
 pub mod Stage2

@@ -31,7 +31,6 @@ run_index x y t k d h = rw (shr-shr (x % 2 ^ t) k d, shr-shr (y % 2 ^ t) k d) (s
 -- the line of a place in a table that begins with a whole line
 line_of_place : (base i d : ℕ) → base % (8 * 2 ^ d) ≡ 0 → (base + 8 * i) / (8 * 2 ^ d) ≡ base / (8 * 2 ^ d) + i / 2 ^ d
 line_of_place base i d h =
-    let q : ℕ = base / (8 * 2 ^ d) in
     let e : base / (8 * 2 ^ d) * (8 * 2 ^ d) + base % (8 * 2 ^ d) ≡ base = div-add-mod' base (8 * 2 ^ d) in
     let s : base + 8 * i ≡ (2 ^ d * (base / (8 * 2 ^ d)) + i) * 8 = omega (arith, e, h) in
     let eight : (base + 8 * i) / 8 ≡ 2 ^ d * (base / (8 * 2 ^ d)) + i = omega (arith, s) in

@@ -166,7 +166,6 @@ fits_alike r s left p p' q x y t t' i a h = and_last (is_word i.what && stage_eq
 
 same_region : (r : Regime) (s : Stage) (left p p' : ℕ) (q : Bool) (x y t t' k : ℕ) (i : Item) → k ≤ class_by (mapping_of r s left i.value) (sizes_of r s) left i.pa → x / 2 ^ k ≡ y / 2 ^ k → SameRegion r (word_at s left p q x t) (word_at s left p' q y t') i
 same_region r s left p p' q x y t t' k i l h =
-    let c : ℕ = class_by (mapping_of r s left i.value) (sizes_of r s) left i.pa in
     let f : ℕ → Option Region = λ n. Some record { class = class_by (mapping_of r s left i.value) (sizes_of r s) left i.pa; start = n } in
     ap f (coarser x y k (class_by (mapping_of r s left i.value) (sizes_of r s) left i.pa) l h)
 

@@ -2,7 +2,9 @@
 use Rattle.std.proofs.Common.{◌≡◌, ℕ, ◌/◌, ◌%◌, ◌^◌, ◌≤◌, List, [], refl, sym, ap, ◌∙◌, arith, Bool, false, subst}
 use Rattle.std.specs.Prelude.{◌==◌, if◌then◌else◌}
 use Rattle.bitwords.specs.Fields.{bit}
+use Rattle.geometry.specs.Tables.{class_of}
 use Rattle.geometry.proofs.Indices.{field_at}
+use Rattle.table_reads.specs.Numbers.{sizes1}
 use Rattle.sysregs.specs.declared.regs.Side.TheVariants.{Low, High}
 use Rattle.sysregs.specs.Sides.{side_of}
 use Rattle.trails.specs.declared.item.Item.{Item}
@@ -16,7 +18,7 @@ use Rattle.walk_laws.proofs.Landings.{walk_in_step}
 use Rattle.sysregs.specs.declared.regs.Config.{Config}
 use Rattle.sysregs.specs.declared.regs.Side.{Side}
 use Rattle.walk_spec.specs.Ask.{Stands, ends, on}
-use Rattle.walk_spec.specs.Needs.{Need, Regime, fits, regime_of}
+use Rattle.walk_spec.specs.Needs.{Need, fits, regime_of}
 use Rattle.walk_spec.specs.Stage2.{walk2}
 use Rattle.walk_spec.specs.Stage1.{untagged, asked2}
 use Rattle.walk_laws.specs.Regions.{region_met, regions_met}
@@ -38,9 +40,8 @@ stage2_shifts c s p x y items l h m =
     (step_stands (fits (regime_of c s)) (SameRegion (regime_of c s)) _ _ items _ _ i, step_met (fits (regime_of c s)) (region_met (regime_of c s)) _ _ items _ _ i)
 
 pub table2_shifts : Table2Shifts
-table2_shifts c s p x y items class e h m =
-    let r : Regime = regime_of c s in
-    let t = tables2_in_step (regime_of c s) p x y (of_fields c s) items e.item e.left e.next (rw e.last (last_here e.front e.item)) e.what e.level e.means (rw e.covers at m) h in
+table2_shifts c s p x y items left value next e m h same =
+    let t = tables2_in_step (regime_of c s) p x y (of_fields c s) items e.item left next (rw e.last (last_here e.front e.item)) e.what e.level (rw e.has m) same h in
     let n : NeedsWord (on (fits (regime_of c s)) t.1 []) = needs_word (fits (regime_of c s)) t.1 t.4 in
     (rw (step_stands (fits (regime_of c s)) (SameRegion (regime_of c s)) _ _ items _ _ t.2) n, step_met (fits (regime_of c s)) (region_met (regime_of c s)) _ _ items _ _ t.2)
 
@@ -61,7 +62,6 @@ Shifted c j a b items says s =
 
 pub walk_shifts : WalkShifts
 walk_shifts c a b items n m h same ok =
-    let s : Side = side_of a.va in
     let t = takes_ends (fits (regime_of c (side_of a.va))) (walk c false a) items _ h in
     let d = walk_in_step (regime_of c (side_of a.va)) (of_fields c (side_of a.va)) a b m refl items n t in
     let l = d.most in
@@ -70,11 +70,10 @@ walk_shifts c a b items n m h same ok =
     subst (Shifted c false a b items (λ z. z ≡ ends (reaches (moved n (untagged b.va))) [])) e (step_stands (fits (regime_of c (side_of a.va))) (SameRegion (regime_of c (side_of a.va))) _ _ items _ _ i, step_met (fits (regime_of c (side_of a.va))) (region_met (regime_of c (side_of a.va))) _ _ items _ _ i)
 
 pub table1_shifts : Table1Shifts
-table1_shifts c j a b items class e h same ok =
-    let d = tables1_in_step (regime_of c (side_of a.va)) j a b items e.item e.left e.next e.bits (of_fields c (side_of a.va)) refl (rw e.last (last_here e.front e.item)) e.stage e.what e.level e.means h in
+table1_shifts c j a b items left value next bits e m h same ok =
+    let d = tables1_in_step (regime_of c (side_of a.va)) j a b items e.item left next bits (of_fields c (side_of a.va)) refl (rw e.last (last_here e.front e.item)) e.is_of e.what e.level (rw e.has m) h in
     let l = d.most in
-    let t = d.shift (rw e.covers at same) ok in
-    let k = e.covers in
-    let q : side_of a.va ≡ side_of b.va = same_side a.va b.va class (omega (arith, l, k)) same in
+    let t = d.shift same ok in
+    let q : side_of a.va ≡ side_of b.va = same_side a.va b.va (class_of (sizes1 c (side_of a.va)).granule left) (omega (arith, l)) same in
     let n : IsOpen (on (fits (regime_of c (side_of a.va))) t.1 []) = is_open (fits (regime_of c (side_of a.va))) t.1 t.4 in
     subst (Shifted c j a b items IsOpen) q (rw (step_stands (fits (regime_of c (side_of a.va))) (SameRegion (regime_of c (side_of a.va))) _ _ items _ _ t.2) n, step_met (fits (regime_of c (side_of a.va))) (region_met (regime_of c (side_of a.va))) _ _ items _ _ t.2)

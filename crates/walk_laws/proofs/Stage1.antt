@@ -34,13 +34,14 @@ use Rattle.walk_spec.specs.Needs.{Regime, Need, base1, base2, word, fits, is_wor
 use Rattle.walk_spec.specs.Steps.{End, stops, reaches, step_then}
 use Rattle.walk_spec.specs.Stage2.{walk2, walk2_from, walk2_behind, fault2, step2, is_refused2}
 use Rattle.walk_spec.specs.Stage1.{Asked, untagged, fault1, leaf1_of, judged1, step1, entry1, walk1_from, is_readable, read1_by, asked2, word_of, stage1_from}
-use Rattle.walk_spec.specs.BothStages.{is_refused1, stage1_behind, stage1_on}
+use Rattle.walk_spec.specs.BothStages.{is_refused1, stage1_on}
 use Rattle.walk_laws.specs.Moved.{moved1, moved2}
 use Rattle.walk_laws.proofs.Numbers.{coarser, goes_to_again, goes_to_above}
 use Rattle.walk_laws.proofs.Stepping.{Takes, InStep, LastIs, Asks, last_asked, last_back, done_takes, takes_after, step_on, step_after}
 use Rattle.walk_laws.proofs.Places.{one_word, one_last, one_taken, word_flat, IsAligned, line_of, line_along, run_below, class_up, class_by_least, class_by_most, class_by_fits, Alike, alike_places, alike_through, alike_page, word_at, SameRegion, first_of_and, second_of_and}
 use Rattle.walk_laws.proofs.Aligned.{aligned_page, aligned_start, table1_page}
-use Rattle.walk_laws.proofs.Levels.{levels, beneath, Twins, Way, way, no_leaf}
+use Rattle.walk_laws.proofs.Levels.{Descent, levels, beneath, behind, Closes, Measure, Twins, Way, way, no_leaf}
+use Rattle.walk_laws.proofs.Roots.{Root, WordOf, Rooted, from_root}
 use Rattle.walk_laws.proofs.Sound.{IsOfFields, granule1, sound1}
 use Rattle.walk_laws.proofs.Stage2.{reached2, what_base}
 
@@ -235,8 +236,11 @@ module _ (r : Regime) (j : Bool) where
   abbrev pub last1 : Fault
   last1 = fault1 Translation 0
 
+  abbrev pub down1 : (access : Access) → Descent Leaf1 Table1
+  down1 a = record { had = had1 a; step = by1 a; last = last1 }
+
   abbrev pub levels1 : (access : Access) (left : ℕ) (table : Table1) → Ask Need Item (End Leaf1)
-  levels1 a = levels (had1 a) (by1 a) last1
+  levels1 a = levels (down1 a)
 
   finer_then : (below : Table1 → Ask Entry1 Item (End Leaf1)) (s : Step Leaf1 Table1) → finer stops (word_of r) (step_then below s) ≡ step_then (λ t. finer stops (word_of r) (below t)) s
   finer_then below (Down t) = refl
@@ -261,9 +265,6 @@ module _ (r : Regime) (j : Bool) where
   abbrev pub class1 : ℕ → Item → ℕ
   class1 left i = class_by (mapping_of r S1 left i.value) r.stage1 left i.pa
 
-  abbrev pub low1 : ℕ → ℕ
-  low1 left = class_of r.stage1.granule left
-
   abbrev pub Own1 : Item → Type 0
   Own1 i = i.stage ≡ S1
 
@@ -274,9 +275,12 @@ module _ (r : Regime) (j : Bool) where
   abbrev pub Same1 : (a b : Access) → ℕ → Type 0
   Same1 a b k = untagged a.va / 2 ^ k ≡ untagged b.va / 2 ^ k
 
+  abbrev pub measure1 : (a b : Access) → Measure Table1
+  measure1 a b = record { own = Own1; sound = Sound1; low = class_of r.stage1.granule; class = class1; same = Same1 a b }
+
   module _ (f : IsOfFields r) (a b : Access) where
     abbrev pub Law1 : Type 0
-    Law1 = Twins (fits r) (SameRegion r) (had1 a) (had1 b) (by1 a) (by1 b) Own1 Sound1 low1 class1 (Same1 a b)
+    Law1 = Twins (fits r) (SameRegion r) (down1 a) (down1 b) (measure1 a b)
 
     module _ (left : ℕ) (t : Table1) where
       abbrev px : ℕ
@@ -322,7 +326,7 @@ module _ (r : Regime) (j : Bool) where
       tables1 i next (leaf v m d) h = absurd (judged_not_down r.config j a left (is_uxn v.bits t.bits) (leaf1_of r ex i.pa v) next (sym (d j a t) ∙ h))
       tables1 i next (fault k d) h = (let e : Stopped (fault1 k left) ≡ Down next = sym (d j a t) ∙ h in absurd cc)
 
-    law1 : Law1
+    pub law1 : Law1
     law1 = record {
       none = λ left t i h. no_word r (entry1 (under r j a) left t) i h;
       whole = λ left t items u i h e o. last_word r (entry1 (under r j a) left t) items u i h e o;
@@ -339,10 +343,6 @@ base_fits r b h =
     let d = first_of_and _ _ h in
     (what_base b.what (first_of_and _ _ (first_of_and _ _ (first_of_and _ _ (first_of_and _ _ d)))), eqb-true _ _ (second_of_and _ _ d))
 
--- the items end at a leaf, or with a word of stage 1
-abbrev pub Closes1 : List Item → Ask Need Item (End Leaf1) → Type 0
-Closes1 items u = ((l : Leaf1) × (u ≡ done (reaches l))) ⊎ ((i : Item) × LastIs items i × (i.stage ≡ S1) × (i.what ≡ Word))
-
 -- the table that a base names
 abbrev pub root1 : ℕ → Table1
 root1 base = record { address = base; bits = no_bits }
@@ -350,7 +350,7 @@ root1 base = record { address = base; bits = no_bits }
 module _ (r : Regime) (j : Bool) (a b : Access) where
   -- how stage 1 goes on behind a word, for either access
   abbrev pub behind1 : (access : Access) (left : ℕ) (table : Table1) (item : Item) → Ask Need Item (End Leaf1)
-  behind1 z left t i = step_then (beneath (had1 r j z) (by1 r j z) (last1 r j) left) (by1 r j z left t i)
+  behind1 z left t i = behind (down1 r j z) left t i
 
   -- Stage 1 has taken the items, the last of them a word, and stage 1 for the other access goes in step where it is not
   -- refused and the two agree above the class of this word.
@@ -366,12 +366,15 @@ module _ (r : Regime) (j : Bool) (a b : Access) where
     pub is_last : (i : Item) → LastIs items i → i.stage ≡ S1 → i.what ≡ Word → i ≡ item
     pub shift : (k : ℕ) → k ≤ class1 r j left item → Same1 r j a b k → is_refused1 r.config b ≡ false → InStep (fits r) (SameRegion r) (stage1_on (under r j a)) (stage1_on (under r j b)) items u (behind1 b left table item)
 
-  abbrev Way1 : (f : IsOfFields r) (left : ℕ) (t : Table1) (items : List Item) (u : Ask Need Item (End Leaf1)) → Type 0
-  Way1 f left t items u = Way (fits r) (SameRegion r) (had1 r j a) (had1 r j b) (by1 r j a) (by1 r j b) (Own1 r j) (Sound1 r j) (low1 r j) (class1 r j) (Same1 r j a b) (last1 r j) (last1 r j) (law1 r j f a b) left t items u
+  abbrev start1 : Root
+  start1 = record { need = base1; is_large = is_too_large r.stage1; refusal = fault1 Translation most_left; excess = fault1 AddressSize most_left }
 
-  from_way : (f : IsOfFields r) → r.side ≡ side_of a.va → (i : Item) (rest : List Item) (u : Ask Need Item (End Leaf1)) → is_refused1 r.config a ≡ false → fits r base1 i ≡ true → is_too_large r.stage1 i.value ≡ false → Way1 f r.stage1.start (root1 i.value) rest u → Stepped1 (i ∷ rest) u
-  from_way f side i rest u n h o w =
-      let s = sound1 r a f side n in
+  abbrev from1 : ℕ → Ask Need Item (End Leaf1)
+  from1 base = stage1_from (under r j a) r.stage1.start (root1 base)
+
+  from_way : (f : IsOfFields r) → r.side ≡ side_of a.va → (items : List Item) (u : Ask Need Item (End Leaf1)) (o : Rooted (fits r) (Own1 r j) start1 from1 (is_refused1 r.config a) items u) → Way (fits r) (SameRegion r) (down1 r j a) (down1 r j b) (measure1 r j a b) (law1 r j f a b) r.stage1.start (root1 o.base.value) o.rest u → Stepped1 (o.base ∷ o.rest) u
+  from_way f side items u o w =
+      let s = sound1 r a f side o.accepted in
       let e = s.entries in
       let m = class_up r.stage1.granule w.at r.stage1.start w.most in
       let lower : class_of r.stage1.granule w.at ≤ r.stage1.input = omega (arith, m, e) in
@@ -384,43 +387,17 @@ module _ (r : Regime) (j : Bool) (a b : Access) where
         lower = lower;
         fit = fit_word r (entry1 (under r j a) w.at w.table) w.fed.0 w.item w.fed.1;
         left_as = w.left_as;
-        is_last = λ z l q v. last_behind i rest z l q v (base_fits r i h).0 w.is_last;
-        shift = λ k l q ny. (let c = aligned_start r.stage1 i.value (granule1 r f) (base_fits r i h).1 in
-            rw (n, ny) (h, h, refl, rw o (rw (stage1_levels r j a r.stage1.start (root1 i.value), stage1_levels r j b r.stage1.start (root1 i.value)) (w.shift k c l q))));
+        is_last = λ i l q v. w.is_last i (o.is_last i l v) q;
+        shift = λ k l q ny. (let c = aligned_start r.stage1 o.base.value (granule1 r f) (base_fits r o.base o.fit).1 in
+            rw (o.accepted, ny) (o.fit, o.fit, refl, rw o.within (rw (stage1_levels r j a r.stage1.start (root1 o.base.value), stage1_levels r j b r.stage1.start (root1 o.base.value)) (w.shift k c l q))));
       }
-    where
-      last_behind : (i : Item) (rest : List Item) (z : Item) → LastIs (i ∷ rest) z → z.stage ≡ S1 → z.what ≡ Word → i.what ≡ Base → {y : Item} → ((z : Item) → LastIs rest z → z.stage ≡ S1 → z ≡ y) → z ≡ y
-      last_behind i [] z l q v o g = (let e : i ≡ z = l in let w : Base ≡ Word = sym o ∙ ap (λ z. z.what) e ∙ v in absurd cc)
-      last_behind i (k ∷ rest) z l q v o g = g z l q
-
-  closes_behind : (i : Item) (rest : List Item) (u : Ask Need Item (End Leaf1)) → i.what ≡ Base → Closes1 (i ∷ rest) u → ((l : Leaf1) × (u ≡ done (reaches l))) ⊎ ((z : Item) × LastIs rest z × (z.stage ≡ S1))
-  closes_behind i rest u v (inl l) = inl l
-  closes_behind i [] u v (inr z) = (let e : i ≡ z.0 = z.1 in let q : Base ≡ Word = sym v ∙ ap (λ z. z.what) e ∙ z.3 in absurd cc)
-  closes_behind i (k ∷ rest) u v (inr z) = inr (z.0, z.1, z.2)
-
-  no_close : (i : Item) (f : Fault) (u : Ask Need Item (End Leaf1)) → i.what ≡ Base → u ≡ done (stops f) → Closes1 (i ∷ []) u → ⊥
-  no_close i f u v e (inl l) = let q : done (reaches l.0) ≡ done (stops f) = sym l.1 ∙ e in cc
-  no_close i f u v e (inr z) = let w : i ≡ z.0 = z.1 in let q : Base ≡ Word = sym v ∙ ap (λ z. z.what) w ∙ z.3 in cc
-
-  no_close_none : (u : Ask Need Item (End Leaf1)) → ((l : Leaf1) → u ≡ done (reaches l) → ⊥) → Closes1 [] u → ⊥
-  no_close_none u n (inl l) = n l.0 l.1
-  no_close_none u n (inr z) = z.1
-
-  stepped_behind : (f : IsOfFields r) → r.side ≡ side_of a.va → (i : Item) (rest : List Item) (u : Ask Need Item (End Leaf1)) (big : Bool) → is_too_large r.stage1 i.value ≡ big → is_refused1 r.config a ≡ false → fits r base1 i ≡ true → Takes (fits r) (cond big (done (stops (fault1 AddressSize most_left))) (stage1_from (under r j a) r.stage1.start (root1 i.value))) rest u → Closes1 (i ∷ rest) u → Stepped1 (i ∷ rest) u
-  stepped_behind f side i [] u true o n h w c = absurd (no_close i _ u (base_fits r i h).0 w c)
-  stepped_behind f side i (k ∷ rest) u true o n h w c = absurd w
-  stepped_behind f side i rest u false o n h w c =
-      from_way f side i rest u n h o (way (fits r) (SameRegion r) (had1 r j a) (had1 r j b) (by1 r j a) (by1 r j b) (Own1 r j) (Sound1 r j) (low1 r j) (class1 r j) (Same1 r j a b) (last1 r j) (last1 r j) (law1 r j f a b) r.stage1.start (root1 i.value) rest u (rw (stage1_levels r j a r.stage1.start (root1 i.value)) at w) (closes_behind i rest u (base_fits r i h).0 c))
-
-  stepped_by : (f : IsOfFields r) → r.side ≡ side_of a.va → (items : List Item) (u : Ask Need Item (End Leaf1)) (refused : Bool) → is_refused1 r.config a ≡ refused → Takes (fits r) (cond refused (done (stops (fault1 Translation most_left))) (ask base1 (λ i. stage1_behind (under r j a) i.value))) items u → Closes1 items u → Stepped1 items u
-  stepped_by f side [] u true n h c = absurd (no_close_none u (λ l e. (let q : done (reaches l) ≡ done (stops (fault1 Translation most_left)) = sym e ∙ h in cc)) c)
-  stepped_by f side (i ∷ rest) u true n h c = absurd h
-  stepped_by f side [] u false n h c = absurd (no_close_none u (λ l e. (let q : done (reaches l) ≡ ask base1 (λ i. stage1_behind (under r j a) i.value) = sym e ∙ h in cc)) c)
-  stepped_by f side (i ∷ rest) u false n h c = stepped_behind f side i rest u (is_too_large r.stage1 i.value) refl n h.0 h.1 c
 
   -- Stage 1 that has taken items up to a word or a leaf goes in step with that of another access of the word's region.
-  pub stepped1 : IsOfFields r → r.side ≡ side_of a.va → (items : List Item) (u : Ask Need Item (End Leaf1)) → Takes (fits r) (stage1_on (under r j a)) items u → Closes1 items u → Stepped1 items u
-  stepped1 f side items u h c = stepped_by f side items u (is_refused1 r.config a) refl h c
+  pub stepped1 : IsOfFields r → r.side ≡ side_of a.va → (items : List Item) (u : Ask Need Item (End Leaf1)) → Takes (fits r) (stage1_on (under r j a)) items u → Closes (WordOf (Own1 r j)) items u → Stepped1 items u
+  stepped1 f side items u h c =
+      let o = from_root (fits r) (Own1 r j) start1 from1 (λ i k. (base_fits r i k).0) (is_refused1 r.config a) items u h c in
+      let w = way (fits r) (SameRegion r) (down1 r j a) (down1 r j b) (measure1 r j a b) (law1 r j f a b) r.stage1.start (root1 o.base.value) o.rest u (rw (stage1_levels r j a r.stage1.start (root1 o.base.value)) at o.taken) o.closes in
+      subst (λ (z : List Item). Stepped1 z u) (sym o.split) (from_way f side items u o w)
 
 module _ (r : Regime) (a b : Access) where
   -- what is known of a leaf that stage 1 reached
@@ -431,9 +408,8 @@ module _ (r : Regime) (a b : Access) where
 
   at_leaf : (f : IsOfFields r) (items : List Item) (l : Leaf1) (w : Stepped1 r false a b items (done (reaches l))) → Turn1 r w.left w.item → Reached1 items l
   at_leaf f items l w (table next bits al d) =
-      let t : Table1 = record { address = next; bits = joined w.table.bits bits } in
-      let e : done (reaches l) ≡ beneath (had1 r false a) (by1 r false a) (last1 r false) w.left record { address = next; bits = joined w.table.bits bits } = w.left_as ∙ rw (d false a w.table) refl in
-      absurd (no_leaf (fits r) (SameRegion r) (had1 r false a) (had1 r false b) (by1 r false a) (by1 r false b) (Own1 r false) (Sound1 r false) (low1 r false) (class1 r false) (Same1 r false a b) (last1 r false) (last1 r false) (law1 r false f a b) w.left record { address = next; bits = joined w.table.bits bits } l (sym e))
+      let e : done (reaches l) ≡ beneath (down1 r false a) w.left record { address = next; bits = joined w.table.bits bits } = w.left_as ∙ rw (d false a w.table) refl in
+      absurd (no_leaf (fits r) (SameRegion r) (down1 r false a) (down1 r false b) (measure1 r false a b) (law1 r false f a b) w.left record { address = next; bits = joined w.table.bits bits } l (sym e))
   at_leaf f items l w (fault k d) = (let e : done (reaches l) ≡ done (stops (fault1 k w.left)) = w.left_as ∙ rw (d false a w.table) refl in absurd cc)
   at_leaf f items l w (leaf v m d) =
       let e : done (reaches l) ≡ done (reaches (leaf1_of r (entry1 (under r false a) w.left w.table) w.item.pa v)) = w.left_as ∙ rw (d false a w.table) refl in

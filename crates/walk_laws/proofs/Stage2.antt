@@ -1,6 +1,6 @@
 -- Stage 2 for two IPAs of one region, side by side.
-use Rattle.std.proofs.Common.{◌≡◌, ℕ, zero, suc, ◌/◌, ◌%◌, ◌^◌, ◌≤◌, List, [], ◌∷◌, refl, sym, ap, ◌∙◌, arith, Bool, true, false, cond, ◌||◌, inl, inr, Ok, Result, subst}
-use Rattle.std.specs.Prelude.{◌⊎◌, not, Some}
+use Rattle.std.proofs.Common.{◌≡◌, ℕ, zero, suc, ◌/◌, ◌%◌, ◌^◌, ◌≤◌, List, [], ◌∷◌, refl, sym, ap, ◌∙◌, arith, Bool, true, false, ◌||◌, inl, Ok, Result, subst}
+use Rattle.std.specs.Prelude.{not, Some}
 use Rattle.std.proofs.lemmas.Bool.{eqb-true}
 use Rattle.geometry.specs.Tables.{IsGranule, class_of, table_size, most_left}
 use Rattle.geometry.specs.Runs.{goes_to}
@@ -21,17 +21,18 @@ use Rattle.table_reads.specs.Places.{place_of, is_too_large}
 use Rattle.table_reads.specs.Items.{fault_at}
 use Rattle.walk_spec.specs.declared.leaf.Leaf2.{Leaf2}
 use Rattle.walk_spec.specs.declared.leaf.Fields2.{Fields2}
-use Rattle.walk_spec.specs.Ask.{Ask, done, ask, after}
+use Rattle.walk_spec.specs.Ask.{Ask, done, after}
 use Rattle.walk_spec.specs.Needs.{Regime, Need, base2, fits, is_base, mapping_of, class_by}
 use Rattle.walk_spec.specs.Steps.{End, stops, reaches, step_then}
-use Rattle.walk_spec.specs.Stage2.{fault2, leaf2_of, step2, level2, walk2_from, is_refused2, walk2_behind, walk2}
+use Rattle.walk_spec.specs.Stage2.{fault2, leaf2_of, step2, level2, walk2_from, is_refused2, walk2}
 use Rattle.walk_spec.specs.Stage1.{asked2}
 use Rattle.walk_laws.specs.Moved.{moved2}
 use Rattle.walk_laws.proofs.Numbers.{goes_to_again}
 use Rattle.walk_laws.proofs.Stepping.{Takes, InStep, LastIs}
 use Rattle.walk_laws.proofs.Places.{one_word, one_last, one_taken, word_flat, IsAligned, run_below, class_up, class_least, class_by_least, class_by_most, class_by_fits, alike_places, word_at, SameRegion, first_of_and, second_of_and}
 use Rattle.walk_laws.proofs.Aligned.{aligned_page, aligned_start, table2_page}
-use Rattle.walk_laws.proofs.Levels.{levels, beneath, Twins, Way, way, no_leaf}
+use Rattle.walk_laws.proofs.Levels.{Descent, levels, beneath, behind, Closes, Measure, Twins, Way, way, no_leaf}
+use Rattle.walk_laws.proofs.Roots.{Root, WordOf, Rooted, from_root}
 use Rattle.walk_laws.proofs.Sound.{IsOfFields, granule2, sound2, range2}
 
 -- What a word of stage 2 leads to, whatever the IPA: the next table, a block or page, or a fault.
@@ -64,7 +65,6 @@ module _ (r : Regime) (left : ℕ) (i : Item) where
 
 leaf2_again : (r : Regime) (p : Bool) (left pa : ℕ) (f : Fields2) (x y : ℕ) → leaf2_of (asked2 r p y) left pa f ≡ moved2 (leaf2_of (asked2 r p x) left pa f) y
 leaf2_again r p left pa f x y =
-    let l : Leaf2 = leaf2_of (asked2 r p x) left pa f in
     let g : ℕ → Leaf2 = λ n. record (leaf2_of (asked2 r p x) left pa f) { pa = n } in
     ap g (sym (goes_to_again f.out (leaf2_of (asked2 r p x) left pa f).class x y))
 
@@ -79,8 +79,11 @@ module _ (r : Regime) where
   abbrev pub last2 : (s1ptw : Bool) → Fault
   last2 p = fault_at S2 p Translation 0
 
+  abbrev pub down2 : (s1ptw : Bool) (ipa : ℕ) → Descent Leaf2 ℕ
+  down2 p x = record { had = had2 p x; step = by2 p x; last = last2 p }
+
   abbrev pub levels2 : (s1ptw : Bool) (ipa left table : ℕ) → Ask Need Item (End Leaf2)
-  levels2 p x = levels (had2 p x) (by2 p x) (last2 p)
+  levels2 p x = levels (down2 p x)
 
   walk2_levels_all : (p : Bool) (x left : ℕ) → walk2_from (asked2 r p x) left ≡ levels2 p x left
   walk2_levels_all p x zero = refl
@@ -94,17 +97,15 @@ module _ (r : Regime) where
   abbrev pub class2 : ℕ → Item → ℕ
   class2 left i = class_by (mapping_of r S2 left i.value) r.stage2 left i.pa
 
-  abbrev pub low2 : ℕ → ℕ
-  low2 left = class_of r.stage2.granule left
-
+  -- each item is a word of stage 2
   abbrev pub Any : Item → Type 0
   Any i = Unit {0}
 
-  abbrev pub Same : (x y : ℕ) → ℕ → Type 0
-  Same x y k = x / 2 ^ k ≡ y / 2 ^ k
+  abbrev pub measure2 : (x y : ℕ) → Measure ℕ
+  measure2 x y = record { own = Any; sound = IsAligned r.stage2; low = class_of r.stage2.granule; class = class2; same = λ k. x / 2 ^ k ≡ y / 2 ^ k }
 
   abbrev pub Law2 : (p : Bool) (x y : ℕ) → Type 0
-  Law2 p x y = Twins (fits r) (SameRegion r) (had2 p x) (had2 p y) (by2 p x) (by2 p y) Any (IsAligned r.stage2) low2 class2 (Same x y)
+  Law2 p x y = Twins (fits r) (SameRegion r) (down2 p x) (down2 p y) (measure2 x y)
 
   none2 : (p : Bool) (x left t : ℕ) (i : Item) → Takes (fits r) (had2 p x left t) [] (done (Ok i)) → ⊥
   none2 p x left t i h = absurd cc
@@ -117,7 +118,7 @@ module _ (r : Regime) where
   tables2 g p x y left i next (leaf f m d) h = (let e : Reached (leaf2_of (asked2 r p x) left i.pa f) ≡ Down next = sym (d p x) ∙ h in absurd cc)
   tables2 g p x y left i next (fault k d) h = (let e : Stopped (fault2 (asked2 r p x) k left) ≡ Down next = sym (d p x) ∙ h in absurd cc)
 
-  law2 : (g : IsGranule r.stage2.granule) (p : Bool) (x y : ℕ) → Law2 p x y
+  pub law2 : (g : IsGranule r.stage2.granule) (p : Bool) (x y : ℕ) → Law2 p x y
   law2 g p x y = record {
     none = λ left t i h. none2 p x left t i h;
     whole = λ left t items u i h e o. one_last r (word_at S2 left (place_of r.stage2 left t x) p x t) items u i h e;
@@ -142,14 +143,10 @@ base_fits r x b h =
     let d = first_of_and _ _ h in
     (what_base b.what (first_of_and _ _ (first_of_and _ _ (first_of_and _ _ (first_of_and _ _ d)))), eqb-true _ _ (second_of_and _ _ d))
 
--- the items end at a leaf, or with a word
-abbrev pub Closes2 : List Item → Ask Need Item (End Leaf2) → Type 0
-Closes2 items u = ((l : Leaf2) × (u ≡ done (reaches l))) ⊎ ((i : Item) × LastIs items i × (i.what ≡ Word))
-
 module _ (r : Regime) (p : Bool) (x y : ℕ) where
-  -- how stage 2 goes on behind a word, for either IPA
+  -- how stage 2 goes on behind a word, for an IPA
   abbrev pub behind2 : (ipa left : ℕ) (item : Item) → Ask Need Item (End Leaf2)
-  behind2 z left i = step_then (beneath (had2 r p z) (by2 r p z) (last2 r p) left) (step2 (asked2 r p z) left i.pa i.value)
+  behind2 z left i = behind (down2 r p z) left 0 i
 
   -- Stage 2 has taken the items, the last of them a word, and stage 2 of the other IPA goes in step where the two agree
   -- above the class of this word.
@@ -163,12 +160,15 @@ module _ (r : Regime) (p : Bool) (x y : ℕ) where
     pub is_last : (i : Item) → LastIs items i → i.what ≡ Word → i ≡ item
     pub shift : (k : ℕ) → k ≤ class2 r left item → x / 2 ^ k ≡ y / 2 ^ k → InStep (fits r) (SameRegion r) (walk2 (asked2 r p x)) (walk2 (asked2 r p y)) items u (behind2 y left item)
 
-  abbrev Way2 : (g : IsGranule r.stage2.granule) (left t : ℕ) (items : List Item) (u : Ask Need Item (End Leaf2)) → Type 0
-  Way2 g left t items u = Way (fits r) (SameRegion r) (had2 r p x) (had2 r p y) (by2 r p x) (by2 r p y) (Any r) (IsAligned r.stage2) (low2 r) (class2 r) (Same r x y) (last2 r p) (last2 r p) (law2 r g p x y) left t items u
+  abbrev root2 : Root
+  root2 = record { need = base2 x; is_large = is_too_large r.stage2; refusal = fault2 (asked2 r p x) Translation most_left; excess = fault2 (asked2 r p x) AddressSize most_left }
 
-  from_way : (f : IsOfFields r) (b : Item) (rest : List Item) (u : Ask Need Item (End Leaf2)) → is_refused2 r.config x ≡ false → fits r (base2 x) b ≡ true → is_too_large r.stage2 b.value ≡ false → Way2 (granule2 r f) r.stage2.start b.value rest u → Stepped2 (b ∷ rest) u
-  from_way f b rest u n h o w =
-      let s = sound2 r x f n in
+  abbrev from2 : ℕ → Ask Need Item (End Leaf2)
+  from2 = walk2_from (asked2 r p x) r.stage2.start
+
+  from_way : (f : IsOfFields r) (items : List Item) (u : Ask Need Item (End Leaf2)) (o : Rooted (fits r) (Any r) root2 from2 (is_refused2 r.config x) items u) → Way (fits r) (SameRegion r) (down2 r p x) (down2 r p y) (measure2 r x y) (law2 r (granule2 r f) p x y) r.stage2.start o.base.value o.rest u → Stepped2 (o.base ∷ o.rest) u
+  from_way f items u o w =
+      let s = sound2 r x f o.accepted in
       let e = s.0.entries in
       let m = class_up r.stage2.granule w.at r.stage2.start w.most in
       let c : class2 r w.at w.item ≤ r.stage2.input = class_by_fits (mapping_of r S2 w.at w.item.value) r.stage2 w.at w.item.pa (omega (arith, m, e)) in
@@ -179,44 +179,18 @@ module _ (r : Regime) (p : Bool) (x y : ℕ) where
         most = c;
         fit = (place_of r.stage2 w.at w.table x, w.table, (one_taken r (word_at S2 w.at (place_of r.stage2 w.at w.table x) p x w.table) w.fed.0 w.item w.fed.1).1);
         left_as = w.left_as;
-        is_last = λ i l o. last_behind b rest i l o (base_fits r x b h).0 w.is_last;
-        shift = λ k l q. (let ny = range2 r x y k f (omega (arith, c, l)) q n in
-            let a = aligned_start r.stage2 b.value (granule2 r f) (base_fits r x b h).1 in
-            rw (n, ny) (h, same_base r x y b ∙ h, refl, rw o (rw (walk2_levels r p x r.stage2.start b.value, walk2_levels r p y r.stage2.start b.value) (w.shift k a l q))));
+        is_last = λ i l q. w.is_last i (o.is_last i l q) tt;
+        shift = λ k l q. (let ny = range2 r x y k f (omega (arith, c, l)) q o.accepted in
+            let a = aligned_start r.stage2 o.base.value (granule2 r f) (base_fits r x o.base o.fit).1 in
+            rw (o.accepted, ny) (o.fit, same_base r x y o.base ∙ o.fit, refl, rw o.within (rw (walk2_levels r p x r.stage2.start o.base.value, walk2_levels r p y r.stage2.start o.base.value) (w.shift k a l q))));
       }
-    where
-      last_behind : (b : Item) (rest : List Item) (i : Item) → LastIs (b ∷ rest) i → i.what ≡ Word → b.what ≡ Base → {j : Item} → ((i : Item) → LastIs rest i → Unit {0} → i ≡ j) → i ≡ j
-      last_behind b [] i l o v f = (let e : b ≡ i = l in let q : Base ≡ Word = sym v ∙ ap (λ z. z.what) e ∙ o in absurd cc)
-      last_behind b (k ∷ rest) i l o v f = f i l tt
-
-  closes_behind : (b : Item) (rest : List Item) (u : Ask Need Item (End Leaf2)) → b.what ≡ Base → Closes2 (b ∷ rest) u → ((l : Leaf2) × (u ≡ done (reaches l))) ⊎ ((i : Item) × LastIs rest i × Unit {0})
-  closes_behind b rest u v (inl l) = inl l
-  closes_behind b [] u v (inr i) = (let e : b ≡ i.0 = i.1 in let q : Base ≡ Word = sym v ∙ ap (λ z. z.what) e ∙ i.2 in absurd cc)
-  closes_behind b (k ∷ rest) u v (inr i) = inr (i.0, i.1, tt)
-
-  no_close : (b : Item) (f : Fault) (u : Ask Need Item (End Leaf2)) → b.what ≡ Base → u ≡ done (stops f) → Closes2 (b ∷ []) u → ⊥
-  no_close b f u v e (inl l) = let q : done (reaches l.0) ≡ done (stops f) = sym l.1 ∙ e in cc
-  no_close b f u v e (inr i) = let w : b ≡ i.0 = i.1 in let q : Base ≡ Word = sym v ∙ ap (λ z. z.what) w ∙ i.2 in cc
-
-  no_close_none : (u : Ask Need Item (End Leaf2)) → ((l : Leaf2) → u ≡ done (reaches l) → ⊥) → Closes2 [] u → ⊥
-  no_close_none u n (inl l) = n l.0 l.1
-  no_close_none u n (inr i) = i.1
-
-  stepped_behind : (f : IsOfFields r) (b : Item) (rest : List Item) (u : Ask Need Item (End Leaf2)) (big : Bool) → is_too_large r.stage2 b.value ≡ big → is_refused2 r.config x ≡ false → fits r (base2 x) b ≡ true → Takes (fits r) (cond big (done (stops (fault2 (asked2 r p x) AddressSize most_left))) (walk2_from (asked2 r p x) r.stage2.start b.value)) rest u → Closes2 (b ∷ rest) u → Stepped2 (b ∷ rest) u
-  stepped_behind f b [] u true o n h w c = absurd (no_close b _ u (base_fits r x b h).0 w c)
-  stepped_behind f b (k ∷ rest) u true o n h w c = absurd w
-  stepped_behind f b rest u false o n h w c =
-      from_way f b rest u n h o (way (fits r) (SameRegion r) (had2 r p x) (had2 r p y) (by2 r p x) (by2 r p y) (Any r) (IsAligned r.stage2) (low2 r) (class2 r) (Same r x y) (last2 r p) (last2 r p) (law2 r (granule2 r f) p x y) r.stage2.start b.value rest u (rw (walk2_levels r p x r.stage2.start b.value) at w) (closes_behind b rest u (base_fits r x b h).0 c))
-
-  stepped_by : (f : IsOfFields r) (items : List Item) (u : Ask Need Item (End Leaf2)) (refused : Bool) → is_refused2 r.config x ≡ refused → Takes (fits r) (cond refused (done (stops (fault2 (asked2 r p x) Translation most_left))) (ask (base2 x) (λ i. walk2_behind (asked2 r p x) i.value))) items u → Closes2 items u → Stepped2 items u
-  stepped_by f [] u true n h c = absurd (no_close_none u (λ l e. (let q : done (reaches l) ≡ done (stops (fault2 (asked2 r p x) Translation most_left)) = sym e ∙ h in cc)) c)
-  stepped_by f (b ∷ rest) u true n h c = absurd h
-  stepped_by f [] u false n h c = absurd (no_close_none u (λ l e. (let q : done (reaches l) ≡ ask (base2 x) (λ i. walk2_behind (asked2 r p x) i.value) = sym e ∙ h in cc)) c)
-  stepped_by f (b ∷ rest) u false n h c = stepped_behind f b rest u (is_too_large r.stage2 b.value) refl n h.0 h.1 c
 
   -- Stage 2 that has taken items up to a word or a leaf goes in step with that of another IPA of the word's region.
-  pub stepped2 : IsOfFields r → (items : List Item) (u : Ask Need Item (End Leaf2)) → Takes (fits r) (walk2 (asked2 r p x)) items u → Closes2 items u → Stepped2 items u
-  stepped2 f items u h c = stepped_by f items u (is_refused2 r.config x) refl h c
+  pub stepped2 : IsOfFields r → (items : List Item) (u : Ask Need Item (End Leaf2)) → Takes (fits r) (walk2 (asked2 r p x)) items u → Closes (WordOf (Any r)) items u → Stepped2 items u
+  stepped2 f items u h c =
+      let o = from_root (fits r) (Any r) root2 from2 (λ i k. (base_fits r x i k).0) (is_refused2 r.config x) items u h c in
+      let w = way (fits r) (SameRegion r) (down2 r p x) (down2 r p y) (measure2 r x y) (law2 r (granule2 r f) p x y) r.stage2.start o.base.value o.rest u (rw (walk2_levels r p x r.stage2.start o.base.value) at o.taken) o.closes in
+      subst (λ (z : List Item). Stepped2 z u) (sym o.split) (from_way f items u o w)
 
   -- what is known of a leaf that stage 2 reached
   pub record Reached2 (items : List Item) (l : Leaf2) : Type 0 where
@@ -227,8 +201,8 @@ module _ (r : Regime) (p : Bool) (x y : ℕ) where
 
   at_leaf : IsOfFields r → (items : List Item) (l : Leaf2) (w : Stepped2 items (done (reaches l))) → Turn2 r w.left w.item → Reached2 items l
   at_leaf f items l w (table next a d) =
-      let e : done (reaches l) ≡ beneath (had2 r p x) (by2 r p x) (last2 r p) w.left next = w.left_as ∙ rw (d p x) refl in
-      absurd (no_leaf (fits r) (SameRegion r) (had2 r p x) (had2 r p y) (by2 r p x) (by2 r p y) (Any r) (IsAligned r.stage2) (low2 r) (class2 r) (Same r x y) (last2 r p) (last2 r p) (law2 r (granule2 r f) p x y) w.left next l (sym e))
+      let e : done (reaches l) ≡ beneath (down2 r p x) w.left next = w.left_as ∙ rw (d p x) refl in
+      absurd (no_leaf (fits r) (SameRegion r) (down2 r p x) (down2 r p y) (measure2 r x y) (law2 r (granule2 r f) p x y) w.left next l (sym e))
   at_leaf f items l w (fault k d) = (let e : done (reaches l) ≡ done (stops (fault2 (asked2 r p x) k w.left)) = w.left_as ∙ rw (d p x) refl in absurd cc)
   at_leaf f items l w (leaf v m d) =
       let e : done (reaches l) ≡ done (reaches (leaf2_of (asked2 r p x) w.left w.item.pa v)) = w.left_as ∙ rw (d p x) refl in

@@ -30,7 +30,7 @@ use Rattle.walk_laws.proofs.Places.{SameRegion}
 use Rattle.walk_laws.proofs.Levels.{beneath, levels, levels_is, onward}
 use Rattle.walk_laws.proofs.Sound.{IsOfFields}
 use Rattle.walk_laws.proofs.Tables2.{level_of_one, fit_level, no_mapping}
-use Rattle.walk_laws.proofs.Stage1.{had_by, under, Turn1, table, leaf, fault, turn1, had1, by1, last1, class1, Same1, behind1, Stepped1, stepped1, last_stage2, two_stages}
+use Rattle.walk_laws.proofs.Stage1.{had_by, under, Turn1, table, leaf, fault, turn1, by1, down1, class1, Same1, behind1, Stepped1, stepped1, last_stage2, two_stages}
 
 -- a walk goes on, or it has ended in a fault of stage 2 at level 0
 abbrev pub Opens : {L : Type 0} → Ask Need Item (End L) → Type 0
@@ -114,18 +114,18 @@ module _ (r : Regime) (j : Bool) where
     opens_had true e g h = opens_deep (is_refused2 r.config e.place) e g h
     opens_had false e g h = tt
 
-    opens_levels : (left : ℕ) (t : Table1) → Opens (Behind b (levels (had1 r j b) (by1 r j b) (last1 r j) left t))
+    opens_levels : (left : ℕ) (t : Table1) → Opens (Behind b (levels (down1 r j b) left t))
     opens_levels left t =
-        rw (levels_is (had1 r j b) (by1 r j b) (last1 r j) left t) (opens_had r.config.vm (entry1 (under r j b) left t) (onward (beneath (had1 r j b) (by1 r j b) (last1 r j) left) (by1 r j b left t)) (λ d. refl))
+        rw (levels_is (down1 r j b) left t) (opens_had r.config.vm (entry1 (under r j b) left t) (onward (beneath (down1 r j b) left) (by1 r j b left t)) (λ d. refl))
 
-  opens_beneath : (a b : Access) (left : ℕ) (t : Table1) → Opens (Behind a (beneath (had1 r j a) (by1 r j a) (last1 r j) left t)) → Opens (Behind b (beneath (had1 r j b) (by1 r j b) (last1 r j) left t))
+  opens_beneath : (a b : Access) (left : ℕ) (t : Table1) → Opens (Behind a (beneath (down1 r j a) left t)) → Opens (Behind b (beneath (down1 r j b) left t))
   opens_beneath a b zero t h = h
   opens_beneath a b (suc left) t h = opens_levels b left t
 
   -- behind a table both walks are open, if one is
   opens_behind : (a b : Access) (left : ℕ) (t : Table1) (i : Item) (next : ℕ) (bits : TableBits) → means1_of r.config r.side left i.value ≡ Table next bits → Turn1 r left i → Opens (Behind a (behind1 r j a b a left t i)) → Opens (Behind b (behind1 r j a b b left t i))
   opens_behind a b left t i next bits m (table n s al d) h =
-      let w : Opens (Behind a (beneath (had1 r j a) (by1 r j a) (last1 r j) left record { address = n; bits = joined t.bits s })) = rw (d j a t) at h in
+      let w : Opens (Behind a (beneath (down1 r j a) left record { address = n; bits = joined t.bits s })) = rw (d j a t) at h in
       rw (d j b t) (opens_beneath a b left record { address = n; bits = joined t.bits s } w)
   opens_behind a b left t i next bits m (leaf f e d) h = absurd (no_mapping (f.out, f.contiguous) None refl (rw m at e))
   opens_behind a b left t i next bits m (fault k d) h =
@@ -141,8 +141,8 @@ module _ (r : Regime) (j : Bool) where
   abbrev OpenedBy : Bool → (a b : Access) (left : ℕ) (items : List Item) → Type 0
   OpenedBy m a b left items = (class_of r.stage1.granule left ≤ 52) × (Same1 r j a b (class_of r.stage1.granule left) → is_refused1 r.config b ≡ false → (u : Ask Need Item (End Landing)) × (v : Ask Need Item (End Landing)) × InStep (fits r) (SameRegion r) (Whole m a) (Whole m b) items u v × Opens u × Opens v)
 
-  opened_at : (a b : Access) (items : List Item) (i : Item) (left next : ℕ) (bits : TableBits) (u : Ask Need Item (End Leaf1)) → i ≡ i → LastIs items i → i.stage ≡ S1 → i.what ≡ Word → i.level ≡ level_of left → means1_of r.config r.side left i.value ≡ Table next bits → Opens (Behind a u) → Stepped1 r j a b items u → OpenedBy true a b left items
-  opened_at a b items i left next bits u z l o v e m h w =
+  opened_at : (a b : Access) (items : List Item) (i : Item) (left next : ℕ) (bits : TableBits) (u : Ask Need Item (End Leaf1)) → LastIs items i → i.stage ≡ S1 → i.what ≡ Word → i.level ≡ level_of left → means1_of r.config r.side left i.value ≡ Table next bits → Opens (Behind a u) → Stepped1 r j a b items u → OpenedBy true a b left items
+  opened_at a b items i left next bits u l o v e m h w =
       let q : i ≡ w.item = w.is_last i l o v in
       let n : left ≡ w.left = level_of_one left w.left (sym e ∙ ap (λ z. z.level) q ∙ fit_level r S1 w.left w.fit.0 false (untagged a.va) w.table.address w.item w.fit.1) in
       let m' = table_of r.config r.side left w.left next bits i w.item q n m in
@@ -159,7 +159,7 @@ module _ (r : Regime) (j : Bool) where
   opened_by : (m : Bool) (a b : Access) (items : List Item) (i : Item) (left next : ℕ) (bits : TableBits) → IsOfFields r → r.side ≡ side_of a.va → LastIs items i → i.stage ≡ S1 → i.what ≡ Word → i.level ≡ level_of left → means1_of r.config r.side left i.value ≡ Table next bits → (u : Ask Need Item (End Landing)) → Opens u → Within m a items u → OpenedBy m a b left items
   opened_by false a b items i left next bits f side l o v e m u h w = (let q : false ≡ true = w.0 in absurd cc)
   opened_by true a b items i left next bits f side l o v e m u h w =
-      opened_at a b items i left next bits w.1.0 refl l o v e m (rw w.1.2 at h) (stepped1 r j a b f side items w.1.0 w.1.1 (inr (i, l, o, v)))
+      opened_at a b items i left next bits w.1.0 l o v e m (rw w.1.2 at h) (stepped1 r j a b f side items w.1.0 w.1.1 (inr (i, l, (o, v))))
 
   -- Where the last item is a table of stage 1 and the walk is open, it goes in step with that of each access of the table's
   -- region that is not refused, which is open too.

@@ -22,7 +22,7 @@ use Rattle.walk_laws.proofs.Stepping.{InStep, LastIs, UsesAll, takes_all}
 use Rattle.walk_laws.proofs.Places.{SameRegion, word_at, first_of_and, second_of_and}
 use Rattle.walk_laws.proofs.Levels.{beneath}
 use Rattle.walk_laws.proofs.Sound.{IsOfFields}
-use Rattle.walk_laws.proofs.Stage2.{Turn2, table, leaf, fault, turn2, had2, by2, last2, class2, behind2, stepped2}
+use Rattle.walk_laws.proofs.Stage2.{Turn2, table, leaf, fault, turn2, down2, class2, behind2, stepped2}
 
 level_eq_true : (a b : ℤ) → level_eq a b ≡ true → a ≡ b
 level_eq_true (pos m) (pos n) h = ap (λ z. pos z) (eqb-true m n h)
@@ -73,7 +73,7 @@ class_of_table : (r : Regime) (left next : ℕ) (i : Item) → means2_of r.confi
 class_of_table r left next i m = rw m (omega arith)
 
 module _ (r : Regime) (p : Bool) (x y : ℕ) where
-  asks_beneath : (left next : ℕ) → AsksWord (beneath (had2 r p x) (by2 r p x) (last2 r p) left next) → AsksWord (beneath (had2 r p y) (by2 r p y) (last2 r p) left next)
+  asks_beneath : (left next : ℕ) → AsksWord (beneath (down2 r p x) left next) → AsksWord (beneath (down2 r p y) left next)
   asks_beneath zero next h = h
   asks_beneath (suc zero) next h = tt
   asks_beneath (suc (suc left)) next h = tt
@@ -81,7 +81,7 @@ module _ (r : Regime) (p : Bool) (x y : ℕ) where
   -- behind a table both ask for a word, if one does
   asks_behind : (left : ℕ) (i : Item) (next : ℕ) → means2_of r.config left i.value ≡ Table next → Turn2 r left i → AsksWord (behind2 r p x y x left i) → AsksWord (behind2 r p x y y left i)
   asks_behind left i next m (table n a d) h =
-      let w : AsksWord (beneath (had2 r p x) (by2 r p x) (last2 r p) left n) = rw (d p x) at h in
+      let w : AsksWord (beneath (down2 r p x) left n) = rw (d p x) at h in
       rw (d p y) (asks_beneath left n w)
   asks_behind left i next m (leaf f e d) h = absurd (no_mapping (f.out, f.contiguous) None refl (rw m at e))
   asks_behind left i next m (fault k d) h = absurd (rw (d p x) at h)
@@ -91,7 +91,7 @@ module _ (r : Regime) (p : Bool) (x y : ℕ) where
   pub tables2_in_step : IsOfFields r → (items : List Item) (i : Item) (left next : ℕ) → LastIs items i → i.what ≡ Word → i.level ≡ level_of left → means2_of r.config left i.value ≡ Table next → x / 2 ^ class_of r.stage2.granule left ≡ y / 2 ^ class_of r.stage2.granule left → NeedsWord (on (fits r) (walk2 (asked2 r p x)) items) → (u : Ask Need Item (End Leaf2)) × (v : Ask Need Item (End Leaf2)) × InStep (fits r) (SameRegion r) (walk2 (asked2 r p x)) (walk2 (asked2 r p y)) items u v × AsksWord u × AsksWord v
   tables2_in_step f items i left next l o e m s h =
       let t = takes_all (fits r) (walk2 (asked2 r p x)) items (uses_word _ h) in
-      let w = stepped2 r p x y f items t.0 t.1 (inr (i, l, o)) in
+      let w = stepped2 r p x y f items t.0 t.1 (inr (i, l, (tt, o))) in
       let a : AsksWord t.0 = asks_word (fits r) t.0 (rw t.2 at h) in
       let q : i ≡ w.item = w.is_last i l o in
       let n : left ≡ w.left = level_of_one left w.left (sym e ∙ ap (λ z. z.level) q ∙ fit_level r S2 w.left w.fit.0 p x w.fit.1 w.item w.fit.2) in

@@ -6,6 +6,7 @@ use Rattle.sysregs.specs.declared.regs.Config.{Config}
 use Rattle.sysregs.specs.declared.regs.Side.{Side}
 use Rattle.sysregs.specs.Sides.{side_of}
 use Rattle.permissions.specs.declared.bits.TableBits.{TableBits}
+use Rattle.fault_codes.specs.declared.fault.Stage.{Stage}
 use Rattle.fault_codes.specs.declared.fault.Stage.TheVariants.{S1, S2}
 use Rattle.descriptors.specs.declared.kinds.Kind1.TheVariants.{Table as Table1}
 use Rattle.descriptors.specs.declared.kinds.Kind2.TheVariants.{Table as Table2}
@@ -52,25 +53,23 @@ NeedsWord (needs (word w)) = Unit {0}
 NeedsWord bad = ⊥
 NeedsWord (ends e items) = ⊥
 
--- the last item of a list is a stage 2 table, whose entry covers 2 ^ class bytes
-pub record EndsInTable2 (config : Config) (items : List Item) (class : ℕ) : Type 0 where
+-- the last item of a list is a word of a stage with so many levels left, and this is its value
+pub record EndsInWord (stage : Stage) (left value : ℕ) (items : List Item) : Type 0 where
   pub front : List Item
   pub item : Item
-  pub left : ℕ
-  pub next : ℕ
   pub last : items ≡ front ++ item ∷ []
-  pub stage : item.stage ≡ S2
+  pub is_of : item.stage ≡ stage
   pub what : item.what ≡ Word
   pub level : item.level ≡ level_of left
-  pub means : means2_of config left item.value ≡ Table2 next
-  pub covers : class ≡ class_of (sizes2 config).granule left
+  pub has : item.value ≡ value
 
 -- Where the last item is a stage 2 table and stage 2 for x needs a word, it needs one on the same items for every y of the
 -- table's region. Each word has the same region for both.
 abbrev pub Table2Shifts : Type 0
 Table2Shifts =
-    (c : Config) (s : Side) (s1ptw : Bool) (x y : ℕ) (items : List Item) (class : ℕ) → EndsInTable2 c items class → NeedsWord (stands2 c s s1ptw x items) →
-    SameAbove class x y → NeedsWord (stands2 c s s1ptw y items) × (regions2 c s s1ptw x items ≡ regions2 c s s1ptw y items)
+    (c : Config) (s : Side) (s1ptw : Bool) (x y : ℕ) (items : List Item) (left value next : ℕ) → EndsInWord S2 left value items →
+    means2_of c left value ≡ Table2 next → NeedsWord (stands2 c s s1ptw x items) → SameAbove (class_of (sizes2 c).granule left) x y →
+    NeedsWord (stands2 c s s1ptw y items) × (regions2 c s s1ptw x items ≡ regions2 c s s1ptw y items)
 
 -- how the walk of an access stands on a list of items
 abbrev pub stands : (config : Config) (judged : Bool) (access : Access) (items : List Item) → Stands Need Item (End Landing)
@@ -101,24 +100,12 @@ IsOpen (ends (stops f) []) = (f.stage ≡ S2) × (f.level ≡ pos 0)
 IsOpen (ends (stops f) (i ∷ items)) = ⊥
 IsOpen (ends (reaches l) items) = ⊥
 
--- the last item of a list is a stage 1 table of a side, whose entry covers 2 ^ class bytes
-pub record EndsInTable1 (config : Config) (side : Side) (items : List Item) (class : ℕ) : Type 0 where
-  pub front : List Item
-  pub item : Item
-  pub left : ℕ
-  pub next : ℕ
-  pub bits : TableBits
-  pub last : items ≡ front ++ item ∷ []
-  pub stage : item.stage ≡ S1
-  pub what : item.what ≡ Word
-  pub level : item.level ≡ level_of left
-  pub means : means1_of config side left item.value ≡ Table1 next bits
-  pub covers : class ≡ class_of (sizes1 config side).granule left
-
 -- Where the last item is a stage 1 table and the walk of an access, judged or not, needs something or has ended in a stage 2
 -- fault at level 0, so does on the same items the walk of every access of the table's region that stage 1 doesn't refuse.
 -- Each word has the same region for both.
 abbrev pub Table1Shifts : Type 0
 Table1Shifts =
-    (c : Config) (judged : Bool) (a b : Access) (items : List Item) (class : ℕ) → EndsInTable1 c (side_of a.va) items class → IsOpen (stands c judged a items) →
-    SameBits class a b → is_refused1 c b ≡ false → IsOpen (stands c judged b items) × (regions c judged a items ≡ regions c judged b items)
+    (c : Config) (judged : Bool) (a b : Access) (items : List Item) (left value next : ℕ) (bits : TableBits) → EndsInWord S1 left value items →
+    means1_of c (side_of a.va) left value ≡ Table1 next bits → IsOpen (stands c judged a items) →
+    SameBits (class_of (sizes1 c (side_of a.va)).granule left) a b → is_refused1 c b ≡ false →
+    IsOpen (stands c judged b items) × (regions c judged a items ≡ regions c judged b items)
