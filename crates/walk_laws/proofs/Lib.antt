@@ -11,3 +11,4 @@ pub mod Stage1
 pub mod Landings
 pub mod Tables1
 pub mod Shifts
+pub mod Worked

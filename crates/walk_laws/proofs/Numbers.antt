@@ -58,6 +58,13 @@ goes_to_again out k x y =
     let f = goes_to_offset out k x in
     rw f (omega arith)
 
+-- no more of the address counts than its offset
+pub goes_to_low : (out k j x : ℕ) → k ≤ j → goes_to out k (x % 2 ^ j) ≡ goes_to out k x
+goes_to_low out k j x l =
+    let e : (j - k) + k ≡ j = omega arith in
+    let s : x % 2 ^ ((j - k) + k) % 2 ^ k ≡ x % 2 ^ k = mod-mod-pow x (j - k) k in
+    ap (λ n. out - out % 2 ^ k + n) (rw e at s)
+
 -- above a bit of the offset: the address there
 goes_to_split : (out k j y : ℕ) → j ≤ k → goes_to out k y / 2 ^ j ≡ out / 2 ^ k * 2 ^ (k - j) + y / 2 ^ j % 2 ^ (k - j)
 goes_to_split out k j y l =

@@ -1,7 +1,7 @@
 -- The law Shift, as it is stated, from walks in step.
-use Rattle.std.proofs.Common.{◌≡◌, ℕ, ◌/◌, ◌%◌, ◌^◌, ◌≤◌, List, [], refl, sym, ap, ◌∙◌, arith, Bool, false, subst}
+use Rattle.std.proofs.Common.{◌+◌, ◌-◌, ◌≡◌, ℕ, ◌/◌, ◌%◌, ◌^◌, ◌≤◌, List, [], refl, sym, ap, ◌∙◌, arith, Bool, false, subst}
 use Rattle.std.specs.Prelude.{◌==◌, if◌then◌else◌}
-use Rattle.bitwords.specs.Fields.{bit}
+use Rattle.bitwords.specs.Fields.{bit, bits_of}
 use Rattle.geometry.specs.Tables.{class_of}
 use Rattle.geometry.proofs.Indices.{field_at}
 use Rattle.table_reads.specs.Numbers.{sizes1}
@@ -12,7 +12,7 @@ use Rattle.trails.specs.declared.outcome.Access.{Access}
 use Rattle.walk_spec.specs.Steps.{End, reaches}
 use Rattle.walk_spec.specs.BothStages.{Landing, walk, walk_by}
 use Rattle.walk_laws.specs.Moved.{moved}
-use Rattle.walk_laws.proofs.Numbers.{coarser}
+use Rattle.walk_laws.proofs.Numbers.{coarser, goes_to_low}
 use Rattle.walk_laws.proofs.Stage1.{under}
 use Rattle.walk_laws.proofs.Landings.{walk_in_step}
 use Rattle.sysregs.specs.declared.regs.Config.{Config}
@@ -48,6 +48,15 @@ table2_shifts c s p x y items left value next e m h same =
 side_by : (b b' : Bool) → b ≡ b' → (if b then High else Low) ≡ (if b' then High else Low)
 side_by b b' h = ap (λ z. if z then High else Low) h
 
+-- what equal bits from 55 down say of addresses without their tags
+pub same_untagged : (x y k : ℕ) → k ≤ 55 → bits_of x 55 k ≡ bits_of y 55 k → untagged x / 2 ^ k ≡ untagged y / 2 ^ k
+same_untagged x y k l h =
+    let e : 55 - k + 1 ≡ 56 - k = omega arith in
+    field_at x 56 k (omega arith) ∙ (rw e at h) ∙ sym (field_at y 56 k (omega arith))
+
+moved_untagged : (n : Landing) (x : ℕ) → n.class ≤ 52 → moved n (untagged x) ≡ moved n x
+moved_untagged n x l = let g : ℕ → Landing = λ z. record n { pa = z } in ap g (goes_to_low n.pa n.class 56 x (omega arith))
+
 -- addresses with equal bits from 55 or below are of one side
 pub same_side : (x y k : ℕ) → k ≤ 55 → untagged x / 2 ^ k ≡ untagged y / 2 ^ k → side_of x ≡ side_of y
 same_side x y k l h =
@@ -60,19 +69,25 @@ abbrev Shifted : (c : Config) (j : Bool) (a b : Access) (items : List Item) (say
 Shifted c j a b items says s =
     says (on (fits (regime_of c s)) (walk_by (under (regime_of c s) j b)) items) × (regions c j a items ≡ regions_met (regime_of c s) (walk_by (under (regime_of c s) j b)) items)
 
+abbrev lands_at : (landing : Landing) → Stands Need Item (End Landing)
+lands_at n = ends (reaches n) []
+
 pub walk_shifts : WalkShifts
-walk_shifts c a b items n m h same ok =
+walk_shifts c a b items n m h bits ok =
     let t = takes_ends (fits (regime_of c (side_of a.va))) (walk c false a) items _ h in
     let d = walk_in_step (regime_of c (side_of a.va)) (of_fields c (side_of a.va)) a b m refl items n t in
     let l = d.most in
+    let same = same_untagged a.va b.va n.class (omega (arith, l)) bits in
     let i = d.shift same ok in
     let e : side_of a.va ≡ side_of b.va = same_side a.va b.va n.class (omega (arith, l)) same in
-    subst (Shifted c false a b items (λ z. z ≡ ends (reaches (moved n (untagged b.va))) [])) e (step_stands (fits (regime_of c (side_of a.va))) (SameRegion (regime_of c (side_of a.va))) _ _ items _ _ i, step_met (fits (regime_of c (side_of a.va))) (region_met (regime_of c (side_of a.va))) _ _ items _ _ i)
+    let q : lands_at (moved n (untagged b.va)) ≡ lands_at (moved n b.va) = ap lands_at (moved_untagged n b.va l) in
+    subst (Shifted c false a b items (λ z. z ≡ lands_at (moved n b.va))) e (step_stands (fits (regime_of c (side_of a.va))) (SameRegion (regime_of c (side_of a.va))) _ _ items _ _ i ∙ q, step_met (fits (regime_of c (side_of a.va))) (region_met (regime_of c (side_of a.va))) _ _ items _ _ i)
 
 pub table1_shifts : Table1Shifts
-table1_shifts c j a b items left value next bits e m h same ok =
+table1_shifts c j a b items left value next bits e m h equal ok =
     let d = tables1_in_step (regime_of c (side_of a.va)) j a b items e.item left next bits (of_fields c (side_of a.va)) refl (rw e.last (last_here e.front e.item)) e.is_of e.what e.level (rw e.has m) h in
     let l = d.most in
+    let same = same_untagged a.va b.va (class_of (sizes1 c (side_of a.va)).granule left) (omega (arith, l)) equal in
     let t = d.shift same ok in
     let q : side_of a.va ≡ side_of b.va = same_side a.va b.va (class_of (sizes1 c (side_of a.va)).granule left) (omega (arith, l)) same in
     let n : IsOpen (on (fits (regime_of c (side_of a.va))) t.1 []) = is_open (fits (regime_of c (side_of a.va))) t.1 t.4 in

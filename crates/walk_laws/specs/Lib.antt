@@ -1,3 +1,4 @@
+pub use Rattle.bitwords.specs.Fields
 pub use Rattle.geometry.specs.Tables
 pub use Rattle.geometry.specs.Runs
 pub use Rattle.sysregs.specs.Sides

@@ -1,6 +1,7 @@
 -- The law Shift: the items of a walk serve every address of the region that its last word speaks of. The register fields
 -- and the items are the same on both sides. This project's own law, of the definitions alone.
 use Rattle.std.specs.Prelude.{◌≡◌, ℕ, ◌/◌, ◌^◌, Bool, true, false, List, [], ◌∷◌, ◌++◌, Option, pos}
+use Rattle.bitwords.specs.Fields.{bits_of}
 use Rattle.geometry.specs.Tables.{class_of, level_of}
 use Rattle.sysregs.specs.declared.regs.Config.{Config}
 use Rattle.sysregs.specs.declared.regs.Side.{Side}
@@ -20,7 +21,7 @@ use Rattle.walk_spec.specs.Ask.{Stands, needs, bad, ends, on}
 use Rattle.walk_spec.specs.Needs.{Need, base1, base2, word, fits, regime_of, Region}
 use Rattle.walk_spec.specs.Steps.{End, stops, reaches}
 use Rattle.walk_spec.specs.Stage2.{walk2}
-use Rattle.walk_spec.specs.Stage1.{untagged, asked2}
+use Rattle.walk_spec.specs.Stage1.{asked2}
 use Rattle.walk_spec.specs.BothStages.{Landing, is_refused1, walk}
 use Rattle.walk_laws.specs.Regions.{regions_met}
 use Rattle.walk_laws.specs.Moved.{moved, moved2}
@@ -81,7 +82,7 @@ regions c j a items = regions_met (regime_of c (side_of a.va)) (walk c j a) item
 
 -- two accesses have equal VA bits 55 to class
 abbrev pub SameBits : (class : ℕ) (a b : Access) → Type 0
-SameBits k a b = SameAbove k (untagged a.va) (untagged b.va)
+SameBits k a b = bits_of a.va 55 k ≡ bits_of b.va 55 k
 
 -- Where stage 1 is on and the walk of an access, unjudged, lands with no item left over, the walk of every access of the
 -- piece that stage 1 doesn't refuse lands on the same items. Class, rights, type and shareability are those of the landing,
@@ -90,7 +91,7 @@ abbrev pub WalkShifts : Type 0
 WalkShifts =
     (c : Config) (a b : Access) (items : List Item) (n : Landing) → c.m ≡ true → stands c false a items ≡ ends (reaches n) [] →
     SameBits n.class a b → is_refused1 c b ≡ false →
-    (stands c false b items ≡ ends (reaches (moved n (untagged b.va))) []) × (regions c false a items ≡ regions c false b items)
+    (stands c false b items ≡ ends (reaches (moved n b.va)) []) × (regions c false a items ≡ regions c false b items)
 
 -- a walk needs something, or it has ended in a stage 2 fault at level 0 with no item left over
 abbrev pub IsOpen : {L : Type 0} → (stands : Stands Need Item (End L)) → Type 0
