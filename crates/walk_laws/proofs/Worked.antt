@@ -1,5 +1,6 @@
 -- Lists of items on which the law speaks, computed by the checker from the definitions alone.
 use Rattle.std.proofs.Common.{◌≡◌, ℕ, List, [], ◌∷◌, ◌++◌, true, false, refl, pos}
+use Rattle.std.specs.Prelude.{Some, None}
 use Rattle.sysregs.specs.declared.regs.Config.{Config}
 use Rattle.sysregs.specs.declared.regs.Side.TheVariants.{Low}
 use Rattle.sysregs.specs.Registers.{zero_regs, config_of}
@@ -40,6 +41,11 @@ run_landing pa = record { class = 16; pa = pa; perms = rights true true false tr
 serves_the_run : (stands user false (access 0xb400000040203def El0 Write false) run_items ≡ ends (reaches (run_landing 0x13def)) []) × (regions user false (kernel_read 0x40201abc) run_items ≡ regions user false (access 0xb400000040203def El0 Write false) run_items)
 unfolding sizes1 sizes2 fits means1_of means2_of place_of step1 step2 is_refused1 is_refused2 has is_allowed1 is_allowed2 perms_of
 serves_the_run = walk_shifts user (kernel_read 0x40201abc) (access 0xb400000040203def El0 Write false) run_items (run_landing 0x11abc) refl refl refl refl
+
+-- a table covers an entry of its level around the address, and the page its run
+names_the_regions : regions user false (access 0xb400000040203def El0 Write false) run_items ≡ None ∷ Some record { class = 39; start = 0 } ∷ Some record { class = 30; start = 1 } ∷ Some record { class = 21; start = 0x201 } ∷ Some record { class = 16; start = 0x4020 } ∷ []
+unfolding sizes1 sizes2 fits means1_of means2_of place_of step1 step2 is_refused1 is_refused2 has is_allowed1 is_allowed2 perms_of
+names_the_regions = refl
 
 -- it doesn't serve a page of the next run
 ends_with_the_run : stands user false (kernel_read 0x40211abc) run_items ≡ bad
