@@ -3,7 +3,8 @@ use Rattle.std.proofs.Common.{◌≡◌, ◌/◌, ◌%◌, Bool, true, false, co
 use Rattle.std.specs.Prelude.{◌&&◌}
 use Rattle.std.proofs.lemmas.Grind.{common_steps}
 use Rattle.attributes.specs.Memory.{cache_of, device_of, normal_of, s2_attr_of, combined, alone}
-use Rattle.attributes.specs.Laws.{WeakerCacheability, StrongerDevice, HintsOfStage1, TaggedWriteBack, UncachedIsOuterShareable, CachedIsWider, WriteBackLeavesStage1}
+use Rattle.attributes.specs.Laws.{WeakerCacheability, StrongerDevice, HintsOfStage1, TaggedWriteBack}
+use Rattle.attributes.specs.Laws.{UncachedIsOuterShareable, CachedIsWider, WriteBackLeavesStage1}
 use Rattle.attributes.specs.declared.kinds.Cache.{Cache}
 use Rattle.attributes.specs.declared.kinds.Cache.TheVariants.{Wb}
 use Rattle.attributes.specs.declared.kinds.Device.{Device}
@@ -56,5 +57,6 @@ pub left_alone : WriteBackLeavesStage1
 left_alone byte s =
     let normal = normal_of (cache_of (byte / 16)) (cache_of (byte % 16)) in
     let tagged = Normal (Wb false true true) (Wb false true true) true in
-    either (eqb (byte / 16) 0 && eqb (byte % 4) 0) (AsDevice (device_of (byte / 4))) (cond (eqb byte 0xf0) tagged normal) s (left_device (device_of (byte / 4)) s)
+    let device = device_of (byte / 4) in
+    either (eqb (byte / 16) 0 && eqb (byte % 4) 0) (AsDevice device) (cond (eqb byte 0xf0) tagged normal) s (left_device device s)
     (either (eqb byte 0xf0) tagged normal s (left_tagged s) (left_normal (cache_of (byte / 16)) (cache_of (byte % 16)) s))

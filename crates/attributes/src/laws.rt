@@ -1,5 +1,6 @@
 //! Laws of the combination of both stages. Each is a contract of a function that does nothing.
-ghost use Rattle.attributes.specs.Laws.{WeakerCacheability, StrongerDevice, HintsOfStage1, TaggedWriteBack, UncachedIsOuterShareable, CachedIsWider, WriteBackLeavesStage1};
+ghost use Rattle.attributes.specs.Laws.{WeakerCacheability, StrongerDevice, HintsOfStage1, TaggedWriteBack};
+ghost use Rattle.attributes.specs.Laws.{UncachedIsOuterShareable, CachedIsWider, WriteBackLeavesStage1};
 
 /// The outer and the inner cacheability are the weaker of both stages, and Device where either is Device.
 #[tactic(auto, using(crate::proofs::LawProofs::weaker_of_both))]

@@ -1,7 +1,6 @@
-ghost use Rattle.std.specs.Prelude.{◌<◌};
-
+use crate::Share::{Ish, Nsh, Osh};
 use crate::types::{alone, combine, mair, mmu_off, s2_attr, share};
-use crate::{Cache, Device, MemType, Share};
+use crate::{Cache, Device, MemType};
 
 fn letter(given: bool, name: u8) -> u8 {
     if given { name } else { b'-' }
@@ -97,107 +96,58 @@ fn s2_row(code: u32) -> [u8; 9] {
         0b0001 => *b"nGnRE    ",
         0b0010 => *b"nGRE     ",
         0b0011 => *b"GRE      ",
-        0b0100 => *b"N---N----",
-        0b0101 => *b"N---N----",
+        0b0100 | 0b0101 => *b"N---N----",
         0b0110 => *b"N---T----",
         0b0111 => *b"N---B----",
-        0b1000 => *b"T---N----",
-        0b1001 => *b"T---N----",
+        0b1000 | 0b1001 => *b"T---N----",
         0b1010 => *b"T---T----",
         0b1011 => *b"T---B----",
-        0b1100 => *b"B---N----",
-        0b1101 => *b"B---N----",
+        0b1100 | 0b1101 => *b"B---N----",
         0b1110 => *b"B---T----",
         _ => *b"B---B----",
     }
 }
 
 #[test]
-fn bytes_of_mair(rt: HostRuntime) {
-    for (byte, want) in [
-        (0xbb, *b"T-RWT-RW-"),
-        (0x40, *b"nGnRnE   "),
-        (0xf0, *b"B-RWB-RWG"),
-    ] {
-        assert_eq!(rt; text(mair(byte)), want, "byte {byte}");
-    }
-}
-
-#[test]
-fn all_bytes_of_mair(rt: HostRuntime) {
+fn codes_of_memory_types(rt: HostRuntime) {
     for byte in 0..=255 {
         assert_eq!(rt; text(mair(byte)), mair_text(byte), "byte {byte}");
     }
-}
-
-#[test]
-fn all_codes_of_stage_2(rt: HostRuntime) {
     for code in 0..16 {
         assert_eq!(rt; text(s2_attr(code)), s2_row(code), "code {code}");
     }
-    assert!(rt; share(0) == Share::Nsh);
-    assert!(rt; share(1) == Share::Nsh);
-    assert!(rt; share(2) == Share::Osh);
-    assert!(rt; share(3) == Share::Ish);
+    for (code, want) in [(0, Nsh), (1, Nsh), (2, Osh), (3, Ish)] {
+        assert_eq!(rt; share(code), want, "code {code}");
+    }
 }
 
 #[test]
 fn both_stages_combine(rt: HostRuntime) {
-    for (place, ((m, share), want, wider)) in [
-        (
-            combine(mair(0xff), Share::Ish, s2_attr(0b0110), Share::Nsh),
-            *b"N---T-RW-",
-            Share::Ish,
-        ),
-        (
-            combine(mair(0xff), Share::Nsh, s2_attr(0b0001), Share::Nsh),
-            *b"nGnRE    ",
-            Share::Osh,
-        ),
-        (
-            combine(mair(0x04), Share::Ish, s2_attr(0b0010), Share::Nsh),
-            *b"nGnRE    ",
-            Share::Osh,
-        ),
-        (
-            combine(mair(0x0c), Share::Ish, s2_attr(0b1111), Share::Ish),
-            *b"GRE      ",
-            Share::Osh,
-        ),
-        (
-            combine(mair(0xf0), Share::Nsh, s2_attr(0b1111), Share::Ish),
-            *b"B-RWB-RWG",
-            Share::Ish,
-        ),
-        (
-            combine(mair(0xf0), Share::Nsh, s2_attr(0b1011), Share::Nsh),
-            *b"T-RWB-RW-",
-            Share::Nsh,
-        ),
-        (
-            combine(mair(0x7e), Share::Ish, s2_attr(0b0101), Share::Ish),
-            *b"N---N----",
-            Share::Osh,
-        ),
-        (
-            combine(mair(0x1b), Share::Ish, s2_attr(0b1111), Share::Osh),
-            *b"Tt-WT-RW-",
-            Share::Osh,
-        ),
-        (alone(mair(0x44), Share::Nsh), *b"N---N----", Share::Osh),
-        (alone(mair(0x4f), Share::Nsh), *b"N---B-RW-", Share::Nsh),
-        (alone(mair(0x08), Share::Ish), *b"nGRE     ", Share::Osh),
-    ]
-    .iter()
-    .enumerate()
-    {
-        assert_eq!(rt; text(*m), *want, "row {place}");
-        assert!(rt; *share == *wider, "row {place}");
+    for (byte, share1, code, share2, want, wider) in [
+        (0xff, Ish, 0b0110, Nsh, *b"N---T-RW-", Ish),
+        (0xff, Nsh, 0b0001, Nsh, *b"nGnRE    ", Osh),
+        (0x04, Ish, 0b0010, Nsh, *b"nGnRE    ", Osh),
+        (0x0c, Ish, 0b1111, Ish, *b"GRE      ", Osh),
+        (0xf0, Nsh, 0b1111, Ish, *b"B-RWB-RWG", Ish),
+        (0xf0, Nsh, 0b1011, Nsh, *b"T-RWB-RW-", Nsh),
+        (0x7e, Ish, 0b0101, Ish, *b"N---N----", Osh),
+        (0x1b, Ish, 0b1111, Osh, *b"Tt-WT-RW-", Osh),
+    ] {
+        let (m, share) = combine(mair(byte), share1, s2_attr(code), share2);
+        assert_eq!(rt; (text(m), share), (want, wider), "{byte:#x}, {code:#x}");
     }
 }
 
 #[test]
-fn stage_1_off(rt: HostRuntime) {
+fn one_stage_alone_and_stage_1_off(rt: HostRuntime) {
+    for (byte, share1, want, raised) in [
+        (0x44, Nsh, *b"N---N----", Osh),
+        (0x4f, Nsh, *b"N---B-RW-", Nsh),
+        (0x08, Ish, *b"nGRE     ", Osh),
+    ] {
+        let (m, share) = alone(mair(byte), share1);
+        assert_eq!(rt; (text(m), share), (want, raised), "{byte:#x}");
+    }
     for (fetch, cached, want) in [
         (false, false, *b"nGnRnE   "),
         (false, true, *b"nGnRnE   "),
@@ -205,7 +155,10 @@ fn stage_1_off(rt: HostRuntime) {
         (true, true, *b"T-R-T-R--"),
     ] {
         let (m, share) = mmu_off(fetch, cached);
-        assert_eq!(rt; text(m), want, "fetch {fetch}, cached {cached}");
-        assert!(rt; share == Share::Osh, "fetch {fetch}, cached {cached}");
+        assert_eq!(rt;
+            (text(m), share),
+            (want, Osh),
+            "fetch {fetch}, cached {cached}"
+        );
     }
 }

@@ -1,6 +1,7 @@
 //! Memory types and shareability as both stages name and combine them.
 ghost use Rattle.std.specs.Prelude.{◌≡◌, ◌<◌, Some, None};
-ghost use Rattle.attributes.specs.Memory.{device_of, cache_of, normal_of, mair_of, cache2_of, s2_attr_of, share_of, stronger, weaker, is_write_back, still_tagged, type_of_both, wider, raised, combined, alone, off_type};
+ghost use Rattle.attributes.specs.Memory.{device_of, cache_of, normal_of, mair_of, cache2_of, s2_attr_of, share_of, off_type};
+ghost use Rattle.attributes.specs.Memory.{stronger, weaker, is_write_back, still_tagged, type_of_both, wider, raised, combined, alone};
 ghost use Rattle.attributes.specs.declared.kinds.Share.TheVariants.{Osh};
 
 use crate::kinds::{Cache, Device, MemType, Share};

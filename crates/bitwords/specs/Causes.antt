@@ -2,7 +2,7 @@
 use Rattle.std.specs.Prelude.{ℕ, ◌+◌, ◌-◌, ◌^◌, ◌≤◌, min, Result, OnErr}
 
 -- a count has risen, or stands at its type's end
-abbrev pub Rose : ℕ → ℕ → Type 0
+abbrev pub Rose : (before now : ℕ) → Type 0
 Rose before now = min (before + 1) (2 ^ 64 - 1) ≤ now
 
 -- the count has not fallen, and an Err comes only where it rose

@@ -2,7 +2,7 @@ ghost use Rattle.std.specs.Prelude.{◌≡◌, ◌≤◌, ◌<◌, ◌^◌, ◌�
 
 use std::marker::Model;
 
-/// A number below `2 ^ N`, with N at most 64.
+/// An address of `N` bits, where `N` is from 0 to 64.
 #[derive(Clone, Copy, Debug, PartialEq, Eq)]
 pub struct Addr<const N: u32> {
     value: u64,
@@ -21,7 +21,7 @@ impl<const N: u32> Model for Addr<N> {
 }
 
 impl<const N: u32> Addr<N> {
-    /// None exactly where the number is `2 ^ N` or more.
+    /// The address, or None for a number that takes more than `N` bits.
     pub fn of(w: u64) -> Option<Addr<N>>
         requires { N ≤ 64 }
         ensures fits { IsSome result ↔ (w < 2 ^ N) }

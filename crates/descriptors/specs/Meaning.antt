@@ -21,7 +21,8 @@ address_in g w lowest = if g == 16 then bits_of w 15 12 * 2 ^ 48 + bits_of w 47 
 
 -- bit 0 is 0: invalid; bits 1:0 are 01: a block, where the level has blocks; 11: a table, or a page at the last level
 abbrev pub shape_of : (granule left word : ℕ) → Shape
-shape_of g left w = if bit w 0 then (if bit w 1 then (if left == 0 then Mapping else Pointer) else (if has_block g left then Mapping else Nothing)) else Nothing
+shape_of g left w =
+    if bit w 0 then (if bit w 1 then (if left == 0 then Mapping else Pointer) else (if has_block g left then Mapping else Nothing)) else Nothing
 
 -- APTable, UXNTable and PXNTable; hierarchical permissions may be disabled (TCR_EL1.HPDn)
 abbrev pub table_bits : (hpd : Bool) (word : ℕ) → TableBits
@@ -45,7 +46,8 @@ means1_of c s left w = let g = granule_of (tg_of c s) in kind1_of g (hpd_of c s)
 abbrev pub kind2_of : (granule left word : ℕ) (shape : Shape) → Kind2
 kind2_of g left w Nothing = Invalid2
 kind2_of g left w Pointer = Table2 (address_in g w g)
-kind2_of g left w Mapping = Leaf2 (address_in g w (class_of g left)) (bits_of w 5 2) (bit w 6) (bit w 7) (bits_of w 54 53) (bits_of w 9 8) (bit w 10) (bit w 51) (bit w 52)
+kind2_of g left w Mapping =
+    Leaf2 (address_in g w (class_of g left)) (bits_of w 5 2) (bit w 6) (bit w 7) (bits_of w 54 53) (bits_of w 9 8) (bit w 10) (bit w 51) (bit w 52)
 
 -- a stage 2 word with so many levels left
 unfoldable pub means2_of : (config : Config) (left word : ℕ) → Kind2

@@ -1,4 +1,17 @@
+ghost use Rattle.fault_codes.specs.Status.{HasLevel};
+
 use crate::{Class, Fault, Stage, fsc};
+
+fn status(class: Class, level: i8) -> u8
+    requires { HasLevel class level }
+{
+    fsc(&Fault {
+        stage: Stage::S1,
+        level,
+        class,
+        s1ptw: false,
+    })
+}
 
 #[test]
 fn status_codes(rt: HostRuntime) {
@@ -11,60 +24,17 @@ fn status_codes(rt: HostRuntime) {
         (Class::Conflict, 0x30, 0x30),
     ] {
         assert_eq!(rt;
-            fsc(&Fault {
-                stage: Stage::S1,
-                level: 0,
-                class,
-                s1ptw: false
-            }),
-            first,
-            "{class:?} at level 0"
-        );
-        assert_eq!(rt;
-            fsc(&Fault {
-                stage: Stage::S2,
-                level: 3,
-                class,
-                s1ptw: true
-            }),
-            last,
-            "{class:?} at level 3"
+            (status(class, 0), status(class, 3)),
+            (first, last),
+            "{class:?}"
         );
     }
-    assert_eq!(rt;
-        fsc(&Fault {
-            stage: Stage::S1,
-            level: -1,
-            class: Class::AddressSize,
-            s1ptw: false
-        }),
-        0x29
-    );
-    assert_eq!(rt;
-        fsc(&Fault {
-            stage: Stage::S1,
-            level: -1,
-            class: Class::Translation,
-            s1ptw: false
-        }),
-        0x2b
-    );
-    assert_eq!(rt;
-        fsc(&Fault {
-            stage: Stage::S1,
-            level: -1,
-            class: Class::External,
-            s1ptw: false
-        }),
-        0x13
-    );
-    assert_eq!(rt;
-        fsc(&Fault {
-            stage: Stage::S1,
-            level: -1,
-            class: Class::Conflict,
-            s1ptw: false
-        }),
-        0x30
-    );
+    for (found, want) in [
+        (status(Class::AddressSize, -1), 0x29),
+        (status(Class::Translation, -1), 0x2b),
+        (status(Class::External, -1), 0x13),
+        (status(Class::Conflict, -1), 0x30),
+    ] {
+        assert_eq!(rt; found, want, "level -1");
+    }
 }

@@ -17,7 +17,8 @@ index_small x top k h l =
 pub offset_small : (p run class : ℕ) → class ≤ run → run ≤ 34 → p % 2 ^ (run - class) * 2 ^ class < 2 ^ 34
 offset_small p run class h l =
     let e : (run - class) + class ≡ run = omega arith in
-    let below : p % 2 ^ (run - class) * 2 ^ class < 2 ^ run = rw e at (shl_below (p % 2 ^ (run - class)) (run - class) class (mod_below p (2 ^ (run - class)) (pow_pos (run - class)))) in
+    let few : p % 2 ^ (run - class) < 2 ^ (run - class) = mod_below p (2 ^ (run - class)) (pow_pos (run - class)) in
+    let below : p % 2 ^ (run - class) * 2 ^ class < 2 ^ run = rw e at (shl_below (p % 2 ^ (run - class)) (run - class) class few) in
     let most : 2 ^ run ≤ 2 ^ 34 = pow_mono l in
     omega arith
 

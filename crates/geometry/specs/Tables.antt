@@ -1,6 +1,7 @@
 -- Levels, indices and sizes of translation tables with a granule of 2 ^ g bytes (DDI 0487, VMSAv8-64 translation
 -- table lookup). A level is told by how many levels are left below it: 3 minus its number.
-use Rattle.std.specs.Prelude.{◌≡◌, ◌⊎◌, ℕ, ◌+◌, ◌-◌, ◌*◌, ◌/◌, ◌%◌, ◌^◌, List, [], ◌∷◌, Option, Some, None, Bool, ◌==◌, ◌&&◌, nat_le, if◌then◌else◌, option_map, ℤ, pos, negsuc, ◌-ℤ◌}
+use Rattle.std.specs.Prelude.{◌≡◌, ◌⊎◌, ℕ, ◌+◌, ◌-◌, ◌*◌, ◌/◌, ◌%◌, ◌^◌, List, [], ◌∷◌, Option, Some, None, Bool, ◌==◌, ◌&&◌, nat_le}
+use Rattle.std.specs.Prelude.{if◌then◌else◌, option_map, ℤ, pos, negsuc, ◌-ℤ◌}
 
 -- 4 KB, 16 KB or 64 KB
 abbrev pub IsGranule : (granule : ℕ) → Type 0
@@ -45,7 +46,8 @@ row_at (row ∷ rows) a b = if row.0 == a && row.1 == b then Some row.2 else row
 
 -- stage 2: granule, SL0, and the levels left at the start (VTCR_EL2.SL0); no row is an invalid code
 abbrev pub start_rows2 : List (ℕ × ℕ × ℕ)
-start_rows2 = (12, 0, 1) ∷ (12, 1, 2) ∷ (12, 2, 3) ∷ (12, 3, 0) ∷ (14, 0, 0) ∷ (14, 1, 1) ∷ (14, 2, 2) ∷ (16, 0, 0) ∷ (16, 1, 1) ∷ (16, 2, 2) ∷ []
+start_rows2 =
+    (12, 0, 1) ∷ (12, 1, 2) ∷ (12, 2, 3) ∷ (12, 3, 0) ∷ (14, 0, 0) ∷ (14, 1, 1) ∷ (14, 2, 2) ∷ (16, 0, 0) ∷ (16, 1, 1) ∷ (16, 2, 2) ∷ []
 
 -- stage 2: the levels left at the start
 abbrev pub start_left2 : (granule sl0 : ℕ) → Option ℕ
@@ -64,7 +66,7 @@ abbrev pub left_below : (level : ℤ) → ℕ
 left_below (pos n) = most_left - n
 left_below (negsuc n) = most_left + 1 + n
 
--- the same, by the level
+-- stage 2: the input size suits a start level from 0 to 3
 abbrev pub is_suited_at : (granule : ℕ) (level : ℤ) (input : ℕ) → Bool
 is_suited_at g level input = is_suited2 g (left_below level) input
 

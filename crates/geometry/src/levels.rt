@@ -59,13 +59,22 @@ pub fn index<const G: u32, const LEFT: u32>(address: u64, top: u32) -> u64
     (address & ((1 << top) - 1)) >> entry_class::<G, LEFT>()
 }
 
-/// An entry covers `2 ^ class` bytes of input.
+/// The class of an entry with so many levels left: the entry covers `2 ^ class` bytes of input.
+pub fn class_at<const G: u32>(left: u32) -> u32
+    requires granule { IsGranule G }
+    requires left { left ≤ most_left }
+    ensures { result ≡ class_of G left }
+{
+    G + left * (G - 3)
+}
+
+/// The class of an entry with `LEFT` levels left.
 pub fn entry_class<const G: u32, const LEFT: u32>() -> u32
     requires granule { IsGranule G }
     requires left { LEFT ≤ most_left }
     ensures { result ≡ class_of G LEFT }
 {
-    G + LEFT * (G - 3)
+    class_at::<G>(LEFT)
 }
 
 /// Whether the level has blocks.

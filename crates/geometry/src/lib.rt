@@ -6,8 +6,8 @@ mod levels;
 mod places;
 mod runs;
 
-pub use levels::{block_allowed, entry_class, index, start_level1, start_level2, suits2};
-pub use places::{class_at, goes_to, leaf_class, place};
+pub use levels::{block_allowed, class_at, entry_class, index, start_level1, start_level2, suits2};
+pub use places::{goes_to, leaf_class, place};
 pub use runs::run_class;
 
 #[cfg(test)]

@@ -3,19 +3,11 @@ ghost use Rattle.geometry.specs.Tables.{IsGranule, most_left, class_of, top_of, 
 ghost use Rattle.geometry.specs.Runs.{run_of, goes_to, is_counted, leaf_class};
 
 use crate::case_table;
-use crate::levels::{entry_class, index};
+use crate::levels::{class_at, index};
 use crate::runs::run_class;
 use bitwords::power;
 
-/// The class of an entry with so many levels left.
-pub fn class_at<const G: u32>(left: u32) -> u32
-    requires granule { IsGranule G }
-    requires left { left ≤ most_left }
-    ensures { result ≡ class_of G left }
-{
-    case_table!(level left; entry_class::<G>())
-}
-
+/// The class of a run at this level, or None where the level has no run.
 fn run_at<const G: u32>(left: u32) -> Option<u32>
     requires granule { IsGranule G }
     requires left { left ≤ most_left }
@@ -24,6 +16,7 @@ fn run_at<const G: u32>(left: u32) -> Option<u32>
     case_table!(level left; run_class::<G>())
 }
 
+/// Which entry an address selects at this level, by the input bits below `top`.
 fn index_at<const G: u32>(left: u32, x: u64, top: u32) -> u64
     requires granule { IsGranule G }
     requires left { left ≤ most_left }

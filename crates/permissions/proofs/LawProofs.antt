@@ -2,7 +2,8 @@
 use Rattle.std.proofs.Common.{refl, arith}
 use Rattle.std.proofs.lemmas.Grind.{common_steps}
 use Rattle.permissions.specs.Rights.{both_give, is_allowed1}
-use Rattle.permissions.specs.Laws.{TablesOnlyTake, FetchBitsOnlyTake, FetchesComeOfWrites, NoFetchOfWritable, NoFetchOfUserWritable, El1Reads, FetchNeedsRead, PanSparesEl0, PanSparesFetches, EpanNeedsPan, BothIsIntersection}
+use Rattle.permissions.specs.Laws.{TablesOnlyTake, FetchBitsOnlyTake, FetchesComeOfWrites, NoFetchOfWritable, NoFetchOfUserWritable}
+use Rattle.permissions.specs.Laws.{El1Reads, FetchNeedsRead, PanSparesEl0, PanSparesFetches, EpanNeedsPan, BothIsIntersection}
 use Rattle.permissions.specs.declared.bits.El.TheVariants.{El0, El1}
 use Rattle.permissions.specs.declared.bits.Kind.TheVariants.{Read, Write, Fetch}
 use Rattle.permissions.proofs.Sets.{has_r0, has_w0, has_x0, has_r1, has_w1, has_x1, allowed_without_pan, reads1}

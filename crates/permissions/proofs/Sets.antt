@@ -68,5 +68,9 @@ pub gives_read1 : (p : Perms) → (uxn epan : Bool) → is_allowed1 p uxn El1 Re
 gives_read1 p uxn epan = allowed_without_pan p uxn El1 Read epan
 
 -- stage 1 lets EL1 read whatever it maps
-pub reads1 : (leaf : Bits1) → (tables : TableBits) → (dirty wxn uxn epan : Bool) → is_allowed1 (perms_of (rights1 leaf tables dirty wxn)) uxn El1 Read false epan ≡ true
-reads1 leaf tables dirty wxn uxn epan = gives_read1 (perms_of (rights1 leaf tables dirty wxn)) uxn epan ∙ has_r1 (rights1 leaf tables dirty wxn)
+pub reads1 :
+    (leaf : Bits1) → (tables : TableBits) → (dirty wxn uxn epan : Bool) →
+    is_allowed1 (perms_of (rights1 leaf tables dirty wxn)) uxn El1 Read false epan ≡ true
+reads1 leaf tables dirty wxn uxn epan =
+    let rights = rights1 leaf tables dirty wxn in
+    gives_read1 (perms_of rights) uxn epan ∙ has_r1 rights

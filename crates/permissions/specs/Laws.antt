@@ -10,40 +10,68 @@ use Rattle.permissions.specs.declared.bits.Bits1.{Bits1}
 use Rattle.permissions.specs.declared.bits.TableBits.{TableBits}
 
 -- whether a set gives the right that an access needs
-abbrev pub may : Perms → El → Kind → Bool
+abbrev pub may : (perms : Perms) (el : El) (kind : Kind) → Bool
 may p el kind = has p (needed el kind)
+
+-- the set of rights that stage 1 gives to a leaf under these tables
+abbrev pub set_of1 : (leaf : Bits1) (tables : TableBits) (dirty wxn : Bool) → Perms
+set_of1 leaf tables dirty wxn = perms_of (rights1 leaf tables dirty wxn)
+
+-- the set of rights that stage 2 gives to a leaf
+abbrev pub set_of2 : (read write : Bool) (xn : ℕ) (dbm dirty : Bool) → Perms
+set_of2 read write xn dbm dirty = perms_of (rights2 read write xn dbm dirty)
+
+-- whether the first set gives what an access needs, and the second doesn't
+abbrev pub taken : (before after : Perms) (el : El) (kind : Kind) → Bool
+taken before after el kind = may before el kind && not (may after el kind)
 
 -- Further bits of tables give no right to read or write.
 abbrev pub TablesOnlyTake : Type 0
-TablesOnlyTake = (leaf : Bits1) → (tables more : TableBits) → (dirty wxn : Bool) → (el : El) → (kind : Kind) → kind ≢ Fetch → IsTrue (may (perms_of (rights1 leaf (joined tables more) dirty wxn)) el kind) → IsTrue (may (perms_of (rights1 leaf tables dirty wxn)) el kind)
+TablesOnlyTake =
+    (leaf : Bits1) → (tables more : TableBits) → (dirty wxn : Bool) → (el : El) → (kind : Kind) → kind ≢ Fetch →
+    IsTrue (may (set_of1 leaf (joined tables more) dirty wxn) el kind) → IsTrue (may (set_of1 leaf tables dirty wxn) el kind)
 
 -- PXNTable and UXNTable give no right at all.
 abbrev pub FetchBitsOnlyTake : Type 0
-FetchBitsOnlyTake = (leaf : Bits1) → (tables more : TableBits) → (dirty wxn : Bool) → more.no_el0 ≡ false → more.read_only ≡ false → (el : El) → (kind : Kind) → IsTrue (may (perms_of (rights1 leaf (joined tables more) dirty wxn)) el kind) → IsTrue (may (perms_of (rights1 leaf tables dirty wxn)) el kind)
+FetchBitsOnlyTake =
+    (leaf : Bits1) → (tables more : TableBits) → (dirty wxn : Bool)
+    → more.no_el0 ≡ false → more.read_only ≡ false → (el : El) → (kind : Kind) →
+    IsTrue (may (set_of1 leaf (joined tables more) dirty wxn) el kind) → IsTrue (may (set_of1 leaf tables dirty wxn) el kind)
 
--- whether further bits of tables take the right that an access needs
-abbrev pub taken : Bits1 → TableBits → TableBits → Bool → Bool → El → Kind → Bool
-taken leaf tables more dirty wxn el kind = may (perms_of (rights1 leaf tables dirty wxn)) el kind && not (may (perms_of (rights1 leaf (joined tables more) dirty wxn)) el kind)
+-- Where the second set gives an exception level a fetch that the first doesn't, it lacks a write that the first gives.
+abbrev pub FetchForWrite : (before after : Perms) (el : El) → Type 0
+FetchForWrite before after el =
+    IsTrue (may after el Fetch) → may before el Fetch ≡ false → IsTrue (taken before after El0 Write || taken before after El1 Write)
 
 -- APTable gives a right to fetch only where it takes a right to write, which had stood against it.
 abbrev pub FetchesComeOfWrites : Type 0
-FetchesComeOfWrites = (leaf : Bits1) → (tables more : TableBits) → (dirty wxn : Bool) → (el : El) → IsTrue (may (perms_of (rights1 leaf (joined tables more) dirty wxn)) el Fetch) → may (perms_of (rights1 leaf tables dirty wxn)) el Fetch ≡ false → IsTrue (taken leaf tables more dirty wxn El0 Write || taken leaf tables more dirty wxn El1 Write)
+FetchesComeOfWrites =
+    (leaf : Bits1) → (tables more : TableBits) → (dirty wxn : Bool) → (el : El) →
+    FetchForWrite (set_of1 leaf tables dirty wxn) (set_of1 leaf (joined tables more) dirty wxn) el
 
 -- With WXN no exception level fetches what it may write.
 abbrev pub NoFetchOfWritable : Type 0
-NoFetchOfWritable = (leaf : Bits1) → (tables : TableBits) → (dirty : Bool) → (el : El) → IsTrue (may (perms_of (rights1 leaf tables dirty true)) el Write) → may (perms_of (rights1 leaf tables dirty true)) el Fetch ≡ false
+NoFetchOfWritable =
+    (leaf : Bits1) → (tables : TableBits) → (dirty : Bool) → (el : El) →
+    IsTrue (may (set_of1 leaf tables dirty true) el Write) → may (set_of1 leaf tables dirty true) el Fetch ≡ false
 
 -- What EL0 may write, EL1 may not fetch.
 abbrev pub NoFetchOfUserWritable : Type 0
-NoFetchOfUserWritable = (leaf : Bits1) → (tables : TableBits) → (dirty wxn : Bool) → IsTrue (may (perms_of (rights1 leaf tables dirty wxn)) El0 Write) → may (perms_of (rights1 leaf tables dirty wxn)) El1 Fetch ≡ false
+NoFetchOfUserWritable =
+    (leaf : Bits1) → (tables : TableBits) → (dirty wxn : Bool) →
+    IsTrue (may (set_of1 leaf tables dirty wxn) El0 Write) → may (set_of1 leaf tables dirty wxn) El1 Fetch ≡ false
 
 -- Stage 1 lets EL1 read all that it maps, as long as PAN is 0.
 abbrev pub El1Reads : Type 0
-El1Reads = (leaf : Bits1) → (tables : TableBits) → (dirty wxn uxn epan : Bool) → IsTrue (is_allowed1 (perms_of (rights1 leaf tables dirty wxn)) uxn El1 Read false epan)
+El1Reads =
+    (leaf : Bits1) → (tables : TableBits) → (dirty wxn uxn epan : Bool) →
+    IsTrue (is_allowed1 (set_of1 leaf tables dirty wxn) uxn El1 Read false epan)
 
 -- At stage 2 a fetch needs read.
 abbrev pub FetchNeedsRead : Type 0
-FetchNeedsRead = (read write dbm dirty : Bool) → (xn : ℕ) → (el : El) → IsTrue (may (perms_of (rights2 read write xn dbm dirty)) el Fetch) → IsTrue (may (perms_of (rights2 read write xn dbm dirty)) el Read)
+FetchNeedsRead =
+    (read write dbm dirty : Bool) → (xn : ℕ) → (el : El) →
+    IsTrue (may (set_of2 read write xn dbm dirty) el Fetch) → IsTrue (may (set_of2 read write xn dbm dirty) el Read)
 
 -- PAN and EPAN bear on no access at EL0.
 abbrev pub PanSparesEl0 : Type 0

@@ -1,5 +1,6 @@
 //! Laws of what the stages permit. Each is a contract of a function that does nothing.
-ghost use Rattle.permissions.specs.Laws.{TablesOnlyTake, FetchBitsOnlyTake, FetchesComeOfWrites, NoFetchOfWritable, NoFetchOfUserWritable, El1Reads, FetchNeedsRead, PanSparesEl0, PanSparesFetches, EpanNeedsPan, BothIsIntersection};
+ghost use Rattle.permissions.specs.Laws.{TablesOnlyTake, FetchBitsOnlyTake, FetchesComeOfWrites, NoFetchOfWritable, NoFetchOfUserWritable};
+ghost use Rattle.permissions.specs.Laws.{El1Reads, FetchNeedsRead, PanSparesEl0, PanSparesFetches, EpanNeedsPan, BothIsIntersection};
 
 /// Further bits of tables give no right to read or write.
 #[tactic(auto, using(crate::proofs::LawProofs::tables_take))]

@@ -32,11 +32,13 @@ pub record IsTableOf (c : Config) (a : Access) (from : From1) : Type 0 where
 -- Stage 1 was walked from a table with so many levels left: the words that it needs were read at moment 0 and appended,
 -- and the answer is how it ended. (More than six parameters: what the supply tells, the walk, and the trail before and
 -- after.)
-abbrev pub WalkedLeft : (told : Told) (failed : Type 0) (asked : Asked) (left : ℕ) (table : Table1) (old new : List Item) (result : Result Leaf1 Stop) → Type 0
+abbrev pub WalkedLeft : (told : Told) (failed : Type 0) (asked : Asked) (left : ℕ) (table : Table1) (old new : List Item)
+    (result : Result Leaf1 Stop) → Type 0
 WalkedLeft told failed q left t old new r = Walked (ReadsWord 0 told) told failed (stage1_from q left t) old new r
 
 -- the same from a given table, for an access that is judged
-abbrev pub WalkedFrom : (told : Told) (failed : Type 0) (config : Config) (access : Access) (from : From1) (old new : List Item) (result : Result Leaf1 Stop) → Type 0
+abbrev pub WalkedFrom : (told : Told) (failed : Type 0) (config : Config) (access : Access) (from : From1)
+    (old new : List Item) (result : Result Leaf1 Stop) → Type 0
 WalkedFrom told failed c a from old new r = WalkedLeft told failed (asked c true a) (left_below from.level) (table_from from) old new r
 
 -- the same from the start, with the base of the registers

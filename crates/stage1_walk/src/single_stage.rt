@@ -4,7 +4,7 @@ ghost use Rattle.geometry.specs.Tables.{left_below, level_of};
 ghost use Rattle.sysregs.specs.Registers.{InRange, config_of};
 ghost use Rattle.sysregs.specs.Sides.{side_of};
 ghost use Rattle.permissions.specs.Rights.{no_bits};
-ghost use Rattle.trails.specs.Length.{most_items};
+ghost use Rattle.trails.specs.Lengths.{most_items};
 ghost use Rattle.table_reads.specs.Numbers.{AreSound};
 ghost use Rattle.walk_spec.specs.BothStages.{is_refused1};
 ghost use Rattle.walk_spec.specs.Fresh.{start_base1};
@@ -76,7 +76,8 @@ fn walk_granule<S: Supply>(
     ensures later { S.faults supply.old ≤ S.faults supply.new }
     ensures kept { S.keeps supply.old supply.new }
     ensures line { IfErr result HasLineStop }
-    ensures walked { WalkedFrom (S.memory supply.old) (Rose (S.faults supply.old) (S.faults supply.new)) config.now access.now from.now trail.old trail.new result }
+    ensures walked { WalkedFrom (S.memory supply.old) (Rose (S.faults supply.old) (S.faults supply.new))
+        config.now access.now from.now trail.old trail.new result }
 {
     case_table!(granule config.tg(sysregs::side(access.va)); walk1::<_, S>(config, access, from, supply, trail))
 }

@@ -1,6 +1,6 @@
 ghost use Rattle.std.specs.Prelude.{◌≡◌, ◌==◌, [], Some, IsTrue, IsFalse, option_map};
 ghost use Rattle.std.specs.List.{find};
-ghost use Rattle.sysregs.specs.Registers.{config_of};
+ghost use Rattle.sysregs.specs.Registers.{zero_regs, config_of};
 
 use crate::{From1, translate1, walk1};
 use attributes::{Cache, Device, MemType, Share};
@@ -101,7 +101,13 @@ fn cached(pa: u64, perms: Perms) -> Outcome {
 
 /// The registers with stage 1 on and stage 2 off: 48 bits on both sides, write-back memory under index 1.
 fn regs(ttbr0_el1: u64, ttbr1_el1: u64) -> Regs
-    ensures { result ≡ record { sctlr_el1 = 1; tcr_el1 = 0x80100010; ttbr0_el1 = ttbr0_el1; ttbr1_el1 = ttbr1_el1; mair_el1 = 0xff00; hcr_el2 = 0; vtcr_el2 = 0; vttbr_el2 = 0 } }
+    ensures { result ≡ record zero_regs {
+      sctlr_el1 = 1;
+      tcr_el1 = 0x80100010;
+      ttbr0_el1 = ttbr0_el1;
+      ttbr1_el1 = ttbr1_el1;
+      mair_el1 = 0xff00;
+    } }
 {
     Regs {
         sctlr_el1: 1,

@@ -3,7 +3,7 @@ ghost use Rattle.bitwords.specs.Causes.{Rose};
 ghost use Rattle.geometry.specs.Tables.{left_below};
 ghost use Rattle.sysregs.specs.Registers.{InRange, granule_of};
 ghost use Rattle.sysregs.specs.Sides.{side_of, tg_of};
-ghost use Rattle.trails.specs.Length.{most_items};
+ghost use Rattle.trails.specs.Lengths.{most_items};
 ghost use Rattle.table_reads.specs.Places.{place_of};
 ghost use Rattle.walk_spec.specs.Stage1.{untagged, entry1};
 ghost use Rattle.walk_spec.specs.BothStages.{is_refused1};
@@ -45,7 +45,8 @@ fn walk_left<const G: u32, S: Supply>(
     ensures later { S.faults supply.old ≤ S.faults supply.new }
     ensures kept { S.keeps supply.old supply.new }
     ensures line { IfErr result HasLineStop }
-    ensures walked { WalkedLeft (S.memory supply.old) (Rose (S.faults supply.old) (S.faults supply.new)) (asked_under under.now) left table trail.old trail.new result }
+    ensures walked { WalkedLeft (S.memory supply.old) (Rose (S.faults supply.old) (S.faults supply.new))
+        (asked_under under.now) left table trail.old trail.new result }
 {
     let entry = Entry1 {
         table,
@@ -87,7 +88,8 @@ pub fn walk1<const G: u32, S: Supply>(
     ensures later { S.faults supply.old ≤ S.faults supply.new }
     ensures kept { S.keeps supply.old supply.new }
     ensures line { IfErr result HasLineStop }
-    ensures walked { WalkedFrom (S.memory supply.old) (Rose (S.faults supply.old) (S.faults supply.new)) config.now access.now from.now trail.old trail.new result }
+    ensures walked { WalkedFrom (S.memory supply.old) (Rose (S.faults supply.old) (S.faults supply.new))
+        config.now access.now from.now trail.old trail.new result }
 {
     let side = sysregs::side(access.va);
     let under = Under {

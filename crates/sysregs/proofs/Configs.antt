@@ -3,7 +3,9 @@ use Rattle.std.proofs.Common.{◌≡◌}
 use Rattle.sysregs.specs.Equality.{SameNumbers, SameGranules, SameSwitches, SameLow, SameHigh, SameUpdates, SameStage2}
 use Rattle.sysregs.specs.declared.regs.Config.{Config}
 
-pub equal_configs : (a b : Config) → SameNumbers a b → SameGranules a b → SameSwitches a b → SameLow a b → SameHigh a b → SameUpdates a b → SameStage2 a b → a ≡ b
+pub equal_configs :
+    (a b : Config) → SameNumbers a b → SameGranules a b → SameSwitches a b → SameLow a b → SameHigh a b → SameUpdates a b → SameStage2 a b →
+    a ≡ b
 equal_configs a b n g s l h u t = λ j. record {
   t0sz = n.t0sz j;
   t1sz = n.t1sz j;

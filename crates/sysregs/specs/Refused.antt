@@ -1,4 +1,4 @@
--- The fields that are refused where they are set.
+-- The fields that are refused where they are set. Which fields those are is this project's own rule.
 use Rattle.std.specs.Prelude.{ℕ, List, [], ◌∷◌, Option, Some, None, if◌then◌else◌}
 use Rattle.bitwords.specs.Fields.{bit}
 use Rattle.sysregs.specs.declared.regs.Reg.{Reg}
@@ -7,7 +7,7 @@ use Rattle.sysregs.specs.declared.regs.Field.{Field}
 use Rattle.sysregs.specs.declared.regs.Field.TheVariants.{Ee, Dc, Tge, Cd, Id, Fwb, Ds}
 
 -- the refused bits of a register, the lowest first
-abbrev pub refused_bits : Reg → List (ℕ × Field)
+abbrev pub refused_bits : (register : Reg) → List (ℕ × Field)
 refused_bits SctlrEl1 = (25, Ee) ∷ []
 refused_bits TcrEl1 = (59, Ds) ∷ []
 refused_bits Ttbr0El1 = []
@@ -18,10 +18,10 @@ refused_bits VtcrEl2 = (32, Ds) ∷ []
 refused_bits VttbrEl2 = []
 
 -- the first of a list of bits that is set
-abbrev pub first_set : List (ℕ × Field) → ℕ → Option Field
+abbrev pub first_set : (bits : List (ℕ × Field)) (value : ℕ) → Option Field
 first_set [] w = None
 first_set (x ∷ xs) w = if bit w x.0 then Some x.1 else first_set xs w
 
 -- the lowest refused field that a value sets
-abbrev pub refused_field : Reg → ℕ → Option Field
+abbrev pub refused_field : (register : Reg) (value : ℕ) → Option Field
 refused_field reg w = first_set (refused_bits reg) w

@@ -1,6 +1,7 @@
 //! The fields of the registers.
 ghost use Rattle.std.specs.Prelude.{◌≡◌, ◌<◌, ◌≤◌, ◌^◌, Some, None, MatchResult};
-ghost use Rattle.sysregs.specs.Registers.{tg0_of, tg1_of, granule_of, config_of, InRange, id_in, asid_of, vmid_of, size_named, output_size, base_field, ttbr_base, vttbr_base};
+ghost use Rattle.sysregs.specs.Registers.{tg0_of, tg1_of, granule_of, config_of, InRange, id_in, asid_of, vmid_of};
+ghost use Rattle.sysregs.specs.Registers.{size_named, output_size, base_field, ttbr_base, vttbr_base};
 ghost use Rattle.sysregs.specs.Refused.{refused_field};
 
 use crate::regs::{Config, Field, Reg, Regs, Side, Tg, Unsupported};
@@ -41,42 +42,40 @@ pub fn config(regs: &Regs) -> Config
     ensures is { result ≡ config_of regs.now }
     ensures in_range { InRange result }
 {
-    let tcr = regs.tcr_el1;
-    let vtcr = regs.vtcr_el2;
     Config {
         mair: mair(regs),
-        t0sz: field::<5, 0>(tcr) as u32,
-        t1sz: field::<21, 16>(tcr) as u32,
-        sh0: field::<13, 12>(tcr) as u32,
-        sh1: field::<29, 28>(tcr) as u32,
-        ips: field::<34, 32>(tcr) as u32,
-        t2sz: field::<5, 0>(vtcr) as u32,
-        sl0: field::<7, 6>(vtcr) as u32,
-        sl2: field::<33, 33>(vtcr) as u32,
-        ps: field::<18, 16>(vtcr) as u32,
-        tg0: tg0(field::<15, 14>(tcr)),
-        tg1: tg1(field::<31, 30>(tcr)),
-        tg2: tg0(field::<15, 14>(vtcr)),
+        t0sz: field::<5, 0>(regs.tcr_el1) as u32,
+        t1sz: field::<21, 16>(regs.tcr_el1) as u32,
+        sh0: field::<13, 12>(regs.tcr_el1) as u32,
+        sh1: field::<29, 28>(regs.tcr_el1) as u32,
+        ips: field::<34, 32>(regs.tcr_el1) as u32,
+        t2sz: field::<5, 0>(regs.vtcr_el2) as u32,
+        sl0: field::<7, 6>(regs.vtcr_el2) as u32,
+        sl2: field::<33, 33>(regs.vtcr_el2) as u32,
+        ps: field::<18, 16>(regs.vtcr_el2) as u32,
+        tg0: tg0(field::<15, 14>(regs.tcr_el1)),
+        tg1: tg1(field::<31, 30>(regs.tcr_el1)),
+        tg2: tg0(field::<15, 14>(regs.vtcr_el2)),
         m: flag::<0>(regs.sctlr_el1),
         i: flag::<12>(regs.sctlr_el1),
         wxn: flag::<19>(regs.sctlr_el1),
         epan: flag::<57>(regs.sctlr_el1),
-        epd0: flag::<7>(tcr),
-        epd1: flag::<23>(tcr),
-        tbi0: flag::<37>(tcr),
-        tbi1: flag::<38>(tcr),
-        tbid0: flag::<51>(tcr),
-        tbid1: flag::<52>(tcr),
-        e0pd0: flag::<55>(tcr),
-        e0pd1: flag::<56>(tcr),
-        hpd0: flag::<41>(tcr),
-        hpd1: flag::<42>(tcr),
-        ha1: flag::<39>(tcr),
-        hd1: flag::<40>(tcr),
+        epd0: flag::<7>(regs.tcr_el1),
+        epd1: flag::<23>(regs.tcr_el1),
+        tbi0: flag::<37>(regs.tcr_el1),
+        tbi1: flag::<38>(regs.tcr_el1),
+        tbid0: flag::<51>(regs.tcr_el1),
+        tbid1: flag::<52>(regs.tcr_el1),
+        e0pd0: flag::<55>(regs.tcr_el1),
+        e0pd1: flag::<56>(regs.tcr_el1),
+        hpd0: flag::<41>(regs.tcr_el1),
+        hpd1: flag::<42>(regs.tcr_el1),
+        ha1: flag::<39>(regs.tcr_el1),
+        hd1: flag::<40>(regs.tcr_el1),
         vm: flag::<0>(regs.hcr_el2),
         ptw: flag::<2>(regs.hcr_el2),
-        ha2: flag::<21>(vtcr),
-        hd2: flag::<22>(vtcr),
+        ha2: flag::<21>(regs.vtcr_el2),
+        hd2: flag::<22>(regs.vtcr_el2),
     }
 }
 

@@ -111,8 +111,8 @@ impl Tg {
     }
 }
 
-/// The register fields that steer a walk. A name with 0 or 1 at its end is a field of `TCR_EL1` for the low or the
-/// high side, one with 2 a field of `VTCR_EL2`. Each number is the field's raw code.
+/// The register fields that steer a walk. A trailing 0 or 1 names the half of the addresses that a field of `TCR_EL1`
+/// serves, but `ha1` and `hd1` serve both; a trailing 2 marks a field of `VTCR_EL2`. Each number is the field's raw code.
 #[derive(Clone, Copy, Debug, PartialEq, Eq)]
 pub struct Config {
     pub mair: u64,

@@ -1,122 +1,148 @@
 use crate::fields::{asid, base1, base2, check_reg, config, output_size, vmid};
 use crate::{Config, Field, Reg, Regs, Side, Tg, Unsupported, same_config, side};
 
-/// The fields where each register is 0.
-fn no_fields() -> Config {
-    config(&Regs::zero())
-}
-
-#[test]
-fn fields_of_48_bit_addresses(rt: HostRuntime) {
+/// The registers that are 0 but for one.
+fn only(reg: Reg, value: u64) -> Regs {
     let mut regs = Regs::zero();
-    regs.set(Reg::SctlrEl1, 0x1005);
-    regs.set(Reg::TcrEl1, 0x35_b550_3510);
-    regs.set(Reg::MairEl1, 0xff44_0c04);
-    let want = Config {
-        mair: 0xff44_0c04,
-        t0sz: 16,
-        t1sz: 16,
-        sh0: 3,
-        sh1: 3,
-        ips: 5,
-        m: true,
-        i: true,
-        tbi0: true,
-        ..no_fields()
-    };
-    assert_eq!(rt; config(&regs), want);
+    regs.set(reg, value);
+    regs
+}
+
+fn numbers(fields: &Config) -> [u32; 9] {
+    [
+        fields.t0sz,
+        fields.t1sz,
+        fields.sh0,
+        fields.sh1,
+        fields.ips,
+        fields.t2sz,
+        fields.sl0,
+        fields.sl2,
+        fields.ps,
+    ]
+}
+
+/// The fields of `SCTLR_EL1`, `HCR_EL2` and `VTCR_EL2`, and of `TCR_EL1` those of no side.
+fn switches(fields: &Config) -> [bool; 10] {
+    [
+        fields.m,
+        fields.i,
+        fields.wxn,
+        fields.epan,
+        fields.vm,
+        fields.ptw,
+        fields.ha2,
+        fields.hd2,
+        fields.ha1,
+        fields.hd1,
+    ]
+}
+
+/// The fields of `TCR_EL1` that a side has of its own.
+fn of_side(fields: &Config, side: Side) -> [bool; 5] {
+    [
+        fields.epd(side),
+        fields.tbi(side),
+        fields.hpd(side),
+        fields.tbid(side),
+        fields.e0pd(side),
+    ]
 }
 
 #[test]
-fn fields_of_both_stages(rt: HostRuntime) {
-    let mut regs = Regs::zero();
-    regs.set(Reg::SctlrEl1, 0x0200_0000_0008_0000);
-    regs.set(Reg::TcrEl1, 0x186_0000_400c);
-    regs.set(Reg::HcrEl2, 0x5);
-    regs.set(Reg::VtcrEl2, 0x2_006a_8058);
-    let want = Config {
-        mair: 0,
-        t0sz: 12,
-        t1sz: 0,
-        sh0: 0,
-        sh1: 0,
-        ips: 6,
-        t2sz: 24,
-        sl0: 1,
-        sl2: 1,
-        ps: 2,
-        tg0: Tg::K64,
-        tg1: Tg::K4,
-        tg2: Tg::K16,
-        m: false,
-        i: false,
-        wxn: true,
-        epan: true,
-        epd0: false,
-        epd1: false,
-        tbi0: false,
-        tbi1: false,
-        tbid0: false,
-        tbid1: false,
-        e0pd0: false,
-        e0pd1: false,
-        hpd0: false,
-        hpd1: false,
-        ha1: true,
-        hd1: true,
-        vm: true,
-        ptw: true,
-        ha2: true,
-        hd2: true,
-    };
-    assert_eq!(rt; config(&regs), want);
-}
-
-#[test]
-fn fields_of_each_side(rt: HostRuntime) {
-    for (tcr, on, off) in [
-        (0x88_0220_0000_8099, Side::Low, Side::High),
-        (0x110_0440_4099_0000, Side::High, Side::Low),
+fn numbers_of_registers(rt: HostRuntime) {
+    for (reg, value, want) in [
+        (Reg::TcrEl1, 0x3f, [63, 0, 0, 0, 0, 0, 0, 0, 0]),
+        (Reg::TcrEl1, 0x3f_0000, [0, 63, 0, 0, 0, 0, 0, 0, 0]),
+        (Reg::TcrEl1, 0x3000, [0, 0, 3, 0, 0, 0, 0, 0, 0]),
+        (Reg::TcrEl1, 0x3000_0000, [0, 0, 0, 3, 0, 0, 0, 0, 0]),
+        (Reg::TcrEl1, 0x7_0000_0000, [0, 0, 0, 0, 7, 0, 0, 0, 0]),
+        (Reg::TcrEl1, 0xffff_fff8_cfc0_cfc0, [0; 9]),
+        (Reg::VtcrEl2, 0x3f, [0, 0, 0, 0, 0, 63, 0, 0, 0]),
+        (Reg::VtcrEl2, 0xc0, [0, 0, 0, 0, 0, 0, 3, 0, 0]),
+        (Reg::VtcrEl2, 0x2_0000_0000, [0, 0, 0, 0, 0, 0, 0, 1, 0]),
+        (Reg::VtcrEl2, 0x7_0000, [0, 0, 0, 0, 0, 0, 0, 0, 7]),
+        (Reg::VtcrEl2, 0xffff_fffd_fff8_ff00, [0; 9]),
     ] {
-        let mut regs = Regs::zero();
-        regs.set(Reg::TcrEl1, tcr);
-        let fields = config(&regs);
-        assert_eq!(rt; (fields.txsz(on), fields.txsz(off)), (25, 0));
-        assert_eq!(rt; (fields.tg(on), fields.tg(off)), (Tg::K16, Tg::K4));
-        assert_eq!(rt; (fields.epd(on), fields.epd(off)), (true, false));
-        assert_eq!(rt; (fields.tbi(on), fields.tbi(off)), (true, false));
-        assert_eq!(rt; (fields.tbid(on), fields.tbid(off)), (true, false));
-        assert_eq!(rt; (fields.e0pd(on), fields.e0pd(off)), (true, false));
-        assert_eq!(rt; (fields.hpd(on), fields.hpd(off)), (true, false));
+        assert_eq!(rt;
+            numbers(&config(&only(reg, value))),
+            want,
+            "{reg:?} {value:#x}"
+        );
     }
-    assert_eq!(rt; side(0xff7f_ffff_ffff_ffff), Side::Low);
-    assert_eq!(rt; side(0x80_0000_0000_0000), Side::High);
-}
-
-#[test]
-fn granule_codes(rt: HostRuntime) {
     for (code, low, high) in [
         (0, Tg::K4, Tg::K4),
         (1, Tg::K64, Tg::K16),
         (2, Tg::K16, Tg::K4),
         (3, Tg::K4, Tg::K64),
     ] {
-        let mut regs = Regs::zero();
-        regs.set(Reg::TcrEl1, code << 14 | code << 30);
+        let both = config(&only(Reg::TcrEl1, code << 14 | code << 30));
+        let second = config(&only(Reg::VtcrEl2, code << 14));
         assert_eq!(rt;
-            (config(&regs).tg0, config(&regs).tg1),
-            (low, high),
+            (both.tg(Side::Low), both.tg(Side::High), second.tg2),
+            (low, high, low),
             "code {code}"
         );
     }
-    assert_eq!(rt;
-        (Tg::K4.granule(), Tg::K16.granule(), Tg::K64.granule()),
-        (12, 14, 16)
-    );
 }
 
 #[test]
-fn sizes_of_physical_addresses(rt: HostRuntime) {
+fn switches_of_registers(rt: HostRuntime) {
+    for (place, reg, bit) in [
+        (0, Reg::SctlrEl1, 0),
+        (1, Reg::SctlrEl1, 12),
+        (2, Reg::SctlrEl1, 19),
+        (3, Reg::SctlrEl1, 57),
+        (4, Reg::HcrEl2, 0),
+        (5, Reg::HcrEl2, 2),
+        (6, Reg::VtcrEl2, 21),
+        (7, Reg::VtcrEl2, 22),
+        (8, Reg::TcrEl1, 39),
+        (9, Reg::TcrEl1, 40),
+    ] {
+        let fields = config(&only(reg, 1 << bit));
+        for (other, on) in switches(&fields).iter().enumerate() {
+            assert!(rt;
+                *on == (other == place),
+                "{reg:?} bit {bit}, switch {other}"
+            );
+        }
+    }
+    for (place, low, high) in [
+        (0, 0x80, 0x80_0000),
+        (1, 0x20_0000_0000, 0x40_0000_0000),
+        (2, 0x200_0000_0000, 0x400_0000_0000),
+        (3, 0x8_0000_0000_0000, 0x10_0000_0000_0000),
+        (4, 0x80_0000_0000_0000, 0x100_0000_0000_0000),
+    ] {
+        for (w, on, off) in [(low, Side::Low, Side::High), (high, Side::High, Side::Low)] {
+            let fields = config(&only(Reg::TcrEl1, w));
+            for (other, found) in of_side(&fields, on).iter().enumerate() {
+                assert!(rt; *found == (other == place), "{w:#x}, switch {other}");
+            }
+            assert_eq!(rt; of_side(&fields, off), [false; 5], "{w:#x}");
+        }
+    }
+    let fields = config(&only(Reg::TcrEl1, 0x1a_0019));
+    assert_eq!(rt; (fields.txsz(Side::Low), fields.txsz(Side::High)), (25, 26));
+}
+
+#[test]
+fn identifiers_and_sizes(rt: HostRuntime) {
+    let mut regs = Regs::zero();
+    regs.set(Reg::Ttbr0El1, 0x1234_0000_4000_0001);
+    regs.set(Reg::Ttbr1El1, 0x5678_0000_5000_0001);
+    regs.set(Reg::VttbrEl2, 0xabcd_0000_6000_0001);
+    for (tcr, vtcr, want) in [
+        (0, 0, (0x34, 0xcd)),
+        (0x10_0000_0000, 0, (0x1234, 0xcd)),
+        (0x40_0000, 0x8_0000, (0x78, 0xabcd)),
+        (0x10_0040_0000, 0x8_0000, (0x5678, 0xabcd)),
+    ] {
+        regs.set(Reg::TcrEl1, tcr);
+        regs.set(Reg::VtcrEl2, vtcr);
+        assert_eq!(rt; (asid(&regs), vmid(&regs)), want, "TCR_EL1 {tcr:#x}");
+    }
     for (code, four, sixty_four) in [
         (0, 32, 32),
         (1, 36, 36),
@@ -127,69 +153,55 @@ fn sizes_of_physical_addresses(rt: HostRuntime) {
         (6, 48, 52),
         (7, 48, 52),
     ] {
-        assert_eq!(rt; output_size(Tg::K4, code), four, "4 KB, code {code}");
-        assert_eq!(rt; output_size(Tg::K16, code), four, "16 KB, code {code}");
-        assert_eq!(rt;
+        let found = (
+            output_size(Tg::K4, code),
+            output_size(Tg::K16, code),
             output_size(Tg::K64, code),
-            sixty_four,
-            "64 KB, code {code}"
         );
+        assert_eq!(rt; found, (four, four, sixty_four), "code {code}");
     }
-}
-
-#[test]
-fn identifiers_in_force(rt: HostRuntime) {
-    let mut regs = Regs::zero();
-    regs.set(Reg::Ttbr0El1, 0x1234_0000_4000_0001);
-    regs.set(Reg::Ttbr1El1, 0x5678_0000_5000_0001);
-    regs.set(Reg::VttbrEl2, 0xabcd_0000_6000_0001);
-    for (tcr, want) in [
-        (0, 0x34),
-        (0x10_0000_0000, 0x1234),
-        (0x40_0000, 0x78),
-        (0x10_0040_0000, 0x5678),
+    for (va, want) in [
+        (0xff7f_ffff_ffff_ffff, Side::Low),
+        (0x80_0000_0000_0000, Side::High),
     ] {
-        regs.set(Reg::TcrEl1, tcr);
-        assert_eq!(rt; asid(&regs), want, "TCR_EL1 {tcr:#x}");
-    }
-    for (vtcr, want) in [(0, 0xcd), (0x8_0000, 0xabcd)] {
-        regs.set(Reg::VtcrEl2, vtcr);
-        assert_eq!(rt; vmid(&regs), want, "VTCR_EL2 {vtcr:#x}");
+        assert_eq!(rt; side(va), want);
     }
 }
 
 #[test]
 fn bases_of_start_tables(rt: HostRuntime) {
-    for (tcr, ttbr0, want) in [
-        (0x6_0000_400c, 0x1_0004, 0x1_0000_0001_0000),
-        (0x5_0000_400c, 0x1_0004, 0x1_0004),
-        (0x6_0000_0010, 0x1_0004, 0x1_0004),
-        (0x5_0000_0010, 0xffff_ffff_ffff_ffff, 0xffff_ffff_fffe),
-        (0x7_0000_400c, 0xffff_ffff_ffff_ffff, 0xf_ffff_ffff_ffc0),
+    for (size, tg0, tg1, w, want) in [
+        (6, 0x4000, 0xc000_0000, 0x1_0004, 0x1_0000_0001_0000),
+        (5, 0x4000, 0xc000_0000, 0x1_0004, 0x1_0004),
+        (6, 0, 0x8000_0000, 0x1_0004, 0x1_0004),
+        (6, 0x8000, 0x4000_0000, 0x1_0004, 0x1_0004),
+        (5, 0, 0x8000_0000, u64::MAX, 0xffff_ffff_fffe),
+        (7, 0x4000, 0xc000_0000, u64::MAX, 0xf_ffff_ffff_ffc0),
     ] {
-        let mut regs = Regs::zero();
-        regs.set(Reg::TcrEl1, tcr);
-        regs.set(Reg::Ttbr0El1, ttbr0);
+        let regs = Regs {
+            tcr_el1: size << 32 | tg0,
+            ttbr0_el1: w,
+            vtcr_el2: size << 16 | tg0,
+            vttbr_el2: w,
+            ..Regs::zero()
+        };
         assert_eq!(rt;
-            base1(&regs, Side::Low),
-            want,
-            "TCR_EL1 {tcr:#x}, TTBR0_EL1 {ttbr0:#x}"
+            (base1(&regs, Side::Low), base2(&regs)),
+            (want, want),
+            "{w:#x}"
         );
         assert_eq!(rt; base1(&regs, Side::High), 0);
+        let high = Regs {
+            tcr_el1: size << 32 | tg1,
+            ttbr1_el1: w,
+            ..Regs::zero()
+        };
+        assert_eq!(rt; base1(&high, Side::High), want, "{w:#x}");
     }
-    let mut regs = Regs::zero();
-    regs.set(Reg::TcrEl1, 0x6_c000_0000);
-    regs.set(Reg::Ttbr1El1, 0x2_0008);
-    assert_eq!(rt; base1(&regs, Side::High), 0x2_0000_0002_0000);
-    regs.set(Reg::VtcrEl2, 0x6_4000);
-    regs.set(Reg::VttbrEl2, 0x7_0000_0003_000c);
-    assert_eq!(rt; base2(&regs), 0x3_0000_0003_0000);
-    regs.set(Reg::VtcrEl2, 0x5_4000);
-    assert_eq!(rt; base2(&regs), 0x3_000c);
 }
 
 #[test]
-fn refused_fields(rt: HostRuntime) {
+fn refused_fields_and_equality(rt: HostRuntime) {
     for (reg, bit, field) in [
         (Reg::SctlrEl1, 25, Field::Ee),
         (Reg::TcrEl1, 59, Field::Ds),
@@ -200,62 +212,31 @@ fn refused_fields(rt: HostRuntime) {
         (Reg::HcrEl2, 46, Field::Fwb),
         (Reg::VtcrEl2, 32, Field::Ds),
     ] {
-        assert_eq!(rt;
-            check_reg(reg, 1 << bit),
-            Err(Unsupported { reg, field }),
-            "bit {bit}"
-        );
-        assert_eq!(rt;
-            check_reg(reg, u64::MAX << bit),
-            Err(Unsupported { reg, field }),
-            "bit {bit} and all above"
-        );
-        assert_eq!(rt; check_reg(Reg::MairEl1, 1 << bit), Ok(()));
+        let refused = Err(Unsupported { reg, field });
+        let found = (check_reg(reg, 1 << bit), check_reg(reg, u64::MAX << bit));
+        assert_eq!(rt; found, (refused, refused), "bit {bit}");
     }
     for (reg, value) in [
-        (Reg::SctlrEl1, 0x1005),
-        (Reg::TcrEl1, 0x35_b550_3510),
+        (Reg::SctlrEl1, 0xffff_ffff_fdff_ffff),
+        (Reg::TcrEl1, 0xf7ff_ffff_ffff_ffff),
         (Reg::Ttbr0El1, u64::MAX),
         (Reg::Ttbr1El1, u64::MAX),
-        (Reg::HcrEl2, 0x5),
-        (Reg::VtcrEl2, 0x2_006a_8058),
+        (Reg::MairEl1, u64::MAX),
+        (Reg::HcrEl2, 0xffff_bffc_f7ff_efff),
+        (Reg::VtcrEl2, 0xffff_fffe_ffff_ffff),
         (Reg::VttbrEl2, u64::MAX),
     ] {
-        assert_eq!(rt; check_reg(reg, value), Ok(()), "{reg:?} {value:#x}");
+        assert_eq!(rt; check_reg(reg, value), Ok(()), "{reg:?}");
     }
-}
-
-#[test]
-fn equality_of_fields(rt: HostRuntime) {
-    let fields = no_fields();
-    assert!(rt; same_config(&fields, &no_fields()));
-    for other in [
-        Config { sl2: 1, ..fields },
-        Config {
-            tg2: Tg::K64,
-            ..fields
-        },
-        Config {
-            epan: true,
-            ..fields
-        },
-        Config {
-            e0pd0: true,
-            ..fields
-        },
-        Config {
-            hpd1: true,
-            ..fields
-        },
-        Config {
-            hd2: true,
-            ..fields
-        },
-        Config {
-            ptw: true,
-            ..fields
-        },
+    let fields = config(&Regs::zero());
+    for (reg, value, same) in [
+        (Reg::Ttbr0El1, u64::MAX, true),
+        (Reg::MairEl1, 1, false),
+        (Reg::VtcrEl2, 0x40_0000, false),
     ] {
-        assert!(rt; !same_config(&fields, &other), "{other:?}");
+        assert!(rt;
+            same_config(&fields, &config(&only(reg, value))) == same,
+            "{reg:?}"
+        );
     }
 }

@@ -6,7 +6,7 @@ pub use Rattle.sysregs.specs.Registers
 pub use Rattle.sysregs.specs.Sides
 pub use Rattle.fault_codes.specs.Status
 pub use Rattle.descriptors.specs.Meaning
-pub use Rattle.trails.specs.Length
+pub use Rattle.trails.specs.Lengths
 pub mod Numbers
 pub mod Places
 pub mod Items

@@ -1,5 +1,5 @@
 ghost use Rattle.std.specs.Prelude.{◌≡◌, ◌≤◌, ◌<◌, ◌*◌, ◌/◌, ◌%◌, ◌^◌, [], ◌∷◌, ◌++◌, length};
-ghost use Rattle.trails.specs.Length.{most_items};
+ghost use Rattle.trails.specs.Lengths.{most_items};
 ghost use Rattle.table_reads.specs.Numbers.{AreSound};
 ghost use Rattle.table_reads.specs.Places.{aligned_base};
 ghost use Rattle.table_reads.specs.Items.{base_item};

@@ -3,5 +3,5 @@ pub use Rattle.sysregs.specs.Sides
 pub use Rattle.permissions.specs.Rights
 pub use Rattle.attributes.specs.Memory
 pub use Rattle.fault_codes.specs.Status
-pub mod Length
+pub mod Lengths
 pub mod Texts

@@ -8,8 +8,8 @@ pub enum What {
     Word,
 }
 
-/// One thing that a walk used. A base has the address of the start table in both `pa` and `value`, and the start
-/// level; a word has its physical place in bytes and its value.
+/// One thing that a walk used: the base of a table to start from, or a word that was read. `pa` is where it lies, in bytes
+/// of physical memory, and `value` what a word holds; of a base both are the table's address. `level` is that of the table.
 #[derive(Clone, Copy, Debug, Default, PartialEq, Eq)]
 pub struct Item {
     pub pa: u64,
@@ -20,5 +20,8 @@ pub struct Item {
     pub what: What,
 }
 
-// A trail holds up to 42 items, and a log two trails a step: an item takes no more than its fields.
-const _: () = prove!(std::mem::size_of::<Item>() == 24);
+/// What an item takes in bytes: two words of 8, a moment of 4, three fields of 1, and 1 that fills up the third word. A log
+/// keeps many trails, so it is no more.
+const ITEM_BYTES: usize = 24;
+
+const _: () = prove!(std::mem::size_of::<Item>() == ITEM_BYTES);

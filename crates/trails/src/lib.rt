@@ -7,7 +7,7 @@ mod trail;
 
 pub use item::{Item, What};
 pub use outcome::{Access, Outcome, Stop};
-pub use trail::Trail;
+pub use trail::{MOST_ITEMS, Trail};
 
 #[cfg(test)]
 mod tests;

@@ -1,20 +1,27 @@
 ghost use Rattle.std.specs.Prelude.{◌≡◌, ◌<◌, ◌≤◌, [], ◌∷◌, ◌++◌, length, take};
-ghost use Rattle.trails.specs.Length.{most_items};
+ghost use Rattle.trails.specs.Lengths.{most_items};
 
 use crate::item::Item;
 use arrayvec::ArrayVec;
 use std::marker::Model;
 
-/// The items of a walk in order, at most 42.
+/// The most items of a walk through stage 2: its base, and a word for each of the levels -1 to 3.
+const MOST_ITEMS2: usize = 6;
+
+/// The most items of a translation: the base of stage 1, five words of stage 1, each with a walk through stage 2 to its
+/// place, and a walk through stage 2 for the output.
+pub const MOST_ITEMS: usize = 1 + 5 * (1 + MOST_ITEMS2) + MOST_ITEMS2;
+
+/// The items of a translation in order.
 #[derive(Drop)]
 pub struct Trail {
-    kept: ArrayVec<Item, 42>,
+    kept: ArrayVec<Item, MOST_ITEMS>,
 }
 
 impl Model for Trail {
     ghost use Rattle.std.specs.Prelude.{List, length, ◌≤◌};
     ghost use Rattle.trails.specs.declared.item.Item.{Item};
-    ghost use Rattle.trails.specs.Length.{most_items};
+    ghost use Rattle.trails.specs.Lengths.{most_items};
 
     ghost Value = { List Item };
 

@@ -1,19 +1,19 @@
 -- What is due comes, and what comes was due.
-use Rattle.std.proofs.Common.{◌≡◌, ◌≢◌, ◌⊎◌, ℕ, ◌≤◌, List, Option, Some, None, Result, Ok, Err, inl, inr, refl, sym, ap, ◌∙◌, subst, arith}
+use Rattle.std.proofs.Common.{◌≡◌, ◌≢◌, ◌⊎◌, ℕ, ◌≤◌, List, Option, Some, None, Ok, Err, inl, inr, refl, sym, ap, ◌∙◌, subst, arith}
 use Rattle.sysregs.specs.declared.regs.Reg.TheVariants.{TcrEl1}
 use Rattle.sysregs.specs.declared.regs.Field.{Field}
 use Rattle.sysregs.specs.Refused.{refused_field}
 use Rattle.bitwords.specs.Causes.{Rose}
 use Rattle.trails.specs.declared.item.Item.{Item}
 use Rattle.trails.specs.declared.outcome.Outcome.{Outcome}
-use Rattle.walk_spec.specs.Walked.{IsFresh}
-use Rattle.vmsa.specs.Held.{Holding, Untold, Absent, Bytes}
-use Rattle.vmsa.specs.Written.{Appended}
-use Rattle.vmsa.specs.ImageSupply.{told_of}
-use Rattle.vmsa.specs.Raw.{raw_regs, raw_access}
-use Rattle.vmsa.specs.Words.{RawWords}
-use Rattle.vmsa.specs.Answers.{Outside, Sinks, IsAccepted, IsRefused, IsMissing, IsWalk, IsWalkThere, IsDue, Tells, answer_text, Comes, UsageWhere, RefusedWhere, NoFileWhere, ReadFaultWhere, WriteFaultWhere, DoneText, DoneWhere}
-use Rattle.vmsa.specs.declared.call.Answer.{Answer}
+use Rattle.walk_spec.specs.Walked.{IsFresh, WalkedWhole}
+use Rattle.walk_spec.proofs.Walks.{lacks_weaker}
+use Rattle.vmsa.specs.Held.{Holding, Untold, Absent, Bytes, Reading, ReadFails, IsMissingBy}
+use Rattle.vmsa.specs.Written.{Writing, WriteFails, Got, GotNothing}
+use Rattle.vmsa.specs.ImageSupply.{memory_of}
+use Rattle.vmsa.specs.Raw.{raw_regs, raw_access, raw_text, IsRawText, IsRawTextThere}
+use Rattle.vmsa.specs.Command.{Asked, Raw}
+use Rattle.vmsa.specs.Answers.{Due, IsAccepted, IsRefused, Lacks, SurelyLacks, FailsToRead, IsAnswerable, IsText, IsDue, Tells, Comes, UsageWhere, RefusedWhere, NoFileWhere, NoMemoryWhere, ReadFaultWhere, WriteFaultWhere, DoneWhere, IsComplete}
 use Rattle.vmsa.specs.declared.status.Why.{Why}
 use Rattle.vmsa.specs.declared.status.Why.TheVariants.{Word}
 use Rattle.vmsa.specs.declared.status.Status.{Status}
@@ -22,135 +22,180 @@ use Rattle.vmsa.specs.declared.status.Status.TheVariants.{Done, Usage, NoFile, R
 rose_none : (n : ℕ) → n ≤ 0 → Rose 0 n → ⊥
 rose_none n h r = absurd (omega arith)
 
--- a walk over an image that did not fail
-pub walk_there : (h : Holding) (image : List ℕ) (tcr ttbr0 va n : ℕ) (items : List Item) (o : Outcome) → n ≤ 0 → IsFresh (raw_regs tcr ttbr0) (raw_access va) 0 (told_of h) (Rose 0 n) items o → IsWalkThere h record { image = image; tcr = tcr; ttbr0 = ttbr0; va = va } record { va = va; outcome = o; trail = items }
-walk_there Untold image tcr ttbr0 va n items o h f = refl
-walk_there Absent image tcr ttbr0 va n items o h f = tt
-walk_there (Bytes bytes) image tcr ttbr0 va n items o h f = let e = f _ refl (rose_none n h) in (refl, e.0, e.1)
-
--- a status that is neither Done nor WriteFault was due
-told_as : (s : Sinks) (due : Result Answer Status) (status x : Status) → Tells s due status → status ≡ x → x ≢ Done → x ≢ WriteFault → due ≡ Err x
-told_as s (Ok answer) status x (inl w) e n m = absurd (n (sym e ∙ w.0))
-told_as s (Err st) status x (inl w) e n m = ap (λ z. Err z) (sym w.0 ∙ e)
-told_as s due status x (inr f) e n m = absurd (m (sym e ∙ f.0))
-
-comes : (s : Sinks) (st status : Status) → Tells s (Err st) status → Comes s st status
-comes s st status (inl w) = inl w.0
-comes s st status (inr f) = inr (f.0, f.1.0)
-
-comes_as : (s : Sinks) (st st' status : Status) → st ≡ st' → Tells s (Err st) status → Comes s st' status
-comes_as s st st' status e t = subst (λ z. Comes s z status) e (comes s st status t)
+-- the text of a walk over an image that did not fail
+pub text_there : (h : Holding) (image : List ℕ) (tcr ttbr0 va n : ℕ) (items : List Item) (o : Outcome) → n ≤ 0 → WalkedWhole (raw_regs tcr ttbr0) (raw_access va) 0 (memory_of h) (Rose 0 n) items o → IsFresh (raw_regs tcr ttbr0) (raw_access va) 0 (memory_of h) (Rose 0 n) items o → IsRawTextThere h record { image = image; tcr = tcr; ttbr0 = ttbr0; va = va } (raw_text va items o)
+text_there Untold image tcr ttbr0 va n items o h w f =
+    (items, o, record { end = w.end; took = w.took; cause = lacks_weaker None (Rose 0 n) ⊥ (rose_none n h) w.end w.cause; answer = w.answer }, refl)
+text_there Absent image tcr ttbr0 va n items o h w f = tt
+text_there (Bytes bytes) image tcr ttbr0 va n items o h w f = let e = f _ refl (rose_none n h) in rw (e.0, e.1) refl
 
 -- no register value is both accepted and refused
 both_ways : (o : Option Field) (f : Field) → o ≡ None → o ≡ Some f → ⊥
 both_ways None f h k = cc
 both_ways (Some x) f h k = cc
 
-no_both : (a : RawWords) (why : Why) → IsAccepted a → IsRefused a why → ⊥
-no_both a (Word at) h k = both_ways (refused_field TcrEl1 a.tcr) at.field h k.1
+no_both : (a : Asked) (why : Why) → IsAccepted a → IsRefused a why → ⊥
+no_both (Raw a) (Word at) h k = both_ways (refused_field TcrEl1 a.tcr) at.field h k.1
 
 one_field : (o : Option Field) (f g : Field) → o ≡ Some f → o ≡ Some g → f ≡ g
 one_field None f g h k = absurd cc
 one_field (Some x) f g h k = cc
 
-one_why : (a : RawWords) (v w : Why) → IsRefused a v → IsRefused a w → v ≡ w
-one_why a (Word x) (Word y) h k =
+one_why : (a : Asked) (v w : Why) → IsRefused a v → IsRefused a w → v ≡ w
+one_why (Raw a) (Word x) (Word y) h k =
     let reg : x.reg ≡ y.reg = h.0 ∙ sym k.0 in
     let field : x.field ≡ y.field = one_field (refused_field TcrEl1 a.tcr) x.field y.field h.1 k.1 in
     ap Word (λ i. record { reg = reg i; field = field i })
 
-module _ (o : Outside) (s : Sinks) where
-  usage_only : (asked : Option RawWords) (due : Result Answer Status) → IsDue o asked due → due ≡ Err Usage → asked ≡ None
-  usage_only None due d e = refl
-  usage_only (Some a) due d e = let x : IsDue o (Some a) (Err Usage) = subst (IsDue o (Some a)) e d in absurd x
+module _ (r : Reading) where
+  -- no refusal of its words goes with what comes of an accepted command
+  lacks_refused : (a : Asked) (name : List ℕ) (why : Why) → Lacks r a name → IsRefused a why → ⊥
+  lacks_refused (Raw a) name why h k = no_both (Raw a) why h.0 k
 
-  usage_due : (due : Result Answer Status) (status : Status) → IsDue o None due → Tells s due status → Comes s Usage status
-  usage_due (Ok answer) status d t = absurd d
-  usage_due (Err Usage) status d t = comes s Usage status t
-  usage_due (Err Done) status d t = absurd d
-  usage_due (Err (NoFile name)) status d t = absurd d
-  usage_due (Err (Refused why)) status d t = absurd d
-  usage_due (Err ReadFault) status d t = absurd d
-  usage_due (Err WriteFault) status d t = absurd d
-  usage_due (Err NoMemory) status d t = absurd d
+  fails_refused : (a : Asked) (why : Why) → FailsToRead r a → IsRefused a why → ⊥
+  fails_refused (Raw a) why h k = no_both (Raw a) why h.0 k
 
-  pub usage_where : (asked : Option RawWords) (due : Result Answer Status) (status : Status) → IsDue o asked due → Tells s due status → UsageWhere s asked status
-  usage_where asked due status d t = record {
-    only = λ e. usage_only asked due d (told_as s due status Usage t e (λ h. cc) (λ h. cc));
-    due = λ e. usage_due due status (subst (λ z. IsDue o z due) e d) t;
-  }
+  text_refused : (a : Asked) (text : List ℕ) (why : Why) → IsText r a text → IsRefused a why → ⊥
+  text_refused (Raw a) text why h k = no_both (Raw a) why h.0 k
 
-  refused_only : (asked : Option RawWords) (why : Why) → IsDue o asked (Err (Refused why)) → (a : RawWords) × (asked ≡ Some a) × IsRefused a why
-  refused_only None why d = absurd d
-  refused_only (Some a) why d = (a, refl, d)
+  -- a file that surely isn't there
+  surely_refused : (a : Asked) (name : List ℕ) (why : Why) → SurelyLacks r a name → IsRefused a why → ⊥
+  surely_refused (Raw a) name why h k = no_both (Raw a) why h.0 k
 
-  refused_due : (a : RawWords) (why : Why) (due : Result Answer Status) (status : Status) → IsRefused a why → IsDue o (Some a) due → Tells s due status → Comes s (Refused why) status
-  refused_due a why (Ok answer) status r d t = absurd (no_both a why d.0 r)
-  refused_due a why (Err Usage) status r d t = absurd d
-  refused_due a why (Err Done) status r d t = absurd d
-  refused_due a why (Err (NoFile name)) status r d t = absurd (no_both a why d.0 r)
-  refused_due a why (Err (Refused v)) status r d t = comes_as s (Refused v) (Refused why) status (ap Refused (one_why a v why d r)) t
-  refused_due a why (Err ReadFault) status r d t = absurd (no_both a why d.0 r)
-  refused_due a why (Err WriteFault) status r d t = absurd d
-  refused_due a why (Err NoMemory) status r d t = absurd (no_both a why d.0 r)
+  surely_text : (a : Asked) (name text : List ℕ) → SurelyLacks r a name → IsText r a text → ⊥
+  surely_text (Raw a) name text h k = let t : IsRawText Absent a text = subst (λ z. IsRawText z a text) h.2 k.1 in t
 
-  pub refused_where : (asked : Option RawWords) (due : Result Answer Status) (status : Status) → IsDue o asked due → Tells s due status → RefusedWhere s asked status
-  refused_where asked due status d t = record {
-    only = λ why e. refused_only asked why (subst (IsDue o asked) (told_as s due status (Refused why) t e (λ h. cc) (λ h. cc)) d);
-    due = λ a e why r. refused_due a why due status r (subst (λ z. IsDue o z due) e d) t;
-  }
+  surely_named : (a : Asked) (m n : List ℕ) → SurelyLacks r a m → Lacks r a n → n ≡ m
+  surely_named (Raw a) m n h k = k.1 ∙ sym h.1
 
-  no_file_only : (asked : Option RawWords) (name : List ℕ) → IsDue o asked (Err (NoFile name)) → (a : RawWords) × (asked ≡ Some a) × IsAccepted a × (name ≡ a.image) × IsMissing o (o.holds a.image)
-  no_file_only None name d = absurd d
-  no_file_only (Some a) name d = (a, refl, d.0, d.1, d.2)
+  fails_rose : (a : Asked) → FailsToRead r a → ReadFails r
+  fails_rose (Raw a) h = h.1
 
-  no_file_due : (a : RawWords) (due : Result Answer Status) (status : Status) → IsAccepted a → o.holds a.image ≡ Absent → (Rose o.faults o.faults_now → ⊥) → IsDue o (Some a) due → Tells s due status → Comes s (NoFile a.image) status ⊎ Comes s NoMemory status
-  no_file_due a (Ok answer) status k h f d t = let w : IsWalk Absent a answer = subst (λ z. IsWalk z a answer) h d.1 in absurd w
-  no_file_due a (Err Usage) status k h f d t = absurd d
-  no_file_due a (Err Done) status k h f d t = absurd d
-  no_file_due a (Err (NoFile name)) status k h f d t = inl (comes_as s (NoFile name) (NoFile a.image) status (ap NoFile d.1) t)
-  no_file_due a (Err (Refused why)) status k h f d t = absurd (no_both a why k d)
-  no_file_due a (Err ReadFault) status k h f d t = absurd (f d.1)
-  no_file_due a (Err WriteFault) status k h f d t = absurd d
-  no_file_due a (Err NoMemory) status k h f d t = inr (comes s NoMemory status t)
+  -- a command whose files tell their bytes
+  answerable_lacks : (a : Asked) (name : List ℕ) → IsAnswerable r a → Lacks r a name → ⊥
+  answerable_lacks (Raw a) name h k = let m : IsMissingBy (Bytes h.0) r.missing r.missing_after = subst (λ z. IsMissingBy z r.missing r.missing_after) h.2 k.2 in m
 
-  pub no_file_where : (asked : Option RawWords) (due : Result Answer Status) (status : Status) → IsDue o asked due → Tells s due status → NoFileWhere o s asked status
-  no_file_where asked due status d t = record {
-    only = λ name e. no_file_only asked name (subst (IsDue o asked) (told_as s due status (NoFile name) t e (λ h. cc) (λ h. cc)) d);
-    due = λ a e k h f. no_file_due a due status k h f (subst (λ z. IsDue o z due) e d) t;
-  }
-
-  read_fault_only : (asked : Option RawWords) → IsDue o asked (Err ReadFault) → (a : RawWords) × (asked ≡ Some a) × IsAccepted a × Rose o.faults o.faults_now
-  read_fault_only None d = absurd d
-  read_fault_only (Some a) d = (a, refl, d.0, d.1)
-
-  pub read_fault_where : (asked : Option RawWords) (due : Result Answer Status) (status : Status) → IsDue o asked due → Tells s due status → ReadFaultWhere o asked status
-  read_fault_where asked due status d t e = read_fault_only asked (subst (IsDue o asked) (told_as s due status ReadFault t e (λ h. cc) (λ h. cc)) d)
+  answerable_refused : (a : Asked) (why : Why) → IsAnswerable r a → IsRefused a why → ⊥
+  answerable_refused (Raw a) why h k = no_both (Raw a) why h.1 k
 
   -- neither Done nor WriteFault is ever a refusal
-  never_done : (asked : Option RawWords) → IsDue o asked (Err Done) → ⊥
-  never_done None d = d
+  never_done : (asked : Option Asked) → IsDue r asked (Err Done) → ⊥
+  never_done None d = cc
   never_done (Some a) d = d
 
-  never_write : (asked : Option RawWords) → IsDue o asked (Err WriteFault) → ⊥
-  never_write None d = d
+  never_write : (asked : Option Asked) → IsDue r asked (Err WriteFault) → ⊥
+  never_write None d = cc
   never_write (Some a) d = d
 
-  pub write_fault_where : (asked : Option RawWords) (due : Result Answer Status) (status : Status) → IsDue o asked due → Tells s due status → WriteFaultWhere o s asked status
-  write_fault_where asked (Ok answer) status d (inl w) e = let h : WriteFault ≡ Done = sym e ∙ w.0 in absurd cc
-  write_fault_where asked (Err st) status d (inl w) e = absurd (never_write asked (subst (λ z. IsDue o asked (Err z)) (sym w.0 ∙ e) d))
-  write_fault_where asked due status d (inr f) e = (due, d, f.1)
+  module _ (out err : Writing) where
+    -- a status that is neither Done nor WriteFault was due
+    was_due : (due : Due) (status x : Status) → Tells out err due status → status ≡ x → x ≢ Done → x ≢ WriteFault → due ≡ Err x
+    was_due (Ok text) status x (inl w) e n m = absurd (n (sym e ∙ w.0))
+    was_due (Err st) status x (inl w) e n m = ap (λ z. Err z) (sym w.0 ∙ e)
+    was_due due status x (inr f) e n m = absurd (m (sym e ∙ f.0))
 
-  done_text : (h : Holding) (a : RawWords) (answer : Answer) → IsWalk h a answer → Appended s.out s.out_now (answer_text answer) → DoneText h s a
-  done_text Untold a answer w t = tt
-  done_text Absent a answer w t = absurd w
-  done_text (Bytes bytes) a answer w t = rw (w.0, w.1, w.2) at t
+    due_as : (asked : Option Asked) (due : Due) (status x : Status) → IsDue r asked due → Tells out err due status → status ≡ x → x ≢ Done → x ≢ WriteFault → IsDue r asked (Err x)
+    due_as asked due status x d t e n m = subst (IsDue r asked) (was_due due status x t e n m) d
 
-  done_by : (asked : Option RawWords) (answer : Answer) → IsDue o asked (Ok answer) → Appended s.out s.out_now (answer_text answer) → s.err_now ≡ s.err → (a : RawWords) × (asked ≡ Some a) × IsAccepted a × DoneText (o.holds a.image) s a × (s.err_now ≡ s.err)
-  done_by None answer d t e = absurd d
-  done_by (Some a) answer d t e = (a, refl, d.0, done_text (o.holds a.image) a answer d.1 t, e)
+    comes : (st status : Status) → Tells out err (Err st) status → Comes err st status
+    comes st status (inl w) = inl w.0
+    comes st status (inr f) = inr (f.0, f.1.0)
 
-  pub done_where : (asked : Option RawWords) (due : Result Answer Status) (status : Status) → IsDue o asked due → Tells s due status → DoneWhere o s asked status
-  done_where asked (Ok answer) status d (inl w) e = done_by asked answer d w.1 w.2
-  done_where asked (Err st) status d (inl w) e = absurd (never_done asked (subst (λ z. IsDue o asked (Err z)) (sym w.0 ∙ e) d))
-  done_where asked due status d (inr f) e = let h : Done ≡ WriteFault = sym e ∙ f.0 in absurd cc
+    comes_as : (st want status : Status) → st ≡ want → Tells out err (Err st) status → Comes err want status
+    comes_as st want status e t = subst (λ z. Comes err z status) e (comes st status t)
+
+    usage_only : (asked : Option Asked) → IsDue r asked (Err Usage) → asked ≡ None
+    usage_only None d = refl
+    usage_only (Some a) d = absurd d
+
+    usage_due : (due : Due) (status : Status) → IsDue r None due → Tells out err due status → Comes err Usage status
+    usage_due (Ok text) status d t = absurd d
+    usage_due (Err st) status d t = comes_as st Usage status d t
+
+    pub usage_where : (asked : Option Asked) (due : Due) (status : Status) → IsDue r asked due → Tells out err due status → UsageWhere err asked status
+    usage_where asked due status d t = record {
+      only = λ e. usage_only asked (due_as asked due status Usage d t e (λ h. cc) (λ h. cc));
+      due = λ e. usage_due due status (subst (λ z. IsDue r z due) e d) t;
+    }
+
+    refused_only : (asked : Option Asked) (why : Why) → IsDue r asked (Err (Refused why)) → (a : Asked) × (asked ≡ Some a) × IsRefused a why
+    refused_only None why d = absurd cc
+    refused_only (Some a) why d = (a, refl, d)
+
+    refused_due : (a : Asked) (why : Why) (due : Due) (status : Status) → IsRefused a why → IsDue r (Some a) due → Tells out err due status → Comes err (Refused why) status
+    refused_due a why (Ok text) status k d t = absurd (text_refused a text why d k)
+    refused_due a why (Err Usage) status k d t = absurd d
+    refused_due a why (Err Done) status k d t = absurd d
+    refused_due a why (Err (NoFile name)) status k d t = absurd (lacks_refused a name why d k)
+    refused_due a why (Err (Refused v)) status k d t = comes_as (Refused v) (Refused why) status (ap Refused (one_why a v why d k)) t
+    refused_due a why (Err ReadFault) status k d t = absurd (fails_refused a why d k)
+    refused_due a why (Err WriteFault) status k d t = absurd d
+    refused_due a why (Err NoMemory) status k d t = absurd (lacks_refused a d.0 why d.1 k)
+
+    pub refused_where : (asked : Option Asked) (due : Due) (status : Status) → IsDue r asked due → Tells out err due status → RefusedWhere err asked status
+    refused_where asked due status d t = record {
+      only = λ why e. refused_only asked why (due_as asked due status (Refused why) d t e (λ h. cc) (λ h. cc));
+      due = λ a e why k. refused_due a why due status k (subst (λ z. IsDue r z due) e d) t;
+    }
+
+    no_file_only : (asked : Option Asked) (name : List ℕ) → IsDue r asked (Err (NoFile name)) → (a : Asked) × (asked ≡ Some a) × Lacks r a name
+    no_file_only None name d = absurd cc
+    no_file_only (Some a) name d = (a, refl, d)
+
+    no_file_due : (a : Asked) (name : List ℕ) (due : Due) (status : Status) → SurelyLacks r a name → (ReadFails r → ⊥) → IsDue r (Some a) due → Tells out err due status → Comes err (NoFile name) status ⊎ Comes err NoMemory status
+    no_file_due a name (Ok text) status k f d t = absurd (surely_text a name text k d)
+    no_file_due a name (Err Usage) status k f d t = absurd d
+    no_file_due a name (Err Done) status k f d t = absurd d
+    no_file_due a name (Err (NoFile n)) status k f d t = inl (comes_as (NoFile n) (NoFile name) status (ap NoFile (surely_named a name n k d)) t)
+    no_file_due a name (Err (Refused why)) status k f d t = absurd (surely_refused a name why k d)
+    no_file_due a name (Err ReadFault) status k f d t = absurd (f (fails_rose a d))
+    no_file_due a name (Err WriteFault) status k f d t = absurd d
+    no_file_due a name (Err NoMemory) status k f d t = inr (comes NoMemory status t)
+
+    pub no_file_where : (asked : Option Asked) (due : Due) (status : Status) → IsDue r asked due → Tells out err due status → NoFileWhere r err asked status
+    no_file_where asked due status d t = record {
+      only = λ name e. no_file_only asked name (due_as asked due status (NoFile name) d t e (λ h. cc) (λ h. cc));
+      due = λ a e name k f. no_file_due a name due status k f (subst (λ z. IsDue r z due) e d) t;
+    }
+
+    no_memory_only : (asked : Option Asked) → IsDue r asked (Err NoMemory) → (a : Asked) × (name : List ℕ) × (asked ≡ Some a) × Lacks r a name
+    no_memory_only None d = absurd cc
+    no_memory_only (Some a) d = (a, d.0, refl, d.1)
+
+    pub no_memory_where : (asked : Option Asked) (due : Due) (status : Status) → IsDue r asked due → Tells out err due status → NoMemoryWhere r asked status
+    no_memory_where asked due status d t e = no_memory_only asked (due_as asked due status NoMemory d t e (λ h. cc) (λ h. cc))
+
+    read_fault_only : (asked : Option Asked) → IsDue r asked (Err ReadFault) → (a : Asked) × (asked ≡ Some a) × FailsToRead r a
+    read_fault_only None d = absurd cc
+    read_fault_only (Some a) d = (a, refl, d)
+
+    pub read_fault_where : (asked : Option Asked) (due : Due) (status : Status) → IsDue r asked due → Tells out err due status → ReadFaultWhere r asked status
+    read_fault_where asked due status d t e = read_fault_only asked (due_as asked due status ReadFault d t e (λ h. cc) (λ h. cc))
+
+    pub write_fault_where : (asked : Option Asked) (due : Due) (status : Status) → IsDue r asked due → Tells out err due status → WriteFaultWhere r out err asked status
+    write_fault_where asked (Ok text) status d (inl w) e = let h : WriteFault ≡ Done = sym e ∙ w.0 in absurd cc
+    write_fault_where asked (Err st) status d (inl w) e = absurd (never_write asked (subst (λ z. IsDue r asked (Err z)) (sym w.0 ∙ e) d))
+    write_fault_where asked due status d (inr f) e = (due, d, f.1)
+
+    done_by : (asked : Option Asked) (text : List ℕ) → IsDue r asked (Ok text) → Got out text → GotNothing err → (a : Asked) × (text : List ℕ) × (asked ≡ Some a) × IsText r a text × Got out text × GotNothing err
+    done_by None text d t e = absurd d
+    done_by (Some a) text d t e = (a, text, refl, d, t, e)
+
+    pub done_where : (asked : Option Asked) (due : Due) (status : Status) → IsDue r asked due → Tells out err due status → DoneWhere r out err asked status
+    done_where asked (Ok text) status d (inl w) e = done_by asked text d w.1 w.2
+    done_where asked (Err st) status d (inl w) e = absurd (never_done asked (subst (λ z. IsDue r asked (Err z)) (sym w.0 ∙ e) d))
+    done_where asked due status d (inr f) e = let h : Done ≡ WriteFault = sym e ∙ f.0 in absurd cc
+
+    complete_due : (a : Asked) (due : Due) (status : Status) → IsAnswerable r a → (ReadFails r → ⊥) → (WriteFails out → ⊥) → IsDue r (Some a) due → Tells out err due status → status ≡ Done
+    complete_due a (Ok text) status k f g d (inl w) = w.0
+    complete_due a (Ok text) status k f g d (inr w) = absurd (g w.1.0)
+    complete_due a (Err Usage) status k f g d t = absurd d
+    complete_due a (Err Done) status k f g d t = absurd d
+    complete_due a (Err (NoFile name)) status k f g d t = absurd (answerable_lacks a name k d)
+    complete_due a (Err (Refused why)) status k f g d t = absurd (answerable_refused a why k d)
+    complete_due a (Err ReadFault) status k f g d t = absurd (f (fails_rose a d))
+    complete_due a (Err WriteFault) status k f g d t = absurd d
+    complete_due a (Err NoMemory) status k f g d t = absurd (answerable_lacks a d.0 k d.1)
+
+    pub complete_where : (asked : Option Asked) (due : Due) (status : Status) → IsDue r asked due → Tells out err due status → IsComplete r out asked status
+    complete_where asked due status d t a e k f g = complete_due a due status k f g (subst (λ z. IsDue r z due) e d) t

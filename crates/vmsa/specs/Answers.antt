@@ -1,14 +1,11 @@
 -- What a call of the program comes to, and when. All of it is this project's own rule.
-use Rattle.std.specs.Prelude.{ℕ, ◌≡◌, ◌⊎◌, List, take, Option, Some, None, Result, Ok, Err}
+use Rattle.std.specs.Prelude.{ℕ, ◌≡◌, ◌⊎◌, List, Option, Some, None, Result, Ok, Err}
 use Rattle.sysregs.specs.declared.regs.Reg.TheVariants.{TcrEl1}
 use Rattle.sysregs.specs.Refused.{refused_field}
-use Rattle.bitwords.specs.Causes.{Rose}
-use Rattle.walk_spec.specs.Fresh.{fresh_items, fresh_outcome}
-use Rattle.vmsa.specs.Held.{Holding, Untold, Absent, Bytes}
-use Rattle.vmsa.specs.Written.{Appended}
-use Rattle.vmsa.specs.Words.{RawWords}
-use Rattle.vmsa.specs.Image.{image_word}
-use Rattle.vmsa.specs.Raw.{raw_regs, raw_access, raw_text, fresh_raw_text}
+use Rattle.vmsa.specs.Held.{Reading, ReadFails, IsMissing, Absent, Bytes}
+use Rattle.vmsa.specs.Written.{Writing, WriteFails, Got, GotPrefix, GotNothing}
+use Rattle.vmsa.specs.Command.{Asked, Raw}
+use Rattle.vmsa.specs.Raw.{IsRawText, raw_text}
 use Rattle.vmsa.specs.ErrText.{err_text}
 use Rattle.vmsa.specs.declared.call.Answer.{Answer}
 use Rattle.vmsa.specs.declared.status.Why.{Why}
@@ -16,148 +13,142 @@ use Rattle.vmsa.specs.declared.status.Why.TheVariants.{Word}
 use Rattle.vmsa.specs.declared.status.Status.{Status}
 use Rattle.vmsa.specs.declared.status.Status.TheVariants.{Done, Usage, NoFile, Refused, ReadFault, WriteFault, NoMemory}
 
--- what the files hold, and their counts before and after a call
-pub record Outside : Type 0 where
-  pub holds : List ℕ → Holding
-  pub faults : ℕ
-  pub faults_now : ℕ
-  pub missing : ℕ
-  pub missing_now : ℕ
+-- Command by command: a case for each.
 
--- what standard output and standard error were given before and after a call, and their counts of faults
-pub record Sinks : Type 0 where
-  pub out : Option (List ℕ)
-  pub out_now : Option (List ℕ)
-  pub err : Option (List ℕ)
-  pub err_now : Option (List ℕ)
-  pub faults : ℕ
-  pub faults_now : ℕ
-  pub err_faults : ℕ
-  pub err_faults_now : ℕ
+-- the words are accepted: TCR_EL1 sets no refused field
+abbrev pub IsAccepted : Asked → Type 0
+IsAccepted (Raw a) = refused_field TcrEl1 a.tcr ≡ None
 
--- TCR_EL1 sets no refused field
-abbrev pub IsAccepted : RawWords → Type 0
-IsAccepted a = refused_field TcrEl1 a.tcr ≡ None
+-- the words are refused: TCR_EL1 sets a refused field, and this is the lowest
+abbrev pub IsRefused : Asked → Why → Type 0
+IsRefused (Raw a) (Word at) = (at.reg ≡ TcrEl1) × (refused_field TcrEl1 a.tcr ≡ Some at.field)
 
--- TCR_EL1 sets a refused field, and this is the lowest
-abbrev pub IsRefused : RawWords → Why → Type 0
-IsRefused a (Word at) = (at.reg ≡ TcrEl1) × (refused_field TcrEl1 a.tcr ≡ Some at.field)
+-- nothing before this file stops the command, and the file is missing
+abbrev pub Lacks : Reading → Asked → (name : List ℕ) → Type 0
+Lacks r (Raw a) name = IsAccepted (Raw a) × (name ≡ a.image) × IsMissing r a.image
 
--- there is no file, or, where that is not told, one was found missing
-abbrev pub IsMissing : Outside → Holding → Type 0
-IsMissing o Untold = Rose o.missing o.missing_now
-IsMissing o Absent = Unit {0}
-IsMissing o (Bytes bytes) = ⊥
+-- nothing before this file stops the command, and the files tell that it isn't there
+abbrev pub SurelyLacks : Reading → Asked → (name : List ℕ) → Type 0
+SurelyLacks r (Raw a) name = IsAccepted (Raw a) × (name ≡ a.image) × (r.holds a.image ≡ Absent)
 
--- the answer is the fresh walk over the file's bytes, where they are told
-abbrev pub IsWalk : Holding → RawWords → Answer → Type 0
-IsWalk Untold a answer = answer.va ≡ a.va
-IsWalk Absent a answer = ⊥
-IsWalk (Bytes bytes) a answer = (answer.va ≡ a.va) × (answer.trail ≡ fresh_items (image_word bytes) (raw_regs a.tcr a.ttbr0) (raw_access a.va) 0) × (answer.outcome ≡ fresh_outcome (image_word bytes) (raw_regs a.tcr a.ttbr0) (raw_access a.va) 0)
+-- a read of a file failed, and nothing before it stops the command
+abbrev pub FailsToRead : Reading → Asked → Type 0
+FailsToRead r (Raw a) = IsAccepted (Raw a) × ReadFails r
 
--- the same for a reader that was not told whether the file is there
-abbrev pub IsWalkThere : Holding → RawWords → Answer → Type 0
-IsWalkThere Untold a answer = answer.va ≡ a.va
-IsWalkThere Absent a answer = Unit {0}
-IsWalkThere (Bytes bytes) a answer = IsWalk (Bytes bytes) a answer
+-- the command is accepted, and its files tell their bytes
+abbrev pub IsAnswerable : Reading → Asked → Type 0
+IsAnswerable r (Raw a) = (bytes : List ℕ) × IsAccepted (Raw a) × (r.holds a.image ≡ Bytes bytes)
 
--- when a status comes that is neither Done nor WriteFault: for words that are no command
-abbrev pub IsRefusalOfNone : Status → Type 0
-IsRefusalOfNone Done = ⊥
-IsRefusalOfNone Usage = Unit {0}
-IsRefusalOfNone (NoFile name) = ⊥
-IsRefusalOfNone (Refused why) = ⊥
-IsRefusalOfNone ReadFault = ⊥
-IsRefusalOfNone WriteFault = ⊥
-IsRefusalOfNone NoMemory = ⊥
+-- the command is accepted, and this is its text
+abbrev pub IsText : Reading → Asked → (text : List ℕ) → Type 0
+IsText r (Raw a) text = IsAccepted (Raw a) × IsRawText (r.holds a.image) a text
 
--- and for a command
-abbrev pub IsRefusalOf : Outside → RawWords → Status → Type 0
-IsRefusalOf o a Done = ⊥
-IsRefusalOf o a Usage = ⊥
-IsRefusalOf o a (NoFile name) = IsAccepted a × (name ≡ a.image) × IsMissing o (o.holds a.image)
-IsRefusalOf o a (Refused why) = IsRefused a why
-IsRefusalOf o a ReadFault = IsAccepted a × Rose o.faults o.faults_now
-IsRefusalOf o a WriteFault = ⊥
-IsRefusalOf o a NoMemory = IsAccepted a × IsMissing o (o.holds a.image)
+-- What is due, before anything is written: a text, or a refusal.
 
--- what is to be told: an answer, or a refusal
-abbrev pub IsDue : Outside → Option RawWords → Result Answer Status → Type 0
-IsDue o None (Ok answer) = ⊥
-IsDue o None (Err status) = IsRefusalOfNone status
-IsDue o (Some a) (Ok answer) = IsAccepted a × IsWalk (o.holds a.image) a answer
-IsDue o (Some a) (Err status) = IsRefusalOf o a status
+abbrev pub Due : Type 0
+Due = Result (List ℕ) Status
+
+-- a status that a command may be refused with
+abbrev pub MayRefuse : Reading → Asked → Status → Type 0
+MayRefuse r a Done = ⊥
+MayRefuse r a Usage = ⊥
+MayRefuse r a (NoFile name) = Lacks r a name
+MayRefuse r a (Refused why) = IsRefused a why
+MayRefuse r a ReadFault = FailsToRead r a
+MayRefuse r a WriteFault = ⊥
+MayRefuse r a NoMemory = (name : List ℕ) × Lacks r a name
+
+-- what may be due
+abbrev pub IsDue : Reading → Option Asked → Due → Type 0
+IsDue r None (Ok text) = ⊥
+IsDue r None (Err status) = status ≡ Usage
+IsDue r (Some a) (Ok text) = IsText r a text
+IsDue r (Some a) (Err status) = MayRefuse r a status
 
 -- the text of an answer
 abbrev pub answer_text : Answer → List ℕ
 answer_text answer = raw_text answer.va answer.trail answer.outcome
 
--- a part of a text stands behind what was there
-abbrev pub HasPart : Option (List ℕ) → Option (List ℕ) → List ℕ → Type 0
-HasPart old new text = (k : ℕ) × Appended old new (take k text)
+-- what is due, where the code has an answer or a refusal
+abbrev pub due_of : Result Answer Status → Due
+due_of (Ok answer) = Ok (answer_text answer)
+due_of (Err status) = Err status
 
--- A write failed: standard output holds a part of the answer, or standard error a part of the line; nothing was
--- written to the other.
-abbrev pub WriteFails : Sinks → Result Answer Status → Type 0
-WriteFails s (Ok answer) = Rose s.faults s.faults_now × HasPart s.out s.out_now (answer_text answer) × (s.err_now ≡ s.err)
-WriteFails s (Err status) = Rose s.err_faults s.err_faults_now × HasPart s.err s.err_now (err_text status) × (s.out_now ≡ s.out)
+-- What is told.
 
--- the whole was told
-abbrev pub IsWhole : Sinks → Result Answer Status → Status → Type 0
-IsWhole s (Ok answer) status = (status ≡ Done) × Appended s.out s.out_now (answer_text answer) × (s.err_now ≡ s.err)
-IsWhole s (Err due) status = (status ≡ due) × Appended s.err s.err_now (err_text due) × (s.out_now ≡ s.out)
+-- the whole of what is due
+abbrev pub TellsWhole : (out err : Writing) → Due → Status → Type 0
+TellsWhole out err (Ok text) status = (status ≡ Done) × Got out text × GotNothing err
+TellsWhole out err (Err due) status = (status ≡ due) × Got err (err_text due) × GotNothing out
 
--- what is due was told, or a write failed
-abbrev pub Tells : Sinks → Result Answer Status → Status → Type 0
-Tells s due status = IsWhole s due status ⊎ ((status ≡ WriteFault) × WriteFails s due)
+-- A write failed: standard output got a prefix of the text, or standard error a prefix of the line, and the other nothing.
+abbrev pub TellsPrefix : (out err : Writing) → Due → Type 0
+TellsPrefix out err (Ok text) = WriteFails out × GotPrefix out text × GotNothing err
+TellsPrefix out err (Err due) = WriteFails err × GotPrefix err (err_text due) × GotNothing out
 
--- The clauses of the top call, one fact each.
+-- either
+abbrev pub Tells : (out err : Writing) → Due → Status → Type 0
+Tells out err due status = TellsWhole out err due status ⊎ ((status ≡ WriteFault) × TellsPrefix out err due)
 
--- a status that is due comes, or its line could not be written
-abbrev pub Comes : Sinks → Status → Status → Type 0
-Comes s due status = (status ≡ due) ⊎ ((status ≡ WriteFault) × Rose s.err_faults s.err_faults_now)
+-- The clauses of the top call, one fact each: `asked` is what the words ask for, if anything.
+
+-- this status comes, or its line could not be written
+abbrev pub Comes : (err : Writing) (due status : Status) → Type 0
+Comes err due status = (status ≡ due) ⊎ ((status ≡ WriteFault) × WriteFails err)
 
 -- Usage comes only for words that are no command, and then it comes
-pub record UsageWhere (s : Sinks) (asked : Option RawWords) (status : Status) : Type 0 where
+pub record UsageWhere (err : Writing) (asked : Option Asked) (status : Status) : Type 0 where
   pub only : status ≡ Usage → asked ≡ None
-  pub due : asked ≡ None → Comes s Usage status
+  pub due : asked ≡ None → Comes err Usage status
 
--- a refusal comes only for a command whose TCR_EL1 sets a refused field, of which the lowest is named, and then it comes
-pub record RefusedWhere (s : Sinks) (asked : Option RawWords) (status : Status) : Type 0 where
-  pub only : (why : Why) → status ≡ Refused why → (a : RawWords) × (asked ≡ Some a) × IsRefused a why
-  pub due : (a : RawWords) → asked ≡ Some a → (why : Why) → IsRefused a why → Comes s (Refused why) status
+-- Refused comes only for words that are refused, with the reason, and then it comes
+pub record RefusedWhere (err : Writing) (asked : Option Asked) (status : Status) : Type 0 where
+  pub only : (why : Why) → status ≡ Refused why → (a : Asked) × (asked ≡ Some a) × IsRefused a why
+  pub due : (a : Asked) → asked ≡ Some a → (why : Why) → IsRefused a why → Comes err (Refused why) status
 
--- NoFile comes only for an accepted command whose file is missing, and names it; where the files tell that it isn't
--- there and no read failed, it comes, but for want of memory
-pub record NoFileWhere (o : Outside) (s : Sinks) (asked : Option RawWords) (status : Status) : Type 0 where
-  pub only : (name : List ℕ) → status ≡ NoFile name → (a : RawWords) × (asked ≡ Some a) × IsAccepted a × (name ≡ a.image) × IsMissing o (o.holds a.image)
-  pub due : (a : RawWords) → asked ≡ Some a → IsAccepted a → o.holds a.image ≡ Absent → (Rose o.faults o.faults_now → ⊥) → Comes s (NoFile a.image) status ⊎ Comes s NoMemory status
+-- NoFile comes only for a command that lacks a file, and names it; where the files tell that it isn't there and no read
+-- failed, it comes, but for want of memory
+pub record NoFileWhere (r : Reading) (err : Writing) (asked : Option Asked) (status : Status) : Type 0 where
+  pub only : (name : List ℕ) → status ≡ NoFile name → (a : Asked) × (asked ≡ Some a) × Lacks r a name
+  pub due : (a : Asked) → asked ≡ Some a → (name : List ℕ) → SurelyLacks r a name → (ReadFails r → ⊥)
+      → Comes err (NoFile name) status ⊎ Comes err NoMemory status
 
--- ReadFault comes only for an accepted command, where the faults of the files rose in this call
-abbrev pub ReadFaultWhere : Outside → Option RawWords → Status → Type 0
-ReadFaultWhere o asked status = status ≡ ReadFault → (a : RawWords) × (asked ≡ Some a) × IsAccepted a × Rose o.faults o.faults_now
+-- NoMemory comes only for a command that lacks a file, whose name was to be kept
+abbrev pub NoMemoryWhere : Reading → Option Asked → Status → Type 0
+NoMemoryWhere r asked status = status ≡ NoMemory → (a : Asked) × (name : List ℕ) × (asked ≡ Some a) × Lacks r a name
 
--- WriteFault comes only where the faults of standard output or standard error rose in this call
-abbrev pub WriteFaultWhere : Outside → Sinks → Option RawWords → Status → Type 0
-WriteFaultWhere o s asked status = status ≡ WriteFault → (due : Result Answer Status) × IsDue o asked due × WriteFails s due
+-- ReadFault comes only for a command of which a read of a file failed
+abbrev pub ReadFaultWhere : Reading → Option Asked → Status → Type 0
+ReadFaultWhere r asked status = status ≡ ReadFault → (a : Asked) × (asked ≡ Some a) × FailsToRead r a
 
--- standard output got the text of the fresh walk over the bytes that the file holds, where they are told
-abbrev pub DoneText : Holding → Sinks → RawWords → Type 0
-DoneText Untold s a = Unit {0}
-DoneText Absent s a = ⊥
-DoneText (Bytes bytes) s a = Appended s.out s.out_now (fresh_raw_text bytes a.tcr a.ttbr0 a.va)
+-- WriteFault comes only where a write of what is due failed, and a prefix of it was written
+abbrev pub WriteFaultWhere : Reading → (out err : Writing) → Option Asked → Status → Type 0
+WriteFaultWhere r out err asked status = status ≡ WriteFault → (due : Due) × IsDue r asked due × TellsPrefix out err due
 
--- Done comes only for an accepted command, with exactly that text and nothing on standard error
-abbrev pub DoneWhere : Outside → Sinks → Option RawWords → Status → Type 0
-DoneWhere o s asked status = status ≡ Done → (a : RawWords) × (asked ≡ Some a) × IsAccepted a × DoneText (o.holds a.image) s a × (s.err_now ≡ s.err)
+-- Done comes only for a command; standard output got exactly its text, and standard error nothing
+abbrev pub DoneWhere : Reading → (out err : Writing) → Option Asked → Status → Type 0
+DoneWhere r out err asked status =
+    status ≡ Done → (a : Asked) × (text : List ℕ) × (asked ≡ Some a) × IsText r a text × Got out text × GotNothing err
 
--- with every other status but WriteFault nothing is written to standard output, and standard error gets its line
-abbrev pub IsQuiet : Sinks → Status → Type 0
-IsQuiet s Done = Unit {0}
-IsQuiet s WriteFault = Unit {0}
-IsQuiet s status = Appended s.err s.err_now (err_text status) × (s.out_now ≡ s.out)
+-- with every other status but WriteFault standard error got its line, and standard output nothing
+abbrev pub IsQuiet : (out err : Writing) → Status → Type 0
+IsQuiet out err Done = Unit {0}
+IsQuiet out err WriteFault = Unit {0}
+IsQuiet out err status = Got err (err_text status) × GotNothing out
 
--- an accepted command whose file is told is answered, where nothing failed
-abbrev pub IsComplete : Outside → Sinks → Option RawWords → Status → Type 0
-IsComplete o s asked status =
-    (a : RawWords) (bytes : List ℕ) → asked ≡ Some a → IsAccepted a → o.holds a.image ≡ Bytes bytes → (Rose o.faults o.faults_now → ⊥) → (Rose s.faults s.faults_now → ⊥) → (Rose s.err_faults s.err_faults_now → ⊥) → status ≡ Done
+-- an accepted command whose files tell their bytes is Done, where no read and no write of its text failed
+abbrev pub IsComplete : Reading → (out : Writing) → Option Asked → Status → Type 0
+IsComplete r out asked status =
+    (a : Asked) → asked ≡ Some a → IsAnswerable r a → (ReadFails r → ⊥) → (WriteFails out → ⊥) → status ≡ Done
+
+-- all of them together
+pub record IsAnswer (r : Reading) (out err : Writing) (asked : Option Asked) (status : Status) : Type 0 where
+  pub usage : UsageWhere err asked status
+  pub refused : RefusedWhere err asked status
+  pub no_file : NoFileWhere r err asked status
+  pub no_memory : NoMemoryWhere r asked status
+  pub read_fault : ReadFaultWhere r asked status
+  pub write_fault : WriteFaultWhere r out err asked status
+  pub done : DoneWhere r out err asked status
+  pub quiet : IsQuiet out err status
+  pub complete : IsComplete r out asked status

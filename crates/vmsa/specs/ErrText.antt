@@ -6,6 +6,7 @@ use Rattle.sysregs.specs.declared.regs.Field.{Field}
 use Rattle.sysregs.specs.declared.regs.Field.TheVariants.{Ee, Dc, Tge, Cd, Id, Fwb, Ds, Ha, Hd}
 use Rattle.sysregs.specs.declared.regs.Unsupported.{Unsupported}
 use Rattle.trails.specs.Texts.{joined_text}
+use Rattle.vmsa.specs.declared.line.TheConstants.{SHOWN}
 use Rattle.vmsa.specs.declared.status.Why.{Why}
 use Rattle.vmsa.specs.declared.status.Why.TheVariants.{Word}
 use Rattle.vmsa.specs.declared.status.Status.{Status}
@@ -15,9 +16,9 @@ use Rattle.vmsa.specs.declared.status.Status.TheVariants.{Done, Usage, NoFile, R
 abbrev pub shown_byte : ℕ → ℕ
 shown_byte b = if nat_le 0x21 b && nat_le b 0x7e then b else 0x3f
 
--- a name as it is shown: its first 64 bytes
-abbrev pub shown : List ℕ → List ℕ
-shown name = map shown_byte (take 64 name)
+-- a name as it is shown: its first SHOWN bytes, which are 64
+abbrev pub shown : (name : List ℕ) → List ℕ
+shown name = map shown_byte (take SHOWN name)
 
 -- `vmsa: no file NAME`
 abbrev pub no_file_text : List ℕ → List ℕ

@@ -1,5 +1,5 @@
 -- What files hold, where that is told, and what their calls then answer.
-use Rattle.std.specs.Prelude.{◌≡◌, ℕ, ◌-◌, List, length, take, drop, min, Option, Some, None}
+use Rattle.std.specs.Prelude.{◌≡◌, ℕ, zero, suc, ◌+◌, ◌-◌, List, [], ◌++◌, length, take, drop, min, Option, Some, None}
 use Rattle.bitwords.specs.Causes.{Rose}
 
 -- what a name holds: not told, no file, or a file with these bytes
@@ -10,14 +10,60 @@ pub data Holding : Type 0 where
 
 -- The answer of `size`: where the content is told, the file's length, or None without a file; else None only where
 -- the count `missing` rose.
-abbrev pub IsSize : Holding → ℕ → ℕ → Option ℕ → Type 0
+abbrev pub IsSize : (held : Holding) (before now : ℕ) (size : Option ℕ) → Type 0
 IsSize Untold before now size = size ≡ None → Rose before now
 IsSize Absent before now size = size ≡ None
 IsSize (Bytes bytes) before now size = size ≡ Some (length bytes)
 
 -- The answer n of `read_at`: where the content is told, the bytes from that place on, as many as there are and fit;
 -- else 0 only where the count `missing` rose.
-abbrev pub IsRead : Holding → ℕ → ℕ → ℕ → List ℕ → ℕ → Type 0
+abbrev pub IsRead : (held : Holding) (before now at : ℕ) (new : List ℕ) (n : ℕ) → Type 0
 IsRead Untold before now at new n = n ≡ 0 → Rose before now
 IsRead Absent before now at new n = n ≡ 0
 IsRead (Bytes bytes) before now at new n = (n ≡ min (length new) (length bytes - at)) × (take n new ≡ take n (drop at bytes))
+
+-- This many reads of a file gave these bytes from a place on, each from where the one before had ended. One read is told
+-- by the files before it, the place, the bytes that came and the files after it.
+abbrev pub CameBy : {F : Type 0} (read : F → ℕ → List ℕ → F → Type 0) (at turns : ℕ) (before : F) (bytes : List ℕ) (after : F) → Type 0
+CameBy read at zero before bytes after = (after ≡ before) × (bytes ≡ [])
+CameBy {F} read at (suc turns) before bytes after =
+    (between : F) × (front : List ℕ) × (more : List ℕ)
+    × CameBy read at turns before front between
+    × read between (at + length front) more after × (bytes ≡ front ++ more)
+
+-- reads of a file gave these bytes from a place on, each from where the one before had ended
+pub record InTurns {F : Type 0} (read : F → ℕ → List ℕ → F → Type 0) (at : ℕ) (before : F) (bytes : List ℕ) (after : F) : Type 0 where
+  pub turns : ℕ
+  pub came : CameBy read at turns before bytes after
+
+-- the files over a call: what they hold, and their counts before and after it
+pub record Reading : Type 0 where
+  pub holds : List ℕ → Holding
+  pub faults : ℕ
+  pub faults_after : ℕ
+  pub missing : ℕ
+  pub missing_after : ℕ
+
+-- the same by what files say of themselves
+abbrev pub reading_of : {F : Type 0} (holds : F → List ℕ → Holding) (faults missing : F → ℕ) (before after : F) → Reading
+reading_of holds faults missing before after = record {
+  holds = holds before;
+  faults = faults before;
+  faults_after = faults after;
+  missing = missing before;
+  missing_after = missing after;
+}
+
+-- a read failed in the call
+abbrev pub ReadFails : Reading → Type 0
+ReadFails r = Rose r.faults r.faults_after
+
+-- there is no file, or, where that is not told, one was found missing
+abbrev pub IsMissingBy : (held : Holding) (before now : ℕ) → Type 0
+IsMissingBy Untold before now = Rose before now
+IsMissingBy Absent before now = Unit {0}
+IsMissingBy (Bytes bytes) before now = ⊥
+
+-- the same of a name, in a call
+abbrev pub IsMissing : Reading → (name : List ℕ) → Type 0
+IsMissing r name = IsMissingBy (r.holds name) r.missing r.missing_after

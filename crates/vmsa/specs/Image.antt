@@ -5,29 +5,29 @@ use Rattle.bitwords.specs.Causes.{Rose}
 use Rattle.vmsa.specs.Held.{Holding, Untold, Absent, Bytes}
 
 -- the word at a place, where all its eight bytes are there
-abbrev pub image_word : List ℕ → ℕ → Option ℕ
+abbrev pub image_word : (bytes : List ℕ) (pa : ℕ) → Option ℕ
 image_word bytes pa = if nat_le (pa + 8) (length bytes) then Some (little_number 8 (drop pa bytes)) else None
 
 -- the same by what is told
-abbrev pub IsImageWord : Holding → ℕ → Option ℕ → Type 0
+abbrev pub IsImageWord : (held : Holding) (pa : ℕ) (word : Option ℕ) → Type 0
 IsImageWord Untold pa word = Unit {0}
 IsImageWord Absent pa word = word ≡ None
 IsImageWord (Bytes bytes) pa word = word ≡ image_word bytes pa
 
 -- of a file that isn't told, a word is missing only where the count `missing` rose
-abbrev pub IsMissed : Holding → ℕ → ℕ → Option ℕ → Type 0
+abbrev pub IsMissed : (held : Holding) (before now : ℕ) (word : Option ℕ) → Type 0
 IsMissed Untold before now word = word ≡ None → Rose before now
 IsMissed Absent before now word = Unit {0}
 IsMissed (Bytes bytes) before now word = Unit {0}
 
 -- the first n bytes are those of the file from a place on, and all that there are where n is less than the length
-abbrev pub IsFilled : Holding → ℕ → ℕ → ℕ → List ℕ → ℕ → Type 0
+abbrev pub IsFilled : (held : Holding) (before now at : ℕ) (new : List ℕ) (n : ℕ) → Type 0
 IsFilled Untold before now at new n = n < length new → Rose before now
 IsFilled Absent before now at new n = n ≡ 0
 IsFilled (Bytes bytes) before now at new n = (n ≡ min (length new) (length bytes - at)) × (take n new ≡ take n (drop at bytes))
 
 -- the first n bytes are those of the file from a place on
-abbrev pub IsPart : Holding → ℕ → List ℕ → ℕ → Type 0
-IsPart Untold at new n = Unit {0}
-IsPart Absent at new n = n ≡ 0
-IsPart (Bytes bytes) at new n = (n ≤ length bytes - at) × (take n new ≡ take n (drop at bytes))
+abbrev pub IsFront : (held : Holding) (at : ℕ) (new : List ℕ) (n : ℕ) → Type 0
+IsFront Untold at new n = Unit {0}
+IsFront Absent at new n = n ≡ 0
+IsFront (Bytes bytes) at new n = (n ≤ length bytes - at) × (take n new ≡ take n (drop at bytes))

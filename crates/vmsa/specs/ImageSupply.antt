@@ -1,16 +1,16 @@
 -- What an image says as a supply of words.
 use Rattle.std.specs.Prelude.{ℕ, ◌≡◌, ◌≤◌, ◌<◌, List, Some, None}
 use Rattle.bitwords.specs.Causes.{Rose}
-use Rattle.walk_spec.specs.Walked.{Told}
+use Rattle.table_reads.specs.Memory.{Told}
 use Rattle.vmsa.specs.Held.{Holding, Untold, Absent, Bytes}
 use Rattle.vmsa.specs.Image.{image_word}
 use Rattle.vmsa.specs.declared.image.Image.{Image}
 
--- the memory that a file stands for
-abbrev pub told_of : Holding → Told
-told_of Untold = None
-told_of Absent = Some (λ _. None)
-told_of (Bytes bytes) = Some (image_word bytes)
+-- the memory that a file stands for, where its bytes are told
+abbrev pub memory_of : Holding → Told
+memory_of Untold = None
+memory_of Absent = Some (λ _. None)
+memory_of (Bytes bytes) = Some (image_word bytes)
 
 -- what each word read from an image keeps: the files stay the same, their faults do not fall, and they rose where the
 -- image's own count did

@@ -8,7 +8,7 @@ pub mod FilesInMemory
 pub mod RawText
 pub mod ErrText
 pub mod Numbers
-pub mod Words
+pub mod Command
 pub mod Image
 pub mod ImageSupply
 pub mod Raw

@@ -4,16 +4,16 @@ use Rattle.std.specs.Char.{digit_value}
 use Rattle.std.specs.Str.Parse.{digits_value}
 
 -- all are digits of the radix
-abbrev pub all_digits : ℕ → List ℕ → Bool
+abbrev pub all_digits : (radix : ℕ) (word : List ℕ) → Bool
 all_digits radix [] = true
 all_digits radix (c ∷ cs) = nat_lt (digit_value c) radix && all_digits radix cs
 
 -- 1 to `most` digits in the radix with a value below 2 ^ 64
-abbrev pub number_in : ℕ → ℕ → List ℕ → Option ℕ
+abbrev pub number_in : (radix most : ℕ) (ds : List ℕ) → Option ℕ
 number_in radix most ds =
     if nat_lt 0 (length ds) && nat_le (length ds) most && all_digits radix ds && nat_lt (digits_value radix ds) (2 ^ 64)
     then Some (digits_value radix ds) else None
 
 -- `0x` and 1 to 16 hexadecimal digits of either case, or 1 to 20 decimal digits
-abbrev pub number_of : List ℕ → Option ℕ
+abbrev pub number_of : (word : List ℕ) → Option ℕ
 number_of word = if bytes_eq (take 2 word) (codes "0x") then number_in 16 16 (drop 2 word) else number_in 10 20 word

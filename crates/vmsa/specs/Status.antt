@@ -1,5 +1,5 @@
 -- Exit statuses. The numbers are this project's own rule.
-use Rattle.std.specs.Prelude.{ℕ}
+use Rattle.std.specs.Prelude.{ℕ, ◌≡◌}
 use Rattle.vmsa.specs.declared.status.Status.{Status}
 use Rattle.vmsa.specs.declared.status.Status.TheVariants.{Done, Usage, NoFile, Refused, ReadFault, WriteFault, NoMemory}
 
@@ -12,3 +12,7 @@ number_of_status (Refused why) = 4
 number_of_status ReadFault = 5
 number_of_status WriteFault = 6
 number_of_status NoMemory = 7
+
+-- an exit status is the number of a status of which this holds
+abbrev pub Exits : (exit : ℕ) → (Status → Type 0) → Type 0
+Exits exit holds = (status : Status) × holds status × (exit ≡ number_of_status status)

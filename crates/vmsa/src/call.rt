@@ -1,15 +1,17 @@
 ghost use Rattle.std.specs.Prelude.{◌≡◌, ◌⊎◌, ◌≤◌, ◌<◌, ◌++◌, map, flat_map, string_bytes, IfOk, IfErr, Some};
-ghost use Rattle.bitwords.specs.Causes.{Rose};
-ghost use Rattle.walk_spec.specs.Walked.{IsToldOutcome, IsFresh};
-ghost use Rattle.bitwords.specs.Causes.{HasCause};
-ghost use Rattle.vmsa.specs.Written.{Wrote};
+ghost use Rattle.bitwords.specs.Causes.{Rose, HasCause};
+ghost use Rattle.walk_spec.specs.Walked.{HasLine, IsFresh, WalkedWhole};
 ghost use Rattle.trails.specs.Texts.{item_text};
-ghost use Rattle.vmsa.specs.ErrText.{err_text, why_text, unsupported_text};
-ghost use Rattle.vmsa.specs.ImageSupply.{told_of};
-ghost use Rattle.vmsa.specs.Raw.{raw_regs, raw_access, raw_outcome_text};
-ghost use Rattle.vmsa.specs.Words.{command_of, raw_words_of};
-ghost use Rattle.vmsa.specs.Answers.{IsAccepted, IsWalkThere, IsDue, IsRefusalOf, Tells, answer_text, UsageWhere, RefusedWhere, NoFileWhere, ReadFaultWhere, WriteFaultWhere, DoneWhere, IsQuiet, IsComplete};
+ghost use Rattle.vmsa.specs.ErrText.{err_text};
+ghost use Rattle.vmsa.specs.Held.{reading_of};
+ghost use Rattle.vmsa.specs.Written.{Wrote, writing_of};
+ghost use Rattle.vmsa.specs.ImageSupply.{memory_of};
+ghost use Rattle.vmsa.specs.Raw.{raw_regs, raw_access, raw_outcome_text, IsRawTextThere};
+ghost use Rattle.vmsa.specs.Command.{Asked, asked_of, command_of, raw_words_of};
+ghost use Rattle.vmsa.specs.Answers.{IsAccepted, IsDue, Tells, due_of, answer_text};
+ghost use Rattle.vmsa.specs.Answers.{UsageWhere, RefusedWhere, NoFileWhere, NoMemoryWhere, ReadFaultWhere, WriteFaultWhere, DoneWhere, IsQuiet, IsComplete};
 
+use crate::command::{Command, RawArgs, read_command};
 use crate::files::Files;
 use crate::image::Image;
 use crate::lines::{
@@ -18,7 +20,6 @@ use crate::lines::{
 };
 use crate::sink::{Sink, WriteFailed};
 use crate::status::{Name, Status, Why};
-use crate::words::{RawArgs, command};
 use permissions::{El, Kind};
 use stage1_walk::translate1;
 use std::alloc::Global;
@@ -63,8 +64,13 @@ fn walk<F: Files>(asked: &RawArgs, image: &mut Image<F>) -> (Outcome, Trail)
     ensures later { F.faults image.old.files.now ≤ F.faults image.new.files.now }
     ensures failed { image.old.failures < image.new.failures → Rose (F.faults image.old.files.now) (F.faults image.new.files.now) }
     ensures counted { image.old.failures ≤ image.new.failures }
-    ensures told { IsToldOutcome result.0 }
-    ensures fresh { IsFresh (raw_regs asked.now.tcr asked.now.ttbr0) (raw_access asked.now.va) 0 (told_of (F.holds image.old.files.now image.old.name.now)) (Rose image.old.failures image.new.failures) result.1 result.0 }
+    ensures outcome { HasLine result.0 }
+    ensures walked { WalkedWhole (raw_regs asked.now.tcr asked.now.ttbr0) (raw_access asked.now.va) 0
+        (memory_of (F.holds image.old.files.now image.old.name.now))
+        (Rose image.old.failures image.new.failures) result.1 result.0 }
+    ensures fresh { IsFresh (raw_regs asked.now.tcr asked.now.ttbr0) (raw_access asked.now.va) 0
+        (memory_of (F.holds image.old.files.now image.old.name.now))
+        (Rose image.old.failures image.new.failures) result.1 result.0 }
 {
     translate1(&registers(asked.tcr, asked.ttbr0), &access(asked.va), image)
 }
@@ -72,8 +78,8 @@ fn walk<F: Files>(asked: &RawArgs, image: &mut Image<F>) -> (Outcome, Trail)
 /// The answer over a file that is there.
 fn answer_over<F: Files>(asked: &RawArgs, files: &mut F) -> Result<Answer, Status>
     ensures later { F.faults files.old ≤ F.faults files.new }
-    ensures answer { IfOk result (λ a. IsToldOutcome a.outcome) }
-    ensures walk { IfOk result (IsWalkThere (F.holds files.old asked.now.image.now) (raw_words_of asked.now)) }
+    ensures outcome { IfOk result (λ a. HasLine a.outcome) }
+    ensures text { IfOk result (λ a. IsRawTextThere (F.holds files.old asked.now.image.now) (raw_words_of asked.now) (answer_text a)) }
     ensures fault { IfErr result (λ s. (s ≡ Status.ReadFault) × Rose (F.faults files.old) (F.faults files.new)) }
 {
     let mut image = Image {
@@ -102,11 +108,11 @@ fn no_file(alloc: Global, name: &str) -> Status
     }
 }
 
-/// What comes of an accepted command.
+/// What comes of an accepted read over an image.
 fn read_image<F: Files>(alloc: Global, asked: &RawArgs, files: &mut F) -> Result<Answer, Status>
-    requires { IsAccepted (raw_words_of asked.now) }
-    ensures answer { IfOk result (λ a. IsToldOutcome a.outcome) }
-    ensures due { IsDue (record { holds = F.holds files.old; faults = F.faults files.old; faults_now = F.faults files.new; missing = F.missing files.old; missing_now = F.missing files.new }) (Some (raw_words_of asked.now)) result }
+    requires { IsAccepted (Asked.Raw (raw_words_of asked.now)) }
+    ensures outcome { IfOk result (λ a. HasLine a.outcome) }
+    ensures due { IsDue (reading_of F.holds F.faults F.missing files.old files.new) (Some (Asked.Raw (raw_words_of asked.now))) (due_of result) }
 {
     match files.size(asked.image) {
         Err(_) => Err(Status::ReadFault),
@@ -115,25 +121,33 @@ fn read_image<F: Files>(alloc: Global, asked: &RawArgs, files: &mut F) -> Result
     }
 }
 
-/// What is to be told, before anything is written: an answer, or a refusal.
-fn judge<F: Files>(alloc: Global, words: &[String], files: &mut F) -> Result<Answer, Status>
-    ensures answer { IfOk result (λ a. IsToldOutcome a.outcome) }
-    ensures due { IsDue (record { holds = F.holds files.old; faults = F.faults files.old; faults_now = F.faults files.new; missing = F.missing files.old; missing_now = F.missing files.new }) (command_of (map string_bytes words.now)) result }
+/// What comes of an EL1 read over an image.
+fn raw<F: Files>(alloc: Global, asked: &RawArgs, files: &mut F) -> Result<Answer, Status>
+    ensures outcome { IfOk result (λ a. HasLine a.outcome) }
+    ensures due { IsDue (reading_of F.holds F.faults F.missing files.old files.new) (Some (Asked.Raw (raw_words_of asked.now))) (due_of result) }
 {
-    let Some(asked) = command(words) else {
-        return Err(Status::Usage);
-    };
     if let Err(at) = check_reg(Reg::TcrEl1, asked.tcr) {
         return Err(Status::Refused {
             why: Why::Word { at },
         });
     }
-    read_image(alloc, &asked, files)
+    read_image(alloc, asked, files)
+}
+
+/// What is due, before anything is written: an answer, or a refusal.
+fn due<F: Files>(alloc: Global, words: &[String], files: &mut F) -> Result<Answer, Status>
+    ensures outcome { IfOk result (λ a. HasLine a.outcome) }
+    ensures due { IsDue (reading_of F.holds F.faults F.missing files.old files.new) (command_of (map string_bytes words.now)) (due_of result) }
+{
+    match read_command(words) {
+        None => Err(Status::Usage),
+        Some(Command::Raw(asked)) => raw(alloc, &asked, files),
+    }
 }
 
 /// The last line of an answer.
 fn outcome_line<O: Sink>(out: &mut O, outcome: &Outcome) -> Result<(), WriteFailed>
-    requires { IsToldOutcome outcome.now }
+    requires { HasLine outcome.now }
     ensures text { Wrote (O.written out.old) (O.written out.new) result (raw_outcome_text outcome.now) }
     ensures cause { HasCause (O.faults out.old) (O.faults out.new) result }
 {
@@ -153,7 +167,7 @@ fn outcome_line<O: Sink>(out: &mut O, outcome: &Outcome) -> Result<(), WriteFail
 /// The lines behind the first.
 #[tactic(auto, using(crate::proofs::Sinks::fails_first, crate::proofs::Sinks::goes_on))]
 fn walk_lines<O: Sink>(out: &mut O, answer: &Answer) -> Result<(), WriteFailed>
-    requires { IsToldOutcome answer.now.outcome }
+    requires { HasLine answer.now.outcome }
     ensures text { Wrote (O.written out.old) (O.written out.new) result (flat_map item_text answer.now.trail ++ raw_outcome_text answer.now.outcome) }
     ensures cause { HasCause (O.faults out.old) (O.faults out.new) result }
 {
@@ -164,7 +178,7 @@ fn walk_lines<O: Sink>(out: &mut O, answer: &Answer) -> Result<(), WriteFailed>
 /// The text of an answer.
 #[tactic(auto, using(crate::proofs::Sinks::fails_first, crate::proofs::Sinks::goes_on))]
 fn answer_lines<O: Sink>(out: &mut O, answer: &Answer) -> Result<(), WriteFailed>
-    requires { IsToldOutcome answer.now.outcome }
+    requires { HasLine answer.now.outcome }
     ensures text { Wrote (O.written out.old) (O.written out.new) result (answer_text answer.now) }
     ensures cause { HasCause (O.faults out.old) (O.faults out.new) result }
 {
@@ -189,10 +203,10 @@ fn error_line<E: Sink>(err: &mut E, status: &Status) -> Result<(), WriteFailed>
     }
 }
 
-/// Writes what is to be told.
+/// Writes what is due.
 fn tell<O: Sink, E: Sink>(out: &mut O, err: &mut E, due: Result<Answer, Status>) -> Status
-    requires { IfOk due (λ a. IsToldOutcome a.outcome) }
-    ensures { Tells (record { out = O.written out.old; out_now = O.written out.new; err = E.written err.old; err_now = E.written err.new; faults = O.faults out.old; faults_now = O.faults out.new; err_faults = E.faults err.old; err_faults_now = E.faults err.new }) due result }
+    requires { IfOk due (λ a. HasLine a.outcome) }
+    ensures { Tells (writing_of O.written O.faults out.old out.new) (writing_of E.written E.faults err.old err.new) (due_of due) result }
 {
     match due {
         Ok(answer) => match answer_lines(out, &answer) {
@@ -214,17 +228,21 @@ pub fn vmsa<F: Files, O: Sink, E: Sink>(
     out: &mut O,
     err: &mut E,
 ) -> Status
-    ensures usage { UsageWhere (record { out = O.written out.old; out_now = O.written out.new; err = E.written err.old; err_now = E.written err.new; faults = O.faults out.old; faults_now = O.faults out.new; err_faults = E.faults err.old; err_faults_now = E.faults err.new }) (command_of (map string_bytes words.now)) result }
-    ensures refused { RefusedWhere (record { out = O.written out.old; out_now = O.written out.new; err = E.written err.old; err_now = E.written err.new; faults = O.faults out.old; faults_now = O.faults out.new; err_faults = E.faults err.old; err_faults_now = E.faults err.new }) (command_of (map string_bytes words.now)) result }
-    ensures no_file { NoFileWhere (record { holds = F.holds files.old; faults = F.faults files.old; faults_now = F.faults files.new; missing = F.missing files.old; missing_now = F.missing files.new }) (record { out = O.written out.old; out_now = O.written out.new; err = E.written err.old; err_now = E.written err.new; faults = O.faults out.old; faults_now = O.faults out.new; err_faults = E.faults err.old; err_faults_now = E.faults err.new }) (command_of (map string_bytes words.now)) result }
-    ensures read_fault { ReadFaultWhere (record { holds = F.holds files.old; faults = F.faults files.old; faults_now = F.faults files.new; missing = F.missing files.old; missing_now = F.missing files.new }) (command_of (map string_bytes words.now)) result }
-    ensures write_fault { WriteFaultWhere (record { holds = F.holds files.old; faults = F.faults files.old; faults_now = F.faults files.new; missing = F.missing files.old; missing_now = F.missing files.new }) (record { out = O.written out.old; out_now = O.written out.new; err = E.written err.old; err_now = E.written err.new; faults = O.faults out.old; faults_now = O.faults out.new; err_faults = E.faults err.old; err_faults_now = E.faults err.new }) (command_of (map string_bytes words.now)) result }
-    ensures done { DoneWhere (record { holds = F.holds files.old; faults = F.faults files.old; faults_now = F.faults files.new; missing = F.missing files.old; missing_now = F.missing files.new }) (record { out = O.written out.old; out_now = O.written out.new; err = E.written err.old; err_now = E.written err.new; faults = O.faults out.old; faults_now = O.faults out.new; err_faults = E.faults err.old; err_faults_now = E.faults err.new }) (command_of (map string_bytes words.now)) result }
-    ensures quiet { IsQuiet (record { out = O.written out.old; out_now = O.written out.new; err = E.written err.old; err_now = E.written err.new; faults = O.faults out.old; faults_now = O.faults out.new; err_faults = E.faults err.old; err_faults_now = E.faults err.new }) result }
-    ensures complete { IsComplete (record { holds = F.holds files.old; faults = F.faults files.old; faults_now = F.faults files.new; missing = F.missing files.old; missing_now = F.missing files.new }) (record { out = O.written out.old; out_now = O.written out.new; err = E.written err.old; err_now = E.written err.new; faults = O.faults out.old; faults_now = O.faults out.new; err_faults = E.faults err.old; err_faults_now = E.faults err.new }) (command_of (map string_bytes words.now)) result }
+    ensures usage { UsageWhere (writing_of E.written E.faults err.old err.new) (command_of (map string_bytes words.now)) result }
+    ensures refused { RefusedWhere (writing_of E.written E.faults err.old err.new) (command_of (map string_bytes words.now)) result }
+    ensures no_file { NoFileWhere (reading_of F.holds F.faults F.missing files.old files.new) (writing_of E.written E.faults err.old err.new)
+        (command_of (map string_bytes words.now)) result }
+    ensures no_memory { NoMemoryWhere (reading_of F.holds F.faults F.missing files.old files.new) (command_of (map string_bytes words.now)) result }
+    ensures read_fault { ReadFaultWhere (reading_of F.holds F.faults F.missing files.old files.new) (command_of (map string_bytes words.now)) result }
+    ensures write_fault { WriteFaultWhere (reading_of F.holds F.faults F.missing files.old files.new) (writing_of O.written O.faults out.old out.new)
+        (writing_of E.written E.faults err.old err.new) (command_of (map string_bytes words.now)) result }
+    ensures done { DoneWhere (reading_of F.holds F.faults F.missing files.old files.new) (writing_of O.written O.faults out.old out.new)
+        (writing_of E.written E.faults err.old err.new) (command_of (map string_bytes words.now)) result }
+    ensures quiet { IsQuiet (writing_of O.written O.faults out.old out.new) (writing_of E.written E.faults err.old err.new) result }
+    ensures complete { IsComplete (reading_of F.holds F.faults F.missing files.old files.new) (writing_of O.written O.faults out.old out.new)
+        (command_of (map string_bytes words.now)) result }
 {
-    let due = judge(alloc, words, files);
-    tell(out, err, due)
+    tell(out, err, due(alloc, words, files))
 }
 
 #[cfg(test)]

@@ -1,11 +1,13 @@
-ghost use Rattle.std.specs.Prelude.{◌≡◌, ℕ, ◌≤◌, ◌<◌, List, length, IfOk, MatchOption, MatchResult, Contains};
+ghost use Rattle.std.specs.Prelude.{◌≡◌, ◌≢◌, ℕ, ◌≤◌, ◌<◌, List, length, take, IfOk, MatchOption, MatchResult, Contains};
+ghost use Rattle.std.specs.IoError.{error_kind};
+ghost use Rattle.std.specs.declared.io.ErrorKind.TheVariants.{NotFound};
 ghost use Rattle.bitwords.specs.Causes.{HasCause, Rose};
 ghost use Rattle.vmsa.specs.Held.{Holding, IsSize, IsRead, Untold};
 ghost use Rattle.vmsa.specs.FilesInMemory.{held_of};
 
 use std::alloc::Global;
 use std::fs::OpenFile;
-use std::io::{Read, Seek, SeekFrom};
+use std::os::unix::fs::FileExt;
 use std::{io, rt};
 
 /// A file's size or its bytes could not be read.
@@ -23,6 +25,9 @@ pub trait Files {
     /// How often a name was found missing or a file found ended.
     ghost missing: { Self → ℕ };
 
+    /// One read: the name, the files before it, the place, the bytes that came and the files after it.
+    ghost reads: { List ℕ → Self → ℕ → List ℕ → Self → Type 0 };
+
     /// The file's size in bytes, or None where there is no such file. No byte of it is read.
     fn size(&mut self, name: &str) -> Result<Option<u64>, ReadFailed>
         ensures same { holds self.new ≡ holds self.old }
@@ -36,6 +41,7 @@ pub trait Files {
         ensures same { holds self.new ≡ holds self.old }
         ensures bound { IfOk result (λ n. n ≤ length into.new) }
         ensures bytes { IfOk result (IsRead (holds self.old name.now) (missing self.old) (missing self.new) at into.new) }
+        ensures read { IfOk result (λ n. reads name.now self.old at (take n into.new) self.new) }
         ensures missing { missing self.old ≤ missing self.new }
         ensures cause { HasCause (faults self.old) (faults self.new) result };
 }
@@ -108,6 +114,8 @@ impl Files for MemoryFiles {
 
     ghost missing = { λ _. 0 };
 
+    ghost reads = { λ _ _ _ _ _. Unit {0} };
+
     fn size(&mut self, name: &str) -> Result<Option<u64>, ReadFailed> {
         Ok(size_of(self.files.as_slice(), name))
     }
@@ -163,6 +171,8 @@ impl Files for FailingFiles {
 
     ghost missing = { λ _. 0 };
 
+    ghost reads = { λ _ _ _ _ _. Unit {0} };
+
     fn size(&mut self, name: &str) -> Result<Option<u64>, ReadFailed> {
         self.count()?;
         Ok(size_of(self.files.as_slice(), name))
@@ -181,6 +191,26 @@ struct Open<F> {
     file: F,
 }
 
+/// How often a read that was interrupted is tried.
+const TRIES: u32 = u32::MAX;
+
+/// One read from a place on. One that was interrupted goes on. A place above what the system can name lies behind every
+/// file's end.
+fn read_file<T: FileExt>(file: &T, at: u64, into: &mut [u8]) -> io::Result<usize>
+    ensures { IfOk result (λ n. n ≤ length into.new) }
+{
+    if i64::try_from(at).is_err() {
+        return Ok(0);
+    }
+    for _ in 0..TRIES {
+        match file.read_at(into, at) {
+            Err(e) if e.kind() == io::ErrorKind::Interrupted => {}
+            answer => return answer,
+        }
+    }
+    Err(io::Error::from(io::ErrorKind::Interrupted))
+}
+
 /// The files of the system. The one that was used last stays open. They don't tell what they hold.
 #[derive(Drop)]
 pub struct RealFiles<R: rt::Files> {
@@ -191,7 +221,10 @@ pub struct RealFiles<R: rt::Files> {
     missing: u64,
 }
 
-impl<R: rt::Files> RealFiles<R> {
+impl<R: rt::Files> RealFiles<R>
+where
+    R::File: FileExt,
+{
     pub fn new(rt: R, alloc: Global) -> RealFiles<R> {
         RealFiles {
             rt,
@@ -246,34 +279,15 @@ impl<R: rt::Files> RealFiles<R> {
         Ok(metadata.len())
     }
 
-    fn real_read(&mut self, name: &str, at: u64, into: &mut [u8]) -> io::Result<usize>
-        ensures bound { IfOk result (λ n. n ≤ length into.new) }
-        ensures faults { self.new.faults ≡ self.old.faults }
-        ensures missing { self.new.missing ≡ self.old.missing }
+    /// What is told of a size: None where the system answers that there is no such file, and a failure where it answers
+    /// another error.
+    fn told_size(&mut self, size: io::Result<u64>) -> Result<Option<u64>, ReadFailed>
+        ensures told { MatchResult size (λ n. result ≡ Ok (Some n))
+            (λ e. MatchResult result (λ n. (n ≡ None) × (error_kind e ≡ NotFound)) (λ _. error_kind e ≢ NotFound)) }
+        ensures missing { (self.old.missing ≤ self.new.missing) × (result ≡ Ok None → Rose self.old.missing self.new.missing) }
+        ensures cause { HasCause self.old.faults self.new.faults result }
     {
-        if let Some(open) = &mut self.held {
-            if open.name.as_str() == name {
-                open.file.seek(SeekFrom::Start(at))?;
-                return open.file.read(into);
-            }
-        }
-        let mut file = std::fs::open(&self.rt, name)?;
-        file.seek(SeekFrom::Start(at))?;
-        let count = file.read(into)?;
-        self.hold(name, file);
-        Ok(count)
-    }
-}
-
-impl<R: rt::Files> Files for RealFiles<R> {
-    ghost holds = { λ _ _. Untold };
-
-    ghost faults = { λ s. s.faults };
-
-    ghost missing = { λ s. s.missing };
-
-    fn size(&mut self, name: &str) -> Result<Option<u64>, ReadFailed> {
-        match self.real_size(name) {
+        match size {
             Ok(size) => Ok(Some(size)),
             Err(e) => {
                 if e.kind() == io::ErrorKind::NotFound {
@@ -284,6 +298,40 @@ impl<R: rt::Files> Files for RealFiles<R> {
                 }
             }
         }
+    }
+
+    fn real_read(&mut self, name: &str, at: u64, into: &mut [u8]) -> io::Result<usize>
+        ensures bound { IfOk result (λ n. n ≤ length into.new) }
+        ensures faults { self.new.faults ≡ self.old.faults }
+        ensures missing { self.new.missing ≡ self.old.missing }
+    {
+        if let Some(open) = &self.held {
+            if open.name.as_str() == name {
+                return read_file(&open.file, at, into);
+            }
+        }
+        let file = std::fs::open(&self.rt, name)?;
+        let count = read_file(&file, at, into)?;
+        self.hold(name, file);
+        Ok(count)
+    }
+}
+
+impl<R: rt::Files> Files for RealFiles<R>
+where
+    R::File: FileExt,
+{
+    ghost holds = { λ _ _. Untold };
+
+    ghost faults = { λ s. s.faults };
+
+    ghost missing = { λ s. s.missing };
+
+    ghost reads = { λ _ _ _ _ _. Unit {0} };
+
+    fn size(&mut self, name: &str) -> Result<Option<u64>, ReadFailed> {
+        let size = self.real_size(name);
+        self.told_size(size)
     }
 
     fn read_at(&mut self, name: &str, at: u64, into: &mut [u8]) -> Result<usize, ReadFailed> {
@@ -302,22 +350,72 @@ impl<R: rt::Files> Files for RealFiles<R> {
 #[cfg(test)]
 mod tests {
     use super::*;
+    use std::cell::Cell;
     use std::test::Fail;
+
+    /// A file whose reads give the place's lowest byte, three times at most. Every other read is interrupted.
+    #[derive(Drop)]
+    struct Slow {
+        reads: Cell<u32>,
+    }
+
+    impl FileExt for Slow {
+        fn read_at(&self, into: &mut [u8], at: u64) -> io::Result<usize> {
+            let reads = self.reads.get();
+            self.reads.set(reads.wrapping_add(1));
+            if reads % 2 == 0 {
+                return Err(io::Error::from(io::ErrorKind::Interrupted));
+            }
+            let count = into.len().min(3);
+            into[..count].fill((at % 256) as u8);
+            Ok(count)
+        }
+
+        fn write_at(&self, _piece: &[u8], _at: u64) -> io::Result<usize> {
+            Err(io::Error::from(io::ErrorKind::Unsupported))
+        }
+    }
+
+    #[test]
+    fn goes_on_where_interrupted(rt: HostRuntime) {
+        let slow = Slow {
+            reads: Cell::new(0),
+        };
+        let mut into = [0u8; 8];
+        assert!(rt; read_file(&slow, 5, &mut into).is_ok_and(|count| count == 3));
+        assert_eq!(rt; into, [5, 5, 5, 0, 0, 0, 0, 0]);
+        assert!(rt; read_file(&slow, 1 << 63, &mut into).is_ok_and(|count| count == 0));
+        assert_eq!(rt; slow.reads.get(), 2);
+    }
+
+    /// The program that runs this is a file of the system, which begins with 0x7f and `ELF`.
+    const SELF: &str = "/proc/self/exe";
 
     #[test]
     fn reads_real_files(rt: HostRuntime) -> Result<(), Fail> {
         let alloc = rt.alloc();
-        let mut into = [0u8; 8];
+        let mut into = [0u8; 3];
         let mut files = RealFiles::new(&rt, alloc);
+        assert_eq!(rt; files.read_at(SELF, 1, &mut into), Ok(3));
+        assert_eq!(rt; into, *b"ELF");
+        assert_eq!(rt;
+            files.size(SELF),
+            Ok(Some(std::fs::metadata(&rt, SELF)?.len()))
+        );
+        assert_eq!(rt; files.read_at(SELF, 2, &mut into[..2]), Ok(2));
+        assert_eq!(rt; into, *b"LFF");
         assert_eq!(rt; files.size("/dev/null"), Ok(Some(0)));
-        assert_eq!(rt; files.read_at("/dev/null", 0, &mut into), Ok(0));
-        assert_eq!(rt; (files.missing, files.faults), (1, 0));
-        assert_eq!(rt; files.read_at("/dev/zero", 8, &mut into), Ok(8));
+        for at in [0, 1 << 47, u64::MAX] {
+            assert_eq!(rt; files.read_at("/dev/null", at, &mut into), Ok(0));
+        }
+        assert_eq!(rt; (files.missing, files.faults), (3, 0));
+        assert_eq!(rt; files.read_at("/dev/zero", 8, &mut into), Ok(3));
         assert_eq!(rt; files.size("/there/is/no/such/file"), Ok(None));
-        assert_eq!(rt; (files.missing, files.faults), (2, 0));
+        assert_eq!(rt; (files.missing, files.faults), (4, 0));
         assert_eq!(rt; files.size("/"), Err(ReadFailed));
         assert_eq!(rt; files.read_at("/", 0, &mut into), Err(ReadFailed));
-        assert_eq!(rt; (files.missing, files.faults), (2, 2));
+        assert_eq!(rt; files.size("/dev/null/below"), Err(ReadFailed));
+        assert_eq!(rt; (files.missing, files.faults), (4, 3));
         Ok(())
     }
 }

@@ -1,6 +1,6 @@
 use crate::files::Files;
-use crate::word::word_at;
-use walk_spec::Supply;
+use crate::fill::word_at;
+use table_reads::Supply;
 
 /// A file whose bytes are memory from address 0, with a count of the reads that failed.
 #[derive(Drop)]
@@ -11,10 +11,10 @@ pub struct Image<'a, F> {
 }
 
 impl<'a, F: Files> Supply for Image<'a, F> {
-    ghost use Rattle.vmsa.specs.ImageSupply.{told_of, Keeps};
+    ghost use Rattle.vmsa.specs.ImageSupply.{memory_of, Keeps};
     ghost use Rattle.vmsa.specs.Keeping.{keeps_here as here, keeps_then as then};
 
-    ghost memory = { λ s. told_of (F.holds s.files.now s.name.now) };
+    ghost memory = { λ s. memory_of (F.holds s.files.now s.name.now) };
 
     ghost faults = { λ s. s.failures };
 

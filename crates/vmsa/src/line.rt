@@ -6,21 +6,28 @@ ghost use Rattle.vmsa.specs.ErrText.{shown, shown_byte};
 use fault_codes::{Class, Stage};
 use std::marker::Model;
 
-/// A text of at most 160 bytes that stands at the end of an array and grows at its front.
+/// The most bytes of a line. The longest line is that of a word, with 83 at most (`word_line`); the rest is room.
+pub const LINE: usize = 160;
+
+/// How many bytes of a name are shown.
+pub const SHOWN: usize = 64;
+
+/// A text of at most LINE bytes that stands at the end of an array and grows at its front.
 #[derive(Drop)]
 pub struct Line {
-    bytes: [u8; 160],
+    bytes: [u8; LINE],
     start: usize,
 }
 
 impl Model for Line {
     ghost use Rattle.std.specs.Prelude.{List, ℕ, drop, ◌≤◌};
+    ghost use Rattle.vmsa.specs.declared.line.TheConstants.{LINE};
 
     ghost Value = { List ℕ };
 
     ghost view = { λ s. drop s.start s.bytes };
 
-    ghost invariant = { λ s. s.start ≤ 160 };
+    ghost invariant = { λ s. s.start ≤ LINE };
 }
 
 #[inline]
@@ -37,10 +44,10 @@ fn glyph(digit: u8) -> u8
 
 /// Writes the digits of a number of at most `most` digits so that they end before `end`. Answers where they start.
 #[inline(always)]
-fn digits_before(bytes: &mut [u8; 160], end: usize, n: u64, radix: u64, most: usize) -> usize
+fn digits_before(bytes: &mut [u8; LINE], end: usize, n: u64, radix: u64, most: usize) -> usize
     requires radix { (2 ≤ radix) × (radix ≤ 16) }
     requires most { (0 < most) × (most ≤ 64) × (n < radix ^ most) }
-    requires end { (most ≤ end) × (end ≤ 160) }
+    requires end { (most ≤ end) × (end ≤ LINE) }
     ensures text { drop result bytes.new ≡ digits radix false n ++ drop end bytes.old }
     ensures room { length (drop result bytes.new) ≤ most + length (drop end bytes.old) }
     ensures starts { end ≤ result + most }
@@ -63,8 +70,8 @@ fn digits_before(bytes: &mut [u8; 160], end: usize, n: u64, radix: u64, most: us
 
 /// Writes a text so that it ends before `end`. Answers where it starts.
 #[inline]
-fn text_before(bytes: &mut [u8; 160], end: usize, text: &[u8]) -> usize
-    requires { (length text.now ≤ end) × (end ≤ 160) }
+fn text_before(bytes: &mut [u8; LINE], end: usize, text: &[u8]) -> usize
+    requires { (length text.now ≤ end) × (end ≤ LINE) }
     ensures text { drop result bytes.new ≡ text.now ++ drop end bytes.old }
     ensures room { length (drop result bytes.new) ≡ length text.now + length (drop end bytes.old) }
     ensures starts { result + length text.now ≡ end }
@@ -86,11 +93,11 @@ fn shown_byte(byte: u8) -> u8
 }
 
 /// Puts a name as it is shown at the front of an array. Answers its length.
-fn shown_name(name: &[u8], room: &mut [u8; 64]) -> usize
-    ensures most { result ≤ 64 }
+fn shown_name(name: &[u8], room: &mut [u8; SHOWN]) -> usize
+    ensures most { result ≤ SHOWN }
     ensures text { take result room.new ≡ shown name.now }
 {
-    let count = name.len().min(64);
+    let count = name.len().min(SHOWN);
     let name = &name[..count];
     for (i, byte) in name.iter().enumerate() {
         room[i] = shown_byte(*byte);
@@ -105,8 +112,8 @@ impl Line {
         ensures { result ≡ [] }
     {
         Line {
-            bytes: [0; 160],
-            start: 160,
+            bytes: [0; LINE],
+            start: LINE,
         }
     }
 
@@ -121,7 +128,7 @@ impl Line {
     /// Puts a text before what stands.
     #[inline]
     pub fn text(&mut self, text: &[u8])
-        requires { length text.now + length self.old ≤ 160 }
+        requires { length text.now + length self.old ≤ LINE }
         ensures text { self.new ≡ text.now ++ self.old }
         ensures room { length self.new ≡ length text.now + length self.old }
     {
@@ -131,7 +138,7 @@ impl Line {
     /// Puts a text that is shown or not.
     #[inline]
     pub fn when(&mut self, is_shown: bool, text: &[u8])
-        requires { length text.now + length self.old ≤ 160 }
+        requires { length text.now + length self.old ≤ LINE }
         ensures text { self.new ≡ (if is_shown then text.now else []) ++ self.old }
         ensures room { length self.new ≤ length text.now + length self.old }
     {
@@ -143,7 +150,7 @@ impl Line {
     /// Puts a byte as `0x` and two hexadecimal digits.
     #[inline]
     pub fn byte(&mut self, n: u8)
-        requires { 4 + length self.old ≤ 160 }
+        requires { 4 + length self.old ≤ LINE }
         ensures text { self.new ≡ byte_text n ++ self.old }
         ensures room { length self.new ≡ 4 + length self.old }
     {
@@ -153,7 +160,7 @@ impl Line {
     /// Puts a number as `0x` and hexadecimal digits without leading zeros.
     #[inline]
     pub fn hex(&mut self, n: u64)
-        requires { 18 + length self.old ≤ 160 }
+        requires { 18 + length self.old ≤ LINE }
         ensures text { self.new ≡ hex_text n ++ self.old }
         ensures room { length self.new ≤ 18 + length self.old }
     {
@@ -164,7 +171,7 @@ impl Line {
     /// Puts a number in decimal.
     #[inline]
     pub fn decimal(&mut self, n: u64)
-        requires { 20 + length self.old ≤ 160 }
+        requires { 20 + length self.old ≤ LINE }
         ensures text { self.new ≡ decimal n ++ self.old }
         ensures room { length self.new ≤ 20 + length self.old }
     {
@@ -174,7 +181,7 @@ impl Line {
     /// Puts a level in decimal, also one below 0.
     #[inline]
     pub fn level(&mut self, level: i8)
-        requires { 21 + length self.old ≤ 160 }
+        requires { 21 + length self.old ≤ LINE }
         ensures text { self.new ≡ level_text level ++ self.old }
         ensures room { length self.new ≤ 21 + length self.old }
     {
@@ -189,7 +196,7 @@ impl Line {
     /// Puts a stage's digit.
     #[inline]
     pub fn stage(&mut self, stage: Stage)
-        requires { 1 + length self.old ≤ 160 }
+        requires { 1 + length self.old ≤ LINE }
         ensures text { self.new ≡ stage_digit stage ++ self.old }
         ensures room { length self.new ≡ 1 + length self.old }
     {
@@ -202,7 +209,7 @@ impl Line {
     /// Puts the word for a class of faults.
     #[inline]
     pub fn class(&mut self, class: Class)
-        requires { 12 + length self.old ≤ 160 }
+        requires { 12 + length self.old ≤ LINE }
         ensures text { self.new ≡ class_text class ++ self.old }
         ensures room { length self.new ≤ 12 + length self.old }
     {
@@ -216,13 +223,13 @@ impl Line {
         }
     }
 
-    /// Puts a name as it is shown: its first 64 bytes, with `?` for each that is not visible.
+    /// Puts a name as it is shown: its first SHOWN bytes, with `?` for each that is not visible.
     pub fn shown(&mut self, name: &[u8])
-        requires { 64 + length self.old ≤ 160 }
+        requires { SHOWN + length self.old ≤ LINE }
         ensures text { self.new ≡ shown name.now ++ self.old }
-        ensures room { length self.new ≤ 64 + length self.old }
+        ensures room { length self.new ≤ SHOWN + length self.old }
     {
-        let mut room = [0u8; 64];
+        let mut room = [0u8; SHOWN];
         let count = shown_name(name, &mut room);
         self.text(&room[..count]);
     }

@@ -205,9 +205,8 @@ pub fn unsupported_line<E: Sink>(err: &mut E, at: &Unsupported) -> Result<(), Wr
 #[cfg(test)]
 mod tests {
     use super::*;
-    use crate::sink::{FailingMemory, QuietMemory};
+    use crate::sink::QuietMemory;
     use fault_codes::Class;
-    use std::test::Fail;
 
     fn put_walk(out: &mut QuietMemory) -> Result<(), WriteFailed> {
         let base = Item {
@@ -230,18 +229,6 @@ mod tests {
         item_lines(out, &[base, word])?;
         absent_line(out, Stage::S1, 2, 0xf_ffff_ffff_fff8, true)?;
         raw_mapped_line(out, 0x5abc)
-    }
-
-    #[test]
-    fn prints_the_lines_of_a_walk(rt: HostRuntime) {
-        let mut out = QuietMemory::new(rt.alloc());
-        let expected = b"access 0x40201abc el1 read\n\
-            s1 base level 0 at 0x1000\n\
-            s2 word level -1 at 0x0 value 0xffffffffffffffff\n\
-            absent stage 1 level 2 at 0xffffffffffff8 s1ptw\n\
-            mapped 0x5abc\n";
-        assert!(rt; put_walk(&mut out).is_ok());
-        assert!(rt; out.bytes.as_slice() == expected.as_slice());
     }
 
     fn put_fault(
@@ -273,19 +260,6 @@ mod tests {
         put_fault(out, Stage::S2, 2, Class::Conflict, false)
     }
 
-    #[test]
-    fn prints_faults(rt: HostRuntime) {
-        let mut out = QuietMemory::new(rt.alloc());
-        let expected = b"fault stage 1 level 0 translation fsc 0x04\n\
-            fault stage 2 level -1 address-size fsc 0x29 s1ptw\n\
-            fault stage 1 level 3 access-flag fsc 0x0b\n\
-            fault stage 1 level 3 permission fsc 0x0f\n\
-            fault stage 1 level 1 external fsc 0x15 s1ptw\n\
-            fault stage 2 level 2 conflict fsc 0x30\n";
-        assert!(rt; put_faults(&mut out).is_ok());
-        assert!(rt; out.bytes.as_slice() == expected.as_slice());
-    }
-
     fn put_refusals(err: &mut QuietMemory) -> Result<(), WriteFailed> {
         static_line(err, b"vmsa: read fault\n")?;
         no_file_line(err, "a b~\u{7f}!")?;
@@ -295,24 +269,30 @@ mod tests {
         )
     }
 
-    #[test]
-    fn shows_a_name(rt: HostRuntime) {
-        let mut err = QuietMemory::new(rt.alloc());
-        let expected = b"vmsa: read fault\n\
-            vmsa: no file a?b~?!\n\
-            vmsa: no file 0123456789abcdef0123456789abcdef0123456789abcdef0123456789abcdef\n";
-        assert!(rt; put_refusals(&mut err).is_ok());
-        assert!(rt; err.bytes.as_slice() == expected.as_slice());
+    fn put_all(out: &mut QuietMemory) -> Result<(), WriteFailed> {
+        put_walk(out)?;
+        put_faults(out)?;
+        put_refusals(out)
     }
 
     #[test]
-    fn a_put_fails(rt: HostRuntime) -> Result<(), Fail> {
-        let mut out = FailingMemory::new(rt.alloc(), vec![in rt.alloc(); (1, 5)]?);
-        assert!(rt; raw_mapped_line(&mut out, 1).is_ok());
-        assert_eq!(rt; raw_mapped_line(&mut out, 2), Err(WriteFailed));
-        assert!(rt; raw_mapped_line(&mut out, 3).is_ok());
-        assert!(rt; out.bytes.as_slice() == b"mapped 0x1\nmappemapped 0x3\n".as_slice());
-        assert_eq!(rt; out.faults, 1);
-        Ok(())
+    fn prints_each_line(rt: HostRuntime) {
+        let mut out = QuietMemory::new(rt.alloc());
+        let expected = b"access 0x40201abc el1 read\n\
+            s1 base level 0 at 0x1000\n\
+            s2 word level -1 at 0x0 value 0xffffffffffffffff\n\
+            absent stage 1 level 2 at 0xffffffffffff8 s1ptw\n\
+            mapped 0x5abc\n\
+            fault stage 1 level 0 translation fsc 0x04\n\
+            fault stage 2 level -1 address-size fsc 0x29 s1ptw\n\
+            fault stage 1 level 3 access-flag fsc 0x0b\n\
+            fault stage 1 level 3 permission fsc 0x0f\n\
+            fault stage 1 level 1 external fsc 0x15 s1ptw\n\
+            fault stage 2 level 2 conflict fsc 0x30\n\
+            vmsa: read fault\n\
+            vmsa: no file a?b~?!\n\
+            vmsa: no file 0123456789abcdef0123456789abcdef0123456789abcdef0123456789abcdef\n";
+        assert!(rt; put_all(&mut out).is_ok());
+        assert!(rt; out.bytes.as_slice() == expected.as_slice());
     }
 }

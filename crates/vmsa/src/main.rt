@@ -1,33 +1,50 @@
 //! Translates an address through an image of memory: `vmsa raw IMAGE TCR TTBR0 VA`.
 #![tactic(auto)]
 
-ghost use Rattle.std.specs.Prelude.{◌≡◌, ◌≢◌, [], MatchResult};
+ghost use Rattle.std.specs.Prelude.{◌≡◌, ◌≢◌, ℕ, [], drop, map, string_bytes, IfOk, MatchResult};
 ghost use Rattle.std.specs.IoError.{error_kind};
+ghost use Rattle.std.specs.Process.{exit_status};
+ghost use Rattle.std.specs.Vec.Iter.{into_iter_items};
 ghost use Rattle.std.specs.declared.io.ErrorKind.TheVariants.{InvalidData};
+ghost use Rattle.vmsa.specs.Held.{reading_of};
+ghost use Rattle.vmsa.specs.Written.{writing_of, GotNothing};
+ghost use Rattle.vmsa.specs.Command.{command_of};
+ghost use Rattle.vmsa.specs.Answers.{IsAnswer};
+ghost use Rattle.vmsa.specs.Status.{number_of_status, Exits};
 
 mod call;
+mod command;
 mod files;
+mod fill;
 mod image;
 mod line;
 mod lines;
 mod numbers;
 mod sink;
 mod status;
-mod word;
-mod words;
 
 use crate::call::vmsa;
-use crate::files::RealFiles;
-use crate::sink::Adapter;
+use crate::files::{Files, RealFiles};
+use crate::sink::{Adapter, Sink};
 use crate::status::Status;
 use std::alloc::Global;
 use std::process::ExitCode;
 use std::{env, io};
 
+/// The words after the first, which is the program's name.
+fn after_name(alloc: Global, all: env::Args) -> io::Result<Vec<String>>
+    ensures { IfOk result (λ words. words.items ≡ drop 1 (into_iter_items all)) }
+{
+    let mut rest = all;
+    let _name = rest.next();
+    Ok(rest.collect(alloc)?)
+}
+
 /// What stands for words that could not be taken: where one isn't UTF-8 no words, which are no command. Want of memory
 /// stays an error.
 fn no_words(alloc: Global, error: io::Error) -> io::Result<Vec<String>>
-    ensures { MatchResult result (λ words. (error_kind error ≡ InvalidData) × (words.items ≡ [])) (λ e. (error_kind error ≢ InvalidData) × (e ≡ error)) }
+    ensures { MatchResult result (λ words. (error_kind error ≡ InvalidData) × (words.items ≡ []))
+        (λ e. (error_kind error ≢ InvalidData) × (e ≡ error)) }
 {
     if error.kind() == io::ErrorKind::InvalidData {
         Ok(Vec::new(alloc))
@@ -36,35 +53,52 @@ fn no_words(alloc: Global, error: io::Error) -> io::Result<Vec<String>>
     }
 }
 
-/// The words after the program's name.
-fn taken_words(rt: &HostRuntime) -> io::Result<Vec<String>> {
-    match env::args(rt) {
-        Ok(words) => Ok(words.skip(1).collect(rt.alloc())?),
-        Err(error) => no_words(rt.alloc(), error),
+/// The words of the command line, without the program's name.
+fn taken_words(alloc: Global, all: io::Result<env::Args>) -> io::Result<Vec<String>>
+    ensures { MatchResult all (λ all. IfOk result (λ words. words.items ≡ drop 1 (into_iter_items all)))
+        (λ error. MatchResult result (λ words. (error_kind error ≡ InvalidData) × (words.items ≡ []))
+        (λ e. (error_kind error ≢ InvalidData) × (e ≡ error))) }
+{
+    match all {
+        Ok(all) => after_name(alloc, all),
+        Err(error) => no_words(alloc, error),
+    }
+}
+
+/// The exit status of the process.
+fn exit_code(status: &Status) -> ExitCode
+    ensures { exit_status result ≡ number_of_status status.now }
+{
+    ExitCode::from(status.number())
+}
+
+/// Does all that the program does, and tells its exit status. Where memory for the words is refused it is that of
+/// NoMemory, and nothing is written.
+fn run<F: Files, O: Sink, E: Sink>(
+    alloc: Global,
+    words: io::Result<Vec<String>>,
+    files: &mut F,
+    out: &mut O,
+    err: &mut E,
+) -> ExitCode
+    ensures { MatchResult words
+        (λ words. Exits (exit_status result)
+        (IsAnswer (reading_of F.holds F.faults F.missing files.old files.new) (writing_of O.written O.faults out.old out.new)
+        (writing_of E.written E.faults err.old err.new) (command_of (map string_bytes words.items))))
+        (λ _. Exits (exit_status result) (λ status. (status ≡ Status.NoMemory) × GotNothing (writing_of O.written O.faults out.old out.new)
+        × GotNothing (writing_of E.written E.faults err.old err.new))) }
+{
+    match words {
+        Ok(words) => exit_code(&vmsa(alloc, words.as_slice(), files, out, err)),
+        Err(_) => exit_code(&Status::NoMemory),
     }
 }
 
 fn main(rt: HostRuntime) -> ExitCode {
-    let Ok(words) = taken_words(&rt) else {
-        return ExitCode::from(Status::NoMemory.number());
-    };
     let alloc = rt.alloc();
+    let words = taken_words(alloc, env::args(&rt));
     let mut out = Adapter::new(rt.stdout());
     let mut err = Adapter::new(rt.stderr());
     let mut files = RealFiles::new(rt, alloc);
-    let status = vmsa(alloc, words.as_slice(), &mut files, &mut out, &mut err);
-    ExitCode::from(status.number())
-}
-
-#[cfg(test)]
-mod tests {
-    use super::*;
-
-    #[test]
-    fn words_that_are_not_utf_8_are_no_command(rt: HostRuntime) {
-        let unread = no_words(rt.alloc(), io::Error::from(io::ErrorKind::InvalidData));
-        assert!(rt; unread.is_ok_and(|words| words.is_empty()));
-        let refused = no_words(rt.alloc(), io::Error::from(io::ErrorKind::OutOfMemory));
-        assert!(rt; refused.is_err());
-    }
+    run(alloc, words, &mut files, &mut out, &mut err)
 }

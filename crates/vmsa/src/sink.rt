@@ -146,26 +146,23 @@ impl Sink for FailingMemory {
 #[cfg(test)]
 mod tests {
     use super::*;
-    use std::fs::OpenOptions;
-    use std::test::Fail;
 
-    #[test]
-    fn writes_to_real_files(rt: HostRuntime) -> Result<(), Fail> {
-        let mut null = Adapter::new(OpenOptions::new().write(true).open(&rt, "/dev/null")?);
-        assert!(rt; null.put(b"taken").is_ok());
-        let mut full = Adapter::new(OpenOptions::new().write(true).open(&rt, "/dev/full")?);
-        assert_eq!(rt; full.put(b"refused"), Err(WriteFailed));
-        assert_eq!(rt; (null.faults, full.faults), (0, 1));
-        Ok(())
+    /// A writer that takes so many bytes at once, and counts what it got and its last byte.
+    #[derive(Drop)]
+    struct Slow {
+        most: usize,
+        count: u64,
+        last: u8,
     }
 
-    /// A writer that takes nothing.
-    #[derive(Drop)]
-    struct Nothing;
-
-    impl io::Write for Nothing {
-        fn write(&mut self, _piece: &[u8]) -> io::Result<usize> {
-            Ok(0)
+    impl io::Write for Slow {
+        fn write(&mut self, piece: &[u8]) -> io::Result<usize> {
+            let taken = piece.len().min(self.most);
+            if taken > 0 {
+                self.last = piece[taken - 1];
+            }
+            self.count = self.count.saturating_add(taken as u64);
+            Ok(taken)
         }
 
         fn flush(&mut self) -> io::Result<()> {
@@ -173,10 +170,27 @@ mod tests {
         }
     }
 
+    fn adapter_of(most: usize) -> Adapter<Slow> {
+        Adapter::new(Slow {
+            most,
+            count: 0,
+            last: 0,
+        })
+    }
+
     #[test]
-    fn a_write_that_takes_nothing_fails(rt: HostRuntime) {
-        let mut sink = Adapter::new(Nothing);
-        assert!(rt; sink.put(b"").is_ok());
-        assert_eq!(rt; sink.put(b"piece"), Err(WriteFailed));
+    fn writes_the_whole_piece_or_fails(rt: HostRuntime) {
+        let mut piece = [b'x'; 100];
+        piece[99] = b'!';
+        let mut sink = adapter_of(7);
+        assert!(rt; sink.put(&piece).is_ok());
+        assert_eq!(rt;
+            (sink.inner.count, sink.inner.last, sink.faults),
+            (100, b'!', 0)
+        );
+        let mut none = adapter_of(0);
+        assert!(rt; none.put(b"").is_ok());
+        assert_eq!(rt; none.put(b"piece"), Err(WriteFailed));
+        assert_eq!(rt; none.faults, 1);
     }
 }

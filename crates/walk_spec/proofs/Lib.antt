@@ -4,5 +4,11 @@ pub mod Finer
 pub mod Walks
 pub mod FreshWalks
 pub mod Worked
-pub mod WorkedOne
-pub mod WorkedTwo
+pub mod WorkedSizes
+pub mod WorkedStarts
+pub mod WorkedLevels
+pub mod WorkedAddresses
+pub mod WorkedRights
+pub mod WorkedDescriptors
+pub mod WorkedItems
+pub mod WorkedRules

@@ -64,15 +64,19 @@ abbrev pub Gives : (S N I V X : Type 0) → Type 1
 Gives S N I V X = S → N → List I → Result V X → S → Type 0
 
 -- A supply gave some items for a question, of which the last is the answer, and then the rest followed.
-abbrev pub RanWord : {N I V R X S : Type 0} → (value : I → V) (gives : Gives S N I V X) (question : N) (rest : I → S → List I → R → S → Type 0) (before : S) (items : List I) (result : R) (after : S) → Type 0
+abbrev pub RanWord : {N I V R X S : Type 0} → (value : I → V) (gives : Gives S N I V X) (question : N)
+    (rest : I → S → List I → R → S → Type 0) (before : S) (items : List I) (result : R) (after : S) → Type 0
 RanWord {I} {S} value gives n go s items r s' =
-    (front : List I) × (i : I) × (rest : List I) × (mid : S) × gives s n (front ++ i ∷ []) (Ok (value i)) mid × (items ≡ (front ++ i ∷ []) ++ rest) × go i mid rest r s'
+    (front : List I) × (i : I) × (rest : List I) × (mid : S)
+    × gives s n (front ++ i ∷ []) (Ok (value i)) mid × (items ≡ (front ++ i ∷ []) ++ rest) × go i mid rest r s'
 
 -- A supply stopped at a question.
-abbrev pub RanStop : {N I V A X S : Type 0} → (gives : Gives S N I V X) (question : N) (before : S) (items : List I) (result : Result A X) (after : S) → Type 0
+abbrev pub RanStop : {N I V A X S : Type 0} → (gives : Gives S N I V X) (question : N) (before : S) (items : List I)
+    (result : Result A X) (after : S) → Type 0
 RanStop {X} gives n s items r s' = (x : X) × gives s n items (Err x) s' × (r ≡ Err x)
 
 -- what a supply did in turn for the questions of a walk, from one state to another
-abbrev pub Ran : {N I V A X S : Type 0} → (value : I → V) (gives : Gives S N I V X) (walk : Ask N I A) (before : S) (items : List I) (result : Result A X) (after : S) → Type 0
+abbrev pub Ran : {N I V A X S : Type 0} → (value : I → V) (gives : Gives S N I V X) (walk : Ask N I A)
+    (before : S) (items : List I) (result : Result A X) (after : S) → Type 0
 Ran value gives (done a) s items r s' = (items ≡ []) × (r ≡ Ok a) × (s' ≡ s)
 Ran value gives (ask n k) s items r s' = RanWord value gives n (λ i. Ran value gives (k i)) s items r s' ⊎ RanStop gives n s items r s'

@@ -49,13 +49,16 @@ smaller a b = if nat_le a b then a else b
 
 -- the leaves of both stages
 abbrev pub piece : (leaf1 : Leaf1) (leaf2 : Leaf2) → Landing
-piece l m = let t = combined l.mem l.sh m.mem m.sh in record { class = smaller l.class m.class; pa = m.pa; perms = perms_of (both_give l.perms m.perms); mem = t.0; sh = t.1 }
+piece l m =
+    let t = combined l.mem l.sh m.mem m.sh in
+    record { class = smaller l.class m.class; pa = m.pa; perms = perms_of (both_give l.perms m.perms); mem = t.0; sh = t.1 }
 
 -- where it is judged, an access that stage 2 doesn't permit is a permission fault
 abbrev pub judged2 : (judged : Bool) (access : Access) (leaf1 : Leaf1) (end : End Leaf2) → End Landing
 judged2 judged a l (stops f) = stops f
 judged2 judged a l (reaches m) =
-    if judged && not (is_allowed2 m.perms a.el a.kind) then stops record { stage = S2; level = m.level; class = Permission; s1ptw = false } else reaches (piece l m)
+    if judged && not (is_allowed2 m.perms a.el a.kind) then stops record { stage = S2; level = m.level; class = Permission; s1ptw = false }
+    else reaches (piece l m)
 
 -- stage 2 of the output of stage 1
 abbrev pub stage2_behind : (asked : Asked) (end : End Leaf1) → Ask Need Item (End Landing)
@@ -92,7 +95,8 @@ is_refused1 c a =
 -- behind the base; its fault is of level 0
 abbrev pub stage1_behind : (asked : Asked) (base : ℕ) → Ask Need Item (End Leaf1)
 stage1_behind q base =
-    if is_too_large q.regime.stage1 base then done (stops (fault1 AddressSize most_left)) else stage1_from q q.regime.stage1.start record { address = base; bits = no_bits }
+    if is_too_large q.regime.stage1 base then done (stops (fault1 AddressSize most_left))
+    else stage1_from q q.regime.stage1.start record { address = base; bits = no_bits }
 
 -- stage 1 while it is on; what is refused before the base is a fault of level 0
 abbrev pub stage1_on : (asked : Asked) → Ask Need Item (End Leaf1)
@@ -100,7 +104,8 @@ stage1_on q = if is_refused1 q.regime.config q.access then done (stops (fault1 T
 
 -- what stage 1 gives while it is off (SCTLR_EL1.M is 0): VA bits 51 to 0, and all rights
 abbrev pub off_leaf : (config : Config) (access : Access) → Leaf1
-off_leaf c a = record { level = pos 0; class = 52; out = a.va % 2 ^ 52; perms = perms_of all_rights; mem = off_type (is_fetch a.kind) c.i; sh = Osh; global = true }
+off_leaf c a =
+    record { level = pos 0; class = 52; out = a.va % 2 ^ 52; perms = perms_of all_rights; mem = off_type (is_fetch a.kind) c.i; sh = Osh; global = true }
 
 -- with stage 1 off: an address of more than 52 bits
 abbrev pub is_refused_off : (config : Config) (access : Access) → Bool

@@ -107,7 +107,8 @@ is_run_mate r w i = serves_run (mapping_of r w.stage w.left i.value) (sizes_of r
 -- a base of the stage with its start level, a multiple of the start table's size below 2 ^ 52
 abbrev pub fits_base : (sizes : Sizes) (stage : Stage) (item : Item) → Bool
 fits_base n s i =
-    is_base i.what && stage_eq i.stage s && level_eq i.level (level_of n.start) && (i.pa == i.value) && (i.value % table_size n.granule n.input n.start == 0) && nat_lt i.value (2 ^ 52)
+    is_base i.what && stage_eq i.stage s && level_eq i.level (level_of n.start)
+    && (i.pa == i.value) && (i.value % table_size n.granule n.input n.start == 0) && nat_lt i.value (2 ^ 52)
 
 -- a word of the stage and level, at the very place or of its run
 abbrev pub fits_word : (regime : Regime) (need : WordNeed) (item : Item) → Bool

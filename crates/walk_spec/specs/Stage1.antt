@@ -50,7 +50,15 @@ abbrev pub leaf1_of : (regime : Regime) (entry : Entry1) (place : ℕ) (fields :
 leaf1_of r e place f =
     let class = leaf_class r.stage1.granule r.stage1.input e.left f.out f.contiguous place in
     let dirty = r.config.ha1 && r.config.hd1 in
-    record { level = level_of e.left; class = class; out = goes_to f.out class e.address; perms = perms_of (rights1 f.bits e.table.bits dirty r.config.wxn); mem = mair_of (attr_byte r.config.mair f.attr_index); sh = share_of f.sh; global = f.global }
+    record {
+      level = level_of e.left;
+      class = class;
+      out = goes_to f.out class e.address;
+      perms = perms_of (rights1 f.bits e.table.bits dirty r.config.wxn);
+      mem = mair_of (attr_byte r.config.mair f.attr_index);
+      sh = share_of f.sh;
+      global = f.global;
+    }
 
 -- where a leaf is judged, an access that stage 1 doesn't permit is a permission fault
 abbrev pub judged1 : (config : Config) (judged : Bool) (access : Access) (left : ℕ) (uxn : Bool) (leaf : Leaf1) → Step Leaf1 Table1
@@ -64,7 +72,8 @@ step1_by q e place (Table table bits) =
 step1_by q e place (Leaf out attr_index bits sh af global contiguous) =
     if is_too_large q.regime.stage1 out then Stopped (fault1 AddressSize e.left)
     else (if not (af || q.regime.config.ha1) then Stopped (fault1 AccessFlag e.left)
-    else judged1 q.regime.config q.judged q.access e.left (is_uxn bits e.table.bits) (leaf1_of q.regime e place record { out = out; attr_index = attr_index; sh = sh; bits = bits; global = global; contiguous = contiguous }))
+    else (let fields : Fields1 = record { out = out; attr_index = attr_index; sh = sh; bits = bits; global = global; contiguous = contiguous } in
+    judged1 q.regime.config q.judged q.access e.left (is_uxn bits e.table.bits) (leaf1_of q.regime e place fields)))
 
 -- what a word leads to that stands at a physical place
 unfoldable pub step1 : (asked : Asked) (entry : Entry1) (place value : ℕ) → Step Leaf1 Table1

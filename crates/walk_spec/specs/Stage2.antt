@@ -42,7 +42,14 @@ abbrev pub leaf2_of : (asked : Asked2) (left place : ℕ) (fields : Fields2) →
 leaf2_of q left place f =
     let class = leaf_class q.sizes.granule q.sizes.input left f.out f.contiguous place in
     let dirty = q.config.ha2 && q.config.hd2 in
-    record { level = level_of left; class = class; pa = goes_to f.out class q.ipa; perms = perms_of (rights2 f.read f.write f.xn f.dbm dirty); mem = s2_attr_of f.mem_attr; sh = share_of f.sh }
+    record {
+      level = level_of left;
+      class = class;
+      pa = goes_to f.out class q.ipa;
+      perms = perms_of (rights2 f.read f.write f.xn f.dbm dirty);
+      mem = s2_attr_of f.mem_attr;
+      sh = share_of f.sh;
+    }
 
 -- an invalid word is a translation fault; an address at or above the output size is an address size fault; a leaf whose
 -- access flag is 0, and hardware doesn't set it, is an access flag fault
@@ -52,7 +59,16 @@ step2_by q left place (Table table) = if is_too_large q.sizes table then Stopped
 step2_by q left place (Leaf out mem_attr read write xn sh af dbm contiguous) =
     if is_too_large q.sizes out then Stopped (fault2 q AddressSize left)
     else (if not (af || q.config.ha2) then Stopped (fault2 q AccessFlag left)
-    else Reached (leaf2_of q left place record { out = out; mem_attr = mem_attr; xn = xn; sh = sh; read = read; write = write; dbm = dbm; contiguous = contiguous }))
+    else Reached (leaf2_of q left place record {
+      out = out;
+      mem_attr = mem_attr;
+      xn = xn;
+      sh = sh;
+      read = read;
+      write = write;
+      dbm = dbm;
+      contiguous = contiguous;
+    }))
 
 -- what a word leads to that stands at a place
 unfoldable pub step2 : (asked : Asked2) (left place value : ℕ) → Step Leaf2 ℕ
@@ -61,7 +77,8 @@ step2 q left place v = step2_by q left place (means2_of q.config left v)
 -- one level
 abbrev pub level2 : (asked : Asked2) (left table : ℕ) → Ask Need Item (Step Leaf2 ℕ)
 level2 q left table =
-    ask (word record { stage = S2; left = left; place = place_of q.sizes left table q.ipa; s1ptw = q.s1ptw; address = q.ipa; table = table }) (λ i. done (step2 q left i.pa i.value))
+    let place = place_of q.sizes left table q.ipa in
+    ask (word record { stage = S2; left = left; place = place; s1ptw = q.s1ptw; address = q.ipa; table = table }) (λ i. done (step2 q left i.pa i.value))
 
 -- from a given table down; the last level has no tables
 abbrev pub walk2_from : (asked : Asked2) (left table : ℕ) → Ask Need Item (End Leaf2)

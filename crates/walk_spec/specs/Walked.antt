@@ -51,7 +51,8 @@ result_of (lacks (word w)) = Err (Absent w.stage (level_of w.left) w.place w.s1p
 
 -- A walk appended what it took, each item as it may be read, and answers as it ended. (More than six parameters: how
 -- items are read, what the supply tells, the walk, the trail before and after, and the answer.)
-pub record Walked {L : Type 0} (reads : Need → Item → Type 0) (told : Told) (failed : Type 0) (t : Ask Need Item (End L)) (old new : List Item) (r : Result L Stop) : Type 0 where
+pub record Walked {L : Type 0} (reads : Need → Item → Type 0) (told : Told) (failed : Type 0) (t : Ask Need Item (End L))
+    (old new : List Item) (r : Result L Stop) : Type 0 where
   pub more : List Item
   pub end : Fed Need (End L)
   pub grown : new ≡ old ++ more
@@ -69,7 +70,8 @@ pub record WalkedWhole (regs : Regs) (a : Access) (moment : ℕ) (told : Told) (
 
 -- Where the memory is told and the supply did not fail, items and outcome are those of the fresh walk.
 abbrev pub IsFresh : (regs : Regs) (access : Access) (moment : ℕ) (told : Told) (failed : Type 0) (items : List Item) (outcome : Outcome) → Type 0
-IsFresh regs a k told failed items o = (m : Memory) → told ≡ Some m → (failed → ⊥) → (items ≡ fresh_items m regs a k) × (o ≡ fresh_outcome m regs a k)
+IsFresh regs a k told failed items o =
+    (m : Memory) → told ≡ Some m → (failed → ⊥) → (items ≡ fresh_items m regs a k) × (o ≡ fresh_outcome m regs a k)
 
 -- a stop that has a line of its own: its fault has a status code, and it is no conflict
 abbrev pub HasLineStop : (stop : Stop) → Type 0

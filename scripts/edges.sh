@@ -1,0 +1,181 @@
+#!/usr/bin/env bash
+# Runs the built program where no contract reaches: real files, streams and words. Each case has the exact text of
+# standard output and of standard error, and the exit status. The last line is `edges: N passed, M failed`.
+cd "$(dirname "$0")/../crates/vmsa" || exit 1
+program=$PWD/out/vmsa
+image=$PWD/data/image
+[ -x "$program" ] || rt run -- raw data/image 0x10 0x1000 0x40201abc >/dev/null || { echo "edges: the program could not be built"; exit 1; }
+work=$(mktemp -d) || exit 1
+trap 'rm -rf "$work"' EXIT
+chmod 755 "$work"
+cp "$program" "$work/vmsa" && cp "$image" "$work/image" && cd "$work" || exit 1
+export LC_ALL=C
+passed=0
+failed=0
+usage=$'usage: vmsa raw IMAGE TCR TTBR0 VA\n'
+read_fault=$'vmsa: read fault\n'
+
+told() { # NAME IS_RIGHT
+    if [ "$2" = yes ]; then passed=$((passed + 1)); else failed=$((failed + 1)); echo "failed: $1"; fi
+}
+
+# Compares a run's status and the files out and err with what is expected.
+compare() { # NAME STATUS EXPECTED_STATUS EXPECTED_OUT EXPECTED_ERR
+    printf '%s' "$4" >expected_out
+    printf '%s' "$5" >expected_err
+    if [ "$2" = "$3" ] && cmp -s out expected_out && cmp -s err expected_err; then
+        told "$1" yes
+    else
+        told "$1" no
+        echo "  status $2, expected $3"
+        diff expected_out out
+        diff expected_err err
+    fi
+}
+
+runs() { # NAME STATUS OUT ERR WORD..
+    local name=$1 status=$2 out=$3 err=$4
+    shift 4
+    timeout 20 ./vmsa "$@" >out 2>err
+    compare "$name" $? "$status" "$out" "$err"
+}
+
+# A text of two lines and the last one.
+absent() { # VA BASE PLACE
+    printf 'access %s el1 read\ns1 base level %s\nabsent stage 1 level %s' "$1" "$2" "$3"
+}
+nothing_there() { # NAME FILE TCR TTBR0 VA "LEVEL at BASE" "LEVEL at PLACE"
+    runs "$1" 0 "$(absent "$5" "$6" "$7")"$'\n' '' raw "$2" "$3" "$4" "$5"
+}
+
+mapped='access 0x40201abc el1 read
+s1 base level 0 at 0x1000
+s1 word level 0 at 0x1000 value 0x2003
+s1 word level 1 at 0x2008 value 0x3003
+s1 word level 2 at 0x3008 value 0x4003
+s1 word level 3 at 0x4008 value 0x5403
+mapped 0x5abc
+'
+zero='access 0x0 el1 read
+s1 base level 0 at 0x0
+s1 word level 0 at 0x0 value 0x0
+fault stage 1 level 0 translation fsc 0x04
+'
+
+# Words.
+runs 'the stored image' 0 "$mapped" '' raw image 0x10 0x1000 0x40201abc
+runs 'no words' 2 '' "$usage"
+runs 'an unknown command' 2 '' "$usage" walk image 0x10 0x1000 0x0
+runs 'a word that is not UTF-8' 2 '' "$usage" raw image 0x10 0x1000 $'\xff'
+runs 'a name that is not UTF-8' 2 '' "$usage" raw $'imag\xe9' 0x10 0x1000 0x0
+runs 'an unsupported field' 4 '' $'vmsa: raw: unsupported TCR_EL1.DS\n' raw image 0x800000000000010 0x1000 0x0
+
+# Words that memory is refused for: a limit at which the program starts, and its words don't fit.
+if command -v prlimit >/dev/null; then
+    words=()
+    for _ in {1..15}; do words+=("$(printf 'a%.0s' {1..120000})"); done
+    refused=no
+    right=yes
+    for limit in {40..90..5}; do
+        prlimit --as="${limit}00000" ./vmsa "${words[@]}" >out 2>err
+        case $? in
+        7) refused=yes; [ -s out ] || [ -s err ] && right=no ;;
+        2) [ "$(cat out err)"$'\n' = "$usage" ] || right=no ;;
+        127) [ -s out ] && right=no ;;
+        *) right=no ;;
+        esac
+    done
+    [ $right = yes ] && told 'memory for the words is refused' $refused || told 'memory for the words is refused' no
+else
+    echo 'edges: no prlimit, so want of memory for the words was not tried'
+fi
+
+# Sizes.
+: >empty
+truncate -s 7 seven
+truncate -s 8 eight
+nothing_there 'a file of size 0' empty 0x10 0x0 0x0 '0 at 0x0' '0 at 0x0'
+nothing_there 'a file of size 7' seven 0x10 0x0 0x0 '0 at 0x0' '0 at 0x0'
+runs 'a file of size 8' 0 "$zero" '' raw eight 0x10 0x0 0x0
+nothing_there 'behind a file of size 8' eight 0x10 0x0 0x8000000000 '0 at 0x0' '0 at 0x8'
+if truncate -s 1099511627776 large 2>/dev/null; then
+    runs 'the last word of a file of size 2^40' 0 'access 0xff8000000000 el1 read
+s1 base level 0 at 0xfffffff000
+s1 word level 0 at 0xfffffffff8 value 0x0
+fault stage 1 level 0 translation fsc 0x04
+' '' raw large 0x500000010 0xfffffff000 0xff8000000000
+    nothing_there 'behind a file of size 2^40' large 0x500000010 0x10000000000 0x0 '0 at 0x10000000000' '0 at 0x10000000000'
+else
+    told 'a file of size 2^40 (this file system has none)' yes
+fi
+
+# Places.
+nothing_there 'the place 2^32' image 0x500000010 0x100000000 0x0 '0 at 0x100000000' '0 at 0x100000000'
+nothing_there 'the place 2^43' image 0x500000010 0x80000000000 0x0 '0 at 0x80000000000' '0 at 0x80000000000'
+nothing_there 'the place 2^47' "$image" 0x500000010 0x800000000000 0x0 '0 at 0x800000000000' '0 at 0x800000000000'
+nothing_there 'the place 2^52 - 8' image 0x600004016 0xffffffff003c 0x3ffe0000000 '2 at 0xfffffffff0000' '2 at 0xffffffffffff8'
+truncate -s 5G sparse
+printf '\x03\x20\0\0\0\0\0\0' | dd of=sparse bs=8 seek=536870912 conv=notrunc status=none
+runs 'a word at the place 2^32' 0 'access 0x0 el1 read
+s1 base level 0 at 0x100000000
+s1 word level 0 at 0x100000000 value 0x2003
+s1 word level 1 at 0x2000 value 0x0
+fault stage 1 level 1 translation fsc 0x05
+' '' raw sparse 0x500000010 0x100000000 0x0
+
+# Names.
+mkdir folder
+name=$(printf 'a%.0s' {1..256})
+runs 'a missing file' 3 '' $'vmsa: no file missing\n' raw missing 0x10 0x1000 0x0
+runs 'a missing folder' 3 '' $'vmsa: no file missing/image\n' raw missing/image 0x10 0x1000 0x0
+runs 'a name with a blank' 3 '' $'vmsa: no file a?b\n' raw 'a b' 0x10 0x1000 0x0
+runs 'a long name that is missing' 3 '' "vmsa: no file ${name:0:64}"$'\n' raw "${name:0:255}" 0x10 0x1000 0x0
+runs 'a name over 255 bytes' 5 '' "$read_fault" raw "$name" 0x10 0x1000 0x0
+runs 'a name below a file' 5 '' "$read_fault" raw image/below 0x10 0x1000 0x0
+runs 'a folder' 5 '' "$read_fault" raw folder 0x10 0x1000 0x0
+
+# A file that may not be read. Root may read all.
+install -m 000 image denied
+if [ "$(id -u)" != 0 ]; then
+    runs 'permission denied' 5 '' "$read_fault" raw denied 0x10 0x1000 0x40201abc
+elif setpriv --reuid 65534 --regid 65534 --clear-groups true 2>/dev/null; then
+    setpriv --reuid 65534 --regid 65534 --clear-groups ./vmsa raw denied 0x10 0x1000 0x40201abc >out 2>err
+    compare 'permission denied' $? 5 '' "$read_fault"
+else
+    runs 'permission denied (as root nothing is denied)' 0 "$mapped" '' raw denied 0x10 0x1000 0x40201abc
+    echo 'edges: root may read every file, so a denied one was not tried'
+fi
+
+# Devices and pipes as files.
+mkfifo fifo
+exec 3<>fifo
+runs 'a pipe with a writer' 5 '' "$read_fault" raw fifo 0x10 0x0 0x0
+exec 3>&-
+runs 'a device without end' 0 "$zero" '' raw /dev/zero 0x10 0x0 0x0
+nothing_there 'a device without bytes' /dev/null 0x10 0x0 0x0 '0 at 0x0' '0 at 0x0'
+
+# Streams.
+: >out; : >err
+./vmsa raw image 0x10 0x1000 0x40201abc >/dev/full 2>err
+compare 'standard output is full' $? 6 '' ''
+: >out; : >err
+./vmsa raw missing 0x10 0x1000 0x0 >out 2>/dev/full
+compare 'standard error is full' $? 6 '' ''
+: >out; : >err
+./vmsa raw image 0x10 0x1000 0x40201abc >&- 2>err
+compare 'standard output is closed' $? 6 '' ''
+: >out; : >err
+./vmsa raw missing 0x10 0x1000 0x0 >out 2>&-
+compare 'standard error is closed' $? 6 '' ''
+: >out; : >err
+./vmsa raw image 0x10 0x1000 0x40201abc >out 2>&-
+compare 'standard error is closed and not needed' $? 0 "$mapped" ''
+: >out; : >err
+mkfifo pipe
+exec 3<>pipe 4>pipe 3>&-
+./vmsa raw image 0x10 0x1000 0x40201abc >&4 2>err
+compare 'a pipe that nobody reads' $? 6 '' ''
+exec 4>&-
+
+echo "edges: $passed passed, $failed failed"
+[ "$failed" = 0 ]
