@@ -283,35 +283,35 @@ module _ (r : Regime) (j : Bool) where
     Law1 = Twins (fits r) (SameRegion r) (down1 a) (down1 b) (measure1 a b)
 
     module _ (left : ℕ) (t : Table1) where
-      abbrev px : ℕ
-      px = place_of r.stage1 left t.address (untagged a.va)
+      abbrev place_a : ℕ
+      place_a = place_of r.stage1 left t.address (untagged a.va)
 
-      abbrev py : ℕ
-      py = place_of r.stage1 left t.address (untagged b.va)
+      abbrev place_b : ℕ
+      place_b = place_of r.stage1 left t.address (untagged b.va)
 
-      abbrev ex : Entry1
-      ex = entry1 (under r j a) left t
+      abbrev entry_a : Entry1
+      entry_a = entry1 (under r j a) left t
 
-      abbrev ey : Entry1
-      ey = entry1 (under r j b) left t
+      abbrev entry_b : Entry1
+      entry_b = entry1 (under r j b) left t
 
       abbrev AlikeAt : Item → ℕ → ℕ → Type 0
       AlikeAt i p p' = Alike r.stage1 left i.pa (mapping_of r S1 left i.value) p p'
 
-      read_shift : (rest : List Item) (i : Item) (k : ℕ) (l : Leaf2) → 12 ≤ l.class → l.pa ≡ goes_to l.pa l.class px → AlikeAt i px py → k ≤ class1 left i → Same1 a b k → is_readable r.config l ≡ true → Takes (fits r) (one_word (entry_at r ex l.pa)) rest (done (Ok i)) → InStep (fits r) (SameRegion r) (read1_by r.config ex (reaches l)) (read1_by r.config ey (reaches (moved2 l py))) rest (done (Ok i)) (done (Ok i))
+      read_shift : (rest : List Item) (i : Item) (k : ℕ) (l : Leaf2) → 12 ≤ l.class → l.pa ≡ goes_to l.pa l.class place_a → AlikeAt i place_a place_b → k ≤ class1 left i → Same1 a b k → is_readable r.config l ≡ true → Takes (fits r) (one_word (entry_at r entry_a l.pa)) rest (done (Ok i)) → InStep (fits r) (SameRegion r) (read1_by r.config entry_a (reaches l)) (read1_by r.config entry_b (reaches (moved2 l place_b))) rest (done (Ok i)) (done (Ok i))
       read_shift rest i k l w here al n s ok h =
-          let same : py ≡ px → goes_to l.pa l.class py ≡ l.pa = λ e. rw e (sym here) in
-          let line : py / line_of r.stage1.granule left ≡ px / line_of r.stage1.granule left → goes_to l.pa l.class py / line_of r.stage1.granule left ≡ l.pa / line_of r.stage1.granule left = λ e. line_along r.stage1.granule left (goes_to l.pa l.class) px py (granule1 r f) (λ m u v. goes_to_above l.pa l.class m py px (omega (arith, w, u)) v) e ∙ ap (λ z. z / line_of r.stage1.granule left) (sym here) in
-          let al' = alike_through r.stage1 left i.pa (mapping_of r S1 left i.value) px py l.pa (goes_to l.pa l.class py) same line al in
-          rw ok (word_flat r S1 left l.pa (goes_to l.pa l.class py) false (untagged a.va) (untagged b.va) t.address t.address k rest i al' n s h)
+          let same : place_b ≡ place_a → goes_to l.pa l.class place_b ≡ l.pa = λ e. rw e (sym here) in
+          let line : place_b / line_of r.stage1.granule left ≡ place_a / line_of r.stage1.granule left → goes_to l.pa l.class place_b / line_of r.stage1.granule left ≡ l.pa / line_of r.stage1.granule left = λ e. line_along r.stage1.granule left (goes_to l.pa l.class) place_a place_b (granule1 r f) (λ m u v. goes_to_above l.pa l.class m place_b place_a (omega (arith, w, u)) v) e ∙ ap (λ z. z / line_of r.stage1.granule left) (sym here) in
+          let al' = alike_through r.stage1 left i.pa (mapping_of r S1 left i.value) place_a place_b l.pa (goes_to l.pa l.class place_b) same line al in
+          rw ok (word_flat r S1 left l.pa (goes_to l.pa l.class place_b) false (untagged a.va) (untagged b.va) t.address t.address k rest i al' n s h)
 
-      word_shift_by : (vm : Bool) (items : List Item) (i : Item) (k : ℕ) → AlikeAt i px py → k ≤ class1 left i → Same1 a b k → Takes (fits r) (had_by r ex vm) items (done (Ok i)) → InStep (fits r) (SameRegion r) (had_by r ex vm) (had_by r ey vm) items (done (Ok i)) (done (Ok i))
-      word_shift_by false items i k al n s h = word_flat r S1 left px py false (untagged a.va) (untagged b.va) t.address t.address k items i al n s h
+      word_shift_by : (vm : Bool) (items : List Item) (i : Item) (k : ℕ) → AlikeAt i place_a place_b → k ≤ class1 left i → Same1 a b k → Takes (fits r) (had_by r entry_a vm) items (done (Ok i)) → InStep (fits r) (SameRegion r) (had_by r entry_a vm) (had_by r entry_b vm) items (done (Ok i)) (done (Ok i))
+      word_shift_by false items i k al n s h = word_flat r S1 left place_a place_b false (untagged a.va) (untagged b.va) t.address t.address k items i al n s h
       word_shift_by true items i k al n s h =
-          let d = deep r ex items i h in
-          let q = reached2 r true px py f d.0 d.2 d.4 in
-          let same : px / 2 ^ d.2.class ≡ py / 2 ^ d.2.class = coarser px py 12 d.2.class q.least (sym (alike_page r.stage1 left i.pa (mapping_of r S1 left i.value) px py (granule1 r f) al)) in
-          let first = step_after (fits r) (SameRegion r) (walk2 (asked2 r true px)) (walk2 (asked2 r true py)) (read1_by r.config ex) (read1_by r.config ey) d.0 _ _ (q.shift same) in
+          let d = deep r entry_a items i h in
+          let q = reached2 r true place_a place_b f d.0 d.2 d.4 in
+          let same : place_a / 2 ^ d.2.class ≡ place_b / 2 ^ d.2.class = coarser place_a place_b 12 d.2.class q.least (sym (alike_page r.stage1 left i.pa (mapping_of r S1 left i.value) place_a place_b (granule1 r f) al)) in
+          let first = step_after (fits r) (SameRegion r) (walk2 (asked2 r true place_a)) (walk2 (asked2 r true place_b)) (read1_by r.config entry_a) (read1_by r.config entry_b) d.0 _ _ (q.shift same) in
           rw d.3 (step_on (fits r) (SameRegion r) _ _ d.0 d.1 _ _ _ _ first (read_shift d.1 i k d.2 q.least q.here al n s d.5 d.6))
 
       -- a word of stage 1 serves both accesses, with the items of stage 2 on the way to it
@@ -323,7 +323,7 @@ module _ (r : Regime) (j : Bool) where
           let e : Down record { address = n; bits = joined t.bits bits } ≡ Down next = sym (d j a t) ∙ h in
           let q : record { address = n; bits = joined t.bits bits } ≡ next = cc in
           (d j b t ∙ e, λ below w. aligned_page r.stage1.granule below next.address (granule1 r f) (rw (ap (λ z. z.address) q) at al))
-      tables1 i next (leaf v m d) h = absurd (judged_not_down r.config j a left (is_uxn v.bits t.bits) (leaf1_of r ex i.pa v) next (sym (d j a t) ∙ h))
+      tables1 i next (leaf v m d) h = absurd (judged_not_down r.config j a left (is_uxn v.bits t.bits) (leaf1_of r entry_a i.pa v) next (sym (d j a t) ∙ h))
       tables1 i next (fault k d) h = (let e : Stopped (fault1 k left) ≡ Down next = sym (d j a t) ∙ h in absurd cc)
 
     pub law1 : Law1
