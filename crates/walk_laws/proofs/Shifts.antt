@@ -1,4 +1,4 @@
--- The law Shift, as it is stated, from walks in step.
+-- The laws as they are stated, from walks in step.
 use Rattle.std.proofs.Common.{◌+◌, ◌-◌, ◌≡◌, ℕ, ◌/◌, ◌%◌, ◌^◌, ◌≤◌, List, [], refl, sym, ap, ◌∙◌, arith, Bool, false, subst}
 use Rattle.std.specs.Prelude.{◌==◌, if◌then◌else◌}
 use Rattle.bitwords.specs.Fields.{bit, bits_of}

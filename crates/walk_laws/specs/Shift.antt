@@ -1,5 +1,5 @@
--- The law Shift: the items of a walk serve every address of the region that its last word speaks of. The register fields
--- and the items are the same on both sides. This project's own law, of the definitions alone.
+-- Which addresses the items of a walk serve: each address of the region that its last word speaks of. The register fields
+-- and the items are the same for both addresses. These are this project's own laws, of the definitions alone.
 use Rattle.std.specs.Prelude.{◌≡◌, ℕ, ◌/◌, ◌^◌, Bool, true, false, List, [], ◌∷◌, ◌++◌, Option, pos}
 use Rattle.bitwords.specs.Fields.{bits_of}
 use Rattle.geometry.specs.Tables.{class_of, level_of}
