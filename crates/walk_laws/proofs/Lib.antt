@@ -1,0 +1,14 @@
+pub mod Numbers
+pub mod Stepping
+pub mod Places
+pub mod Levels
+pub mod Roots
+pub mod Sound
+pub mod Aligned
+pub mod Stage2
+pub mod Tables2
+pub mod Stage1
+pub mod Landings
+pub mod Tables1
+pub mod Shifts
+pub mod Worked

@@ -1,0 +1,15 @@
+pub use Rattle.bitwords.specs.Fields
+pub use Rattle.geometry.specs.Tables
+pub use Rattle.geometry.specs.Runs
+pub use Rattle.sysregs.specs.Sides
+pub use Rattle.descriptors.specs.Meaning
+pub use Rattle.table_reads.specs.Numbers
+pub use Rattle.walk_spec.specs.Ask
+pub use Rattle.walk_spec.specs.Needs
+pub use Rattle.walk_spec.specs.Steps
+pub use Rattle.walk_spec.specs.Stage2
+pub use Rattle.walk_spec.specs.Stage1
+pub use Rattle.walk_spec.specs.BothStages
+pub mod Regions
+pub mod Moved
+pub mod Shift
