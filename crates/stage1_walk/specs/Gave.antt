@@ -48,7 +48,8 @@ answer_of (Err stop) = Err stop
 
 -- A walk from a table with so many levels left appended what the supply gave for its entries in turn, and answers as it
 -- ended. (More than six parameters: the supply and the trail before and after, the walk, and the answer.)
-pub record Walked1 {S : Type 0} (gives : S → ℤ → ℕ → List Item → Result ℕ Stop → S → Type 0) (q : Asked) (left : ℕ) (table : Table1) (before : S) (old new : List Item) (result : Result Leaf1 Stop) (after : S) : Type 0 where
+pub record Walked1 {S : Type 0} (gives : S → ℤ → ℕ → List Item → Result ℕ Stop → S → Type 0) (q : Asked) (left : ℕ)
+    (table : Table1) (before : S) (old new : List Item) (result : Result Leaf1 Stop) (after : S) : Type 0 where
   pub more : List Item
   pub end : Result (End Leaf1) Stop
   pub grown : new ≡ old ++ more

@@ -101,7 +101,8 @@ pub fn walk1<const G: u32, S: Supply1>(
     requires room { length trail.old + most_per_word * (left_below from.now.level + 1) ≤ most_items }
     ensures most { length trail.new ≤ length trail.old + most_per_word * (left_below from.now.level + 1) }
     ensures code { IfErr result HasCode }
-    ensures walked { Walked1 S.gives (asked config.now true access.now) (left_below from.now.level) (table_from from.now) supply.old trail.old trail.new result supply.new }
+    ensures walked { Walked1 S.gives (asked config.now true access.now) (left_below from.now.level) (table_from from.now)
+        supply.old trail.old trail.new result supply.new }
 {
     let side = sysregs::side(access.va);
     let under = Under {

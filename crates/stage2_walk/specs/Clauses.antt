@@ -7,7 +7,7 @@ use Rattle.trails.specs.declared.outcome.Stop.{Stop}
 use Rattle.table_reads.specs.Numbers.{sizes2}
 use Rattle.table_reads.specs.Memory.{Told}
 use Rattle.walk_spec.specs.declared.leaf.Leaf2.{Leaf2}
-use Rattle.walk_spec.specs.Stage2.{walk2_from}
+use Rattle.walk_spec.specs.Stage2.{Asked2, walk2_from}
 use Rattle.walk_spec.specs.Walked.{Walked, ReadsWord}
 use Rattle.stage2_walk.specs.declared.step.Under.{Under}
 use Rattle.stage2_walk.specs.declared.walk.From2.{From2}
@@ -35,7 +35,11 @@ pub record AskedFrom : Type 0 where
   pub moment : ℕ
   pub from : From2
 
--- the same from a given table, with the numbers of the register fields
+-- the same as a walk is asked, with the numbers of the register fields
+abbrev pub asked2_from : (asked : AskedFrom) → Asked2
+asked2_from q = record { config = q.config; sizes = sizes2 q.config; s1ptw = q.s1ptw; ipa = q.ipa }
+
+-- the same walk from a given table
 abbrev pub WalkedFrom : (told : Told) (failed : Type 0) (asked : AskedFrom) (old new : List Item) (result : Result Leaf2 Stop) → Type 0
 WalkedFrom told failed q old new r =
-    Walked (ReadsWord q.moment told) told failed (walk2_from (record { config = q.config; sizes = sizes2 q.config; s1ptw = q.s1ptw; ipa = q.ipa }) (left_below q.from.level) q.from.base) old new r
+    Walked (ReadsWord q.moment told) told failed (walk2_from (asked2_from q) (left_below q.from.level) q.from.base) old new r

@@ -38,7 +38,8 @@ fn read_word<S: Supply>(
     ensures same { S.memory supply.new ≡ S.memory supply.old }
     ensures later { S.faults supply.old ≤ S.faults supply.new }
     ensures kept { S.keeps supply.old supply.new }
-    ensures read { HasRead (S.memory supply.old) (Rose (S.faults supply.old) (S.faults supply.new)) (walker_under under.now) (level_of left) place trail.old trail.new result }
+    ensures read { HasRead (S.memory supply.old) (Rose (S.faults supply.old) (S.faults supply.new)) (walker_under under.now)
+        (level_of left) place trail.old trail.new result }
 {
     read(&under.walker(), level(left), place, supply, trail)
 }
@@ -95,7 +96,8 @@ pub fn walk2<const G: u32, S: Supply>(
     ensures most { length trail.new ≤ length trail.old + left_below from.now.level + 1 }
     ensures line { IfErr result HasLineStop }
     ensures sound { IfOk result (IsSoundLeaf ipa) }
-    ensures walked { WalkedFrom (S.memory supply.old) (Rose (S.faults supply.old) (S.faults supply.new)) (record { config = config.now; ipa = ipa; s1ptw = ptw; moment = now; from = from.now }) trail.old trail.new result }
+    ensures walked { WalkedFrom (S.memory supply.old) (Rose (S.faults supply.old) (S.faults supply.new))
+        (record { config = config.now; ipa = ipa; s1ptw = ptw; moment = now; from = from.now }) trail.old trail.new result }
 {
     let under = Under {
         config,

@@ -80,7 +80,8 @@ pub record DeepGave {S : Type 0} (memory : S → Told) (faults : S → ℕ) (kee
   pub later : faults s.supply.now ≤ faults t.supply.now
   pub kept : keeps s.supply.now t.supply.now
   pub had : (side : Side) (e : Entry1) → level_of e.left ≡ level → e.place ≡ place
-      → HadWord s.under.now (memory s.supply.now) (Rose (faults s.supply.now) (faults t.supply.now)) (word_of (regime_of (config_of s.under.now) side) e) items r
+      → HadWord s.under.now (memory s.supply.now) (Rose (faults s.supply.now) (faults t.supply.now))
+      (word_of (regime_of (config_of s.under.now) side) e) items r
 
 -- Stage 1 was walked from a table, with the stage 2 of its words. (More than six parameters, as above.)
 abbrev pub WalkedFrom1 : (told : Told) (failed : Type 0) (regs : Regs) (access : Access) (left : ℕ) (table : Table1) (old new : List Item)

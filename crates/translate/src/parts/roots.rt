@@ -77,7 +77,8 @@ pub fn root1(
     requires sized { IsTrue (is_sized1 config.now side) }
     requires level { level ≡ level_of (Rattle.table_reads.specs.Numbers.sizes1 config.now side).start }
     requires room { length trail.old < most_items }
-    ensures item { trail.new ≡ trail.old ++ base_item now S1 (Rattle.table_reads.specs.Numbers.sizes1 (config_of regs.now) side) (start_base1 regs.now side) ∷ [] }
+    ensures item { trail.new
+        ≡ trail.old ++ base_item now S1 (Rattle.table_reads.specs.Numbers.sizes1 (config_of regs.now) side) (start_base1 regs.now side) ∷ [] }
     ensures value { result ≡ root1_of regs.now side }
     ensures table { IfOk result (Clauses.IsTableOf config.now side) }
 {
