@@ -1,5 +1,5 @@
 -- How a walk of stage 1 goes on over the entries that a supply gives.
-use Rattle.std.proofs.Common.{◌≡◌, ℕ, zero, suc, ◌-◌, ◌<◌, ◌+◌, List, [], ◌∷◌, ◌++◌, length, length-append, append_assoc, append-nil, refl, sym, ap, ◌∙◌, subst, arith, Result, Ok, Err, inl, inr}
+use Rattle.std.proofs.Common.{◌≡◌, ℕ, zero, suc, ◌-◌, ◌<◌, List, [], ◌∷◌, ◌++◌, length, length-append, append_assoc, append-nil, refl, sym, ap, ◌∙◌, subst, arith, Result, Ok, Err, inl, inr}
 use Rattle.std.specs.Prelude.{ℤ}
 use Rattle.geometry.specs.Tables.{level_of}
 use Rattle.fault_codes.specs.declared.fault.Fault.{Fault}

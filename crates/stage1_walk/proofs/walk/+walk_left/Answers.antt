@@ -1,4 +1,4 @@
-use Rattle.std.proofs.Common.{rules, arith, ◌≡◌, ◌≤◌, ◌+◌, length, length-append, Err, refl, ap, ◌∙◌}
+use Rattle.std.proofs.Common.{rules, arith, ◌≡◌, ◌≤◌, ◌+◌, length, length-append, Err, refl, ap}
 use Rattle.trails.specs.Lengths.{most_per_word}
 use Rattle.stage1_walk.proofs.OnEntries.{entry_here, word_stopped, word_reaches, word_stops, word_goes}
 use Rattle.stage1_walk.proofs.walk.+walk_left.Goals as goal
