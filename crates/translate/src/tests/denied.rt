@@ -371,7 +371,7 @@ pub static DENIED: [Case; 25] = [
         ],
         outcome: Ends::Fault2(3, Class::Translation),
     },
-    // A stage 1 word that the dump lacks.
+    // A stage 1 word that memory lacks.
     Case {
         name: "absent stage 1 word",
         regs: Regs {
@@ -386,7 +386,7 @@ pub static DENIED: [Case; 25] = [
         items: &[S1Base(3, 0x1000)],
         outcome: Ends::Absent1(3, 0x1008),
     },
-    // A stage 1 word that the dump lacks is named by its physical place.
+    // A stage 1 word that memory lacks is named by its physical place.
     Case {
         name: "absent stage 1 word under stage 2",
         regs: Regs {
@@ -408,7 +408,7 @@ pub static DENIED: [Case; 25] = [
         ],
         outcome: Ends::Absent1(3, 0x2_1008),
     },
-    // A stage 2 word on the way to a descriptor that the dump lacks.
+    // A stage 2 word on the way to a descriptor that memory lacks.
     Case {
         name: "absent stage 2 word of a descriptor",
         regs: Regs {
@@ -426,7 +426,7 @@ pub static DENIED: [Case; 25] = [
         items: &[S1Base(3, 0x1000), S2Base(3, 0x8000)],
         outcome: Ends::AbsentPtw(3, 0x8008),
     },
-    // A stage 2 word of the output that the dump lacks.
+    // A stage 2 word of the output that memory lacks.
     Case {
         name: "absent stage 2 word of the output",
         regs: Regs {

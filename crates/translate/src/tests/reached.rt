@@ -50,8 +50,8 @@ pub static REACHED: [Case; 23] = [
         },
     },
     // The high side with 64 KB, 42 bits from level 2 and the size code 111: base, table and page have address bits
-    // 51:48 in low bits, HPD1 leaves the table's permission bits out, a misplaced Contiguous bit and the word's
-    // bit 5 count for nothing, and the ASID is TTBR1's 16 bits.
+    // 51:48 in low bits, HPD1 leaves the table's permission bits out, and a misplaced Contiguous bit and the
+    // word's bit 5 count for nothing.
     Case {
         name: "s1 high side 64k size code 111",
         regs: Regs {
@@ -87,7 +87,7 @@ pub static REACHED: [Case; 23] = [
         },
     },
     // A fetch on the high side, which bit 55 tells and whose granule code 00 is 4 KB, asks none of the low side's
-    // fields; the ASID is 8 bits of TTBR0, and the VMID has 16.
+    // fields.
     Case {
         name: "s1 high side beside low fields",
         regs: Regs {
