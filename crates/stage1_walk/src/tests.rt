@@ -210,18 +210,69 @@ const UXN: TableBits = TableBits {
     uxn: true,
 };
 
-fn word(level: i8, ipa: u64, pa: u64, value: u64) -> Entry {
-    Entry {
-        level,
-        ipa,
-        pa,
-        value,
-    }
+const SMALL2: Entry = Entry {
+    level: 2,
+    ipa: 0x3008,
+    pa: 0x3008,
+    value: 0x800_0000_0000_4003,
+};
+
+const SMALL3: Entry = Entry {
+    level: 3,
+    ipa: 0x4008,
+    pa: 0x8_4008,
+    value: 0x5443,
+};
+
+const RUN: Entry = Entry {
+    level: 2,
+    ipa: 0x1_1158,
+    pa: 0x9_1158,
+    value: 0x10_0000_9600_0f05,
+};
+
+const LEVEL1: Entry = Entry {
+    level: 1,
+    ipa: 0x1_0000_0001_1000,
+    pa: 0x1_0000_0001_1000,
+    value: 0x2_1003,
+};
+
+const LEVEL2: Entry = Entry {
+    level: 2,
+    ipa: 0x1_0000_0002_0008,
+    pa: 0x1_0000_0002_0008,
+    value: 0x3_0003,
+};
+
+const LEVEL3: Entry = Entry {
+    level: 3,
+    ipa: 0x3_0018,
+    pa: 0x3_0018,
+    value: 0x5_2403,
+};
+
+/// Where a walk ends: at a page of level 3, at a block or run of level 2, in a fault, or where a word is not had. A leaf has
+/// its address, its class and its rights, and a fault its level.
+#[derive(Clone, Copy)]
+enum End {
+    Page(u64, u32, &'static [Perms]),
+    Block(u64, u32, &'static [Perms]),
+    Fault(i8, Class),
+    Lack,
 }
 
-/// A page of Device memory.
-fn page(out: u64, class: u32, perms: Perms) -> Result<Leaf1, Stop> {
-    Ok(Leaf1 {
+fn all(rights: &[Perms]) -> Perms {
+    let mut all = Perms::R0 & Perms::W0;
+    for right in rights {
+        all = all | *right;
+    }
+    all
+}
+
+/// Device memory.
+fn page(out: u64, class: u32, perms: Perms) -> Leaf1 {
+    Leaf1 {
         out,
         class,
         level: 3,
@@ -231,17 +282,17 @@ fn page(out: u64, class: u32, perms: Perms) -> Result<Leaf1, Stop> {
         },
         sh: Share::Nsh,
         global: true,
-    })
+    }
 }
 
-/// A block or run of level 2 of write-back memory that is not global.
-fn block(out: u64, class: u32, perms: Perms) -> Result<Leaf1, Stop> {
+/// Write-back memory that is not global.
+fn block(out: u64, class: u32, perms: Perms) -> Leaf1 {
     let cache = Cache::Wb {
         transient: false,
         read: true,
         write: true,
     };
-    Ok(Leaf1 {
+    Leaf1 {
         out,
         class,
         level: 2,
@@ -253,164 +304,200 @@ fn block(out: u64, class: u32, perms: Perms) -> Result<Leaf1, Stop> {
         },
         sh: Share::Ish,
         global: false,
-    })
+    }
 }
 
-fn fault(level: i8, class: Class) -> Result<Leaf1, Stop> {
-    Err(Stop::Fault {
-        fault: Fault {
-            stage: Stage::S1,
-            level,
-            class,
-            s1ptw: false,
-        },
-    })
+fn answer(end: End, lack: Lack) -> Result<Leaf1, Stop> {
+    match end {
+        End::Page(out, class, rights) => Ok(page(out, class, all(rights))),
+        End::Block(out, class, rights) => Ok(block(out, class, all(rights))),
+        End::Fault(level, class) => Err(Stop::Fault {
+            fault: Fault {
+                stage: Stage::S1,
+                level,
+                class,
+                s1ptw: false,
+            },
+        }),
+        End::Lack => Err(stop(lack)),
+    }
 }
+
+/// A walk under the bits of the tables above: the words that there are, what is answered for another, how many words are
+/// read and how many are asked for, and where it ends.
+struct Walk {
+    tg: Tg,
+    kind: Kind,
+    above: TableBits,
+    words: &'static [Entry],
+    lack: Lack,
+    read: usize,
+    asked: usize,
+    end: End,
+}
+
+static WALKS: [Walk; 11] = [
+    // The bits of the table above and of the table on the way are joined.
+    Walk {
+        tg: Tg::K4,
+        kind: Kind::Read,
+        above: READ_ONLY,
+        words: &[SMALL2, SMALL3],
+        lack: Lack::Lacking,
+        read: 2,
+        asked: 2,
+        end: End::Page(0x5abc, 12, &[Perms::R0, Perms::X0, Perms::R1]),
+    },
+    Walk {
+        tg: Tg::K4,
+        kind: Kind::Write,
+        above: READ_ONLY,
+        words: &[SMALL2, SMALL3],
+        lack: Lack::Lacking,
+        read: 2,
+        asked: 2,
+        end: End::Fault(3, Class::Permission),
+    },
+    Walk {
+        tg: Tg::K4,
+        kind: Kind::Fetch,
+        above: NONE,
+        words: &[SMALL2, SMALL3],
+        lack: Lack::Lacking,
+        read: 2,
+        asked: 2,
+        end: End::Fault(3, Class::Permission),
+    },
+    Walk {
+        tg: Tg::K4,
+        kind: Kind::Write,
+        above: NONE,
+        words: &[SMALL2, SMALL3],
+        lack: Lack::Lacking,
+        read: 2,
+        asked: 2,
+        end: End::Page(
+            0x5abc,
+            12,
+            &[Perms::R0, Perms::W0, Perms::X0, Perms::R1, Perms::W1],
+        ),
+    },
+    // The high side: a block stands in its run by the place where its word lies.
+    Walk {
+        tg: Tg::K16,
+        kind: Kind::Read,
+        above: UXN,
+        words: &[RUN],
+        lack: Lack::Lacking,
+        read: 1,
+        asked: 1,
+        end: End::Block(0x9678_9abc, 30, &[Perms::R1, Perms::W1, Perms::X1]),
+    },
+    Walk {
+        tg: Tg::K16,
+        kind: Kind::Fetch,
+        above: NONE,
+        words: &[Entry {
+            pa: 0x9_1160,
+            ..RUN
+        }],
+        lack: Lack::Lacking,
+        read: 1,
+        asked: 1,
+        end: End::Block(
+            0x9678_9abc,
+            25,
+            &[Perms::X0, Perms::R1, Perms::W1, Perms::X1],
+        ),
+    },
+    // Three levels.
+    Walk {
+        tg: Tg::K64,
+        kind: Kind::Write,
+        above: NONE,
+        words: &[LEVEL1, LEVEL2, LEVEL3],
+        lack: Lack::Lacking,
+        read: 3,
+        asked: 3,
+        end: End::Page(
+            0x2_0000_0005_1234,
+            16,
+            &[Perms::X0, Perms::R1, Perms::W1, Perms::X1],
+        ),
+    },
+    // A word that is not had ends the walk, and comes back as it was.
+    Walk {
+        tg: Tg::K64,
+        kind: Kind::Read,
+        above: NONE,
+        words: &[LEVEL1],
+        lack: Lack::Refused,
+        read: 1,
+        asked: 2,
+        end: End::Lack,
+    },
+    Walk {
+        tg: Tg::K64,
+        kind: Kind::Read,
+        above: NONE,
+        words: &[LEVEL2, LEVEL3],
+        lack: Lack::Lacking,
+        read: 0,
+        asked: 1,
+        end: End::Lack,
+    },
+    Walk {
+        tg: Tg::K64,
+        kind: Kind::Read,
+        above: NONE,
+        words: &[LEVEL1, LEVEL2],
+        lack: Lack::Twice,
+        read: 2,
+        asked: 3,
+        end: End::Lack,
+    },
+    // Bit 0 of the word is clear: no word of the next level is asked for.
+    Walk {
+        tg: Tg::K64,
+        kind: Kind::Read,
+        above: NONE,
+        words: &[
+            Entry {
+                value: 0x2_1002,
+                ..LEVEL1
+            },
+            LEVEL2,
+        ],
+        lack: Lack::Lacking,
+        read: 1,
+        asked: 1,
+        end: End::Fault(1, Class::Translation),
+    },
+];
 
 #[test]
 fn walks_from_a_table(rt: HostRuntime) {
-    let tables = [
-        word(1, 0x1_0000_0001_1000, 0x1_0000_0001_1000, 0x2_1003),
-        word(2, 0x1_0000_0002_0008, 0x1_0000_0002_0008, 0x3_0003),
-        word(3, 0x3_0018, 0x3_0018, 0x5_2403),
-    ];
-    let small = [
-        word(2, 0x3008, 0x3008, 0x800_0000_0000_4003),
-        word(3, 0x4008, 0x8_4008, 0x5443),
-    ];
-    let run = word(2, 0x1_1158, 0x9_1158, 0x10_0000_9600_0f05);
-    let kernel = Perms::R1 | Perms::W1 | Perms::X1;
-    let shown = Perms::R0 | Perms::X0 | Perms::R1;
-    for (tg, kind, above, words, lack, counts, end) in [
-        // The bits of the table above and of the table on the way are joined.
-        (
-            Tg::K4,
-            Kind::Read,
-            READ_ONLY,
-            small.as_slice(),
-            Lack::Lacking,
-            (2, 2),
-            page(0x5abc, 12, shown),
-        ),
-        (
-            Tg::K4,
-            Kind::Write,
-            READ_ONLY,
-            small.as_slice(),
-            Lack::Lacking,
-            (2, 2),
-            fault(3, Class::Permission),
-        ),
-        (
-            Tg::K4,
-            Kind::Fetch,
-            NONE,
-            small.as_slice(),
-            Lack::Lacking,
-            (2, 2),
-            fault(3, Class::Permission),
-        ),
-        (
-            Tg::K4,
-            Kind::Write,
-            NONE,
-            small.as_slice(),
-            Lack::Lacking,
-            (2, 2),
-            page(0x5abc, 12, shown | Perms::W0 | Perms::W1),
-        ),
-        // The high side: a block stands in its run by the place where its word lies.
-        (
-            Tg::K16,
-            Kind::Read,
-            UXN,
-            [run].as_slice(),
-            Lack::Lacking,
-            (1, 1),
-            block(0x9678_9abc, 30, kernel),
-        ),
-        (
-            Tg::K16,
-            Kind::Fetch,
-            NONE,
-            [Entry {
-                pa: 0x9_1160,
-                ..run
-            }]
-            .as_slice(),
-            Lack::Lacking,
-            (1, 1),
-            block(0x9678_9abc, 25, kernel | Perms::X0),
-        ),
-        // Three levels.
-        (
-            Tg::K64,
-            Kind::Write,
-            NONE,
-            tables.as_slice(),
-            Lack::Lacking,
-            (3, 3),
-            page(0x2_0000_0005_1234, 16, kernel | Perms::X0),
-        ),
-        // A word that is not had ends the walk, and comes back as it was.
-        (
-            Tg::K64,
-            Kind::Read,
-            NONE,
-            &tables[..1],
-            Lack::Refused,
-            (1, 2),
-            Err(stop(Lack::Refused)),
-        ),
-        (
-            Tg::K64,
-            Kind::Read,
-            NONE,
-            &tables[1..],
-            Lack::Lacking,
-            (0, 1),
-            Err(stop(Lack::Lacking)),
-        ),
-        (
-            Tg::K64,
-            Kind::Read,
-            NONE,
-            &tables[..2],
-            Lack::Twice,
-            (2, 3),
-            Err(stop(Lack::Twice)),
-        ),
-        // Bit 0 of the word is clear: no word of the next level is asked for.
-        (
-            Tg::K64,
-            Kind::Read,
-            NONE,
-            [
-                Entry {
-                    value: 0x2_1002,
-                    ..tables[0]
-                },
-                tables[1],
-            ]
-            .as_slice(),
-            Lack::Lacking,
-            (1, 1),
-            fault(1, Class::Translation),
-        ),
-    ] {
+    for walk in WALKS.as_slice() {
+        let words = walk.words;
         let mut trail = Trail::none();
         let mut supply = Words {
             words,
-            lack,
+            lack: walk.lack,
             asked: 0,
         };
-        let found = match tg {
-            Tg::K4 => walk_4k(kind, above, &mut supply, &mut trail),
-            Tg::K16 => walk_16k(kind, above, &mut supply, &mut trail),
-            Tg::K64 => walk_64k(kind, above, &mut supply, &mut trail),
+        let found = match walk.tg {
+            Tg::K4 => walk_4k(walk.kind, walk.above, &mut supply, &mut trail),
+            Tg::K16 => walk_16k(walk.kind, walk.above, &mut supply, &mut trail),
+            Tg::K64 => walk_64k(walk.kind, walk.above, &mut supply, &mut trail),
         };
-        assert_eq!(rt; found, end, "{kind:?} of {words:?}");
-        assert_eq!(rt; (trail.items().len(), supply.asked), counts, "{words:?}");
+        assert_eq!(rt;
+            found,
+            answer(walk.end, walk.lack),
+            "{:?} of {words:?}",
+            walk.kind
+        );
+        let counts = (trail.items().len(), supply.asked);
+        assert_eq!(rt; counts, (walk.read, walk.asked), "{words:?}");
         for (read, given) in trail.items().iter().zip(words) {
             assert_eq!(rt; *read, item(given), "{words:?}");
         }

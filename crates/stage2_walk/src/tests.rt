@@ -12,10 +12,10 @@ use trails::{Item, Stop, Trail, What};
 use walk_spec::Leaf2;
 
 /// The first word of a place.
-fn first(words: &[(u64, u64)], pa: u64) -> Option<u64>
-    ensures { result ≡ option_map (λ w. w.1) (find (λ w. w.0 == pa) words.now) }
+fn first(words: &[(i8, u64, u64)], pa: u64) -> Option<u64>
+    ensures { result ≡ option_map (λ w. w.2) (find (λ w. w.1 == pa) words.now) }
 {
-    for (place, word) in words {
+    for (_, place, word) in words {
         if *place == pa {
             return Some(*word);
         }
@@ -23,15 +23,15 @@ fn first(words: &[(u64, u64)], pa: u64) -> Option<u64>
     None
 }
 
-/// A memory of these words alone, each behind its place, and how often it was asked for one.
+/// A memory of these words alone, each behind its level and place, and how often it was asked for one.
 #[derive(Drop)]
 struct Words<'a> {
-    words: &'a [(u64, u64)],
+    words: &'a [(i8, u64, u64)],
     asked: usize,
 }
 
 impl<'a> Supply for Words<'a> {
-    ghost memory = { λ s. Some (λ pa. option_map (λ w. w.1) (find (λ w. w.0 == pa) s.words.now)) };
+    ghost memory = { λ s. Some (λ pa. option_map (λ w. w.2) (find (λ w. w.1 == pa) s.words.now)) };
 
     ghost faults = { λ _. 0 };
 
@@ -128,14 +128,24 @@ fn word(level: i8, pa: u64, value: u64) -> Item {
     }
 }
 
-/// A page or run of Normal memory, write-back and Inner Shareable, with all rights.
-fn page(pa: u64, class: u32) -> Result<Leaf2, Stop> {
+/// Where a walk ends: at a page or run of level 3, at a block or run of level 2, in a fault, or at a word of level 3 that is
+/// lacking. A leaf has its address and its class, and a fault its level.
+#[derive(Clone, Copy)]
+enum End {
+    Page(u64, u32),
+    Block(u64, u32),
+    Fault(i8, Class),
+    Lacking(u64),
+}
+
+/// Normal memory, write-back and Inner Shareable, with all rights.
+fn page(pa: u64, class: u32) -> Leaf2 {
     let cache = Cache::Wb {
         transient: false,
         read: false,
         write: false,
     };
-    Ok(Leaf2 {
+    Leaf2 {
         pa,
         class,
         level: 3,
@@ -146,155 +156,162 @@ fn page(pa: u64, class: u32) -> Result<Leaf2, Stop> {
             tagged: false,
         },
         sh: Share::Ish,
-    })
+    }
 }
 
 /// Read-only Device memory that nobody fetches from.
-fn block(pa: u64, class: u32, level: i8) -> Result<Leaf2, Stop> {
-    Ok(Leaf2 {
+fn block(pa: u64, class: u32) -> Leaf2 {
+    Leaf2 {
         pa,
         class,
-        level,
+        level: 2,
         perms: Perms::R0 | Perms::R1,
         mem: MemType::Device {
             kind: Device::NGnRE,
         },
         sh: Share::Nsh,
-    })
+    }
 }
 
-fn fault(level: i8, class: Class, s1ptw: bool) -> Result<Leaf2, Stop> {
-    Err(Stop::Fault {
-        fault: Fault {
+fn answer(end: End, s1ptw: bool) -> Result<Leaf2, Stop> {
+    match end {
+        End::Page(pa, class) => Ok(page(pa, class)),
+        End::Block(pa, class) => Ok(block(pa, class)),
+        End::Fault(level, class) => Err(Stop::Fault {
+            fault: Fault {
+                stage: Stage::S2,
+                level,
+                class,
+                s1ptw,
+            },
+        }),
+        End::Lacking(pa) => Err(Stop::Absent {
             stage: Stage::S2,
-            level,
-            class,
+            level: 3,
+            pa,
             s1ptw,
-        },
-    })
+        }),
+    }
 }
 
-/// A word of level 3 that is lacking, for the place of a descriptor.
-fn lacking(pa: u64) -> Result<Leaf2, Stop> {
-    Err(Stop::Absent {
-        stage: Stage::S2,
-        level: 3,
-        pa,
-        s1ptw: true,
-    })
+/// A walk from a start table or from the table below it: the words of memory, how many of them are read, and where it ends.
+struct Walk {
+    tg: Tg,
+    start: bool,
+    ptw: bool,
+    words: &'static [(i8, u64, u64)],
+    read: usize,
+    end: End,
 }
+
+static WALKS: [Walk; 9] = [
+    // A table of the tenth of sixteen, and a page that stands in its run.
+    Walk {
+        tg: Tg::K16,
+        start: true,
+        ptw: false,
+        words: &[(2, 0x6_4488, 0x8003), (3, 0xa8a8, 0x10_0000_0065_47ff)],
+        read: 2,
+        end: End::Page(0x65_6abc, 21),
+    },
+    // The page alone, from its own table.
+    Walk {
+        tg: Tg::K16,
+        start: false,
+        ptw: true,
+        words: &[
+            (3, 0xa8a8, 0x10_0000_0065_47ff),
+            (3, 0xa8b0, 0x10_0000_0065_87ff),
+        ],
+        read: 1,
+        end: End::Page(0x65_6abc, 21),
+    },
+    // A page that doesn't stand in its run.
+    Walk {
+        tg: Tg::K16,
+        start: false,
+        ptw: false,
+        words: &[(3, 0xa8a8, 0x10_0000_0065_87ff), (3, 0xa8b0, 0)],
+        read: 1,
+        end: End::Page(0x65_aabc, 14),
+    },
+    // A block of the eleventh of sixteen tables that stands in its run.
+    Walk {
+        tg: Tg::K64,
+        start: true,
+        ptw: false,
+        words: &[(2, 0x1a_af30, 0x50_000c_c000_0445), (3, 0x2_f568, 0)],
+        read: 1,
+        end: End::Block(0xc_dead_beef, 34),
+    },
+    // The access flag is clear.
+    Walk {
+        tg: Tg::K64,
+        start: false,
+        ptw: true,
+        words: &[(3, 0x2_f568, 0x3_00ff), (3, 0x2_f570, 0)],
+        read: 1,
+        end: End::Fault(3, Class::AccessFlag),
+    },
+    // Bit 0 of the word of a table is clear.
+    Walk {
+        tg: Tg::K64,
+        start: true,
+        ptw: false,
+        words: &[(2, 0x1a_af30, 0x2_0002), (3, 0x2_f568, 0x3_07ff)],
+        read: 1,
+        end: End::Fault(2, Class::Translation),
+    },
+    // A table of the second of two beyond 40 bits of output.
+    Walk {
+        tg: Tg::K4,
+        start: true,
+        ptw: true,
+        words: &[(1, 0x5008, 0x100_0000_0003), (2, 0x100_0000_0008, 0x7ff)],
+        read: 1,
+        end: End::Fault(1, Class::AddressSize),
+    },
+    // A word of the last level is lacking.
+    Walk {
+        tg: Tg::K4,
+        start: false,
+        ptw: true,
+        words: &[(2, 0x3008, 0x7003), (3, 0x7010, 0x57ff)],
+        read: 1,
+        end: End::Lacking(0x7008),
+    },
+    // A block that doesn't stand in its run ends the walk, and no word of level 3 is read.
+    Walk {
+        tg: Tg::K4,
+        start: false,
+        ptw: false,
+        words: &[(2, 0x3008, 0x50_0000_0060_0445), (3, 0x7008, 0)],
+        read: 1,
+        end: End::Block(0x60_1abc, 21),
+    },
+];
 
 #[test]
 fn walks_from_a_table(rt: HostRuntime) {
-    for (tg, start, ptw, words, levels, read, end) in [
-        // A table of the tenth of sixteen, and a page that stands in its run.
-        (
-            Tg::K16,
-            true,
-            false,
-            [(0x6_4488, 0x8003), (0xa8a8, 0x10_0000_0065_47ff)],
-            2,
-            2,
-            page(0x65_6abc, 21),
-        ),
-        // The page alone, from its own table.
-        (
-            Tg::K16,
-            false,
-            true,
-            [(0xa8a8, 0x10_0000_0065_47ff), (0xa8b0, 0x10_0000_0065_87ff)],
-            3,
-            1,
-            page(0x65_6abc, 21),
-        ),
-        // A page that doesn't stand in its run.
-        (
-            Tg::K16,
-            false,
-            false,
-            [(0xa8a8, 0x10_0000_0065_87ff), (0xa8b0, 0)],
-            3,
-            1,
-            page(0x65_aabc, 14),
-        ),
-        // A block of the eleventh of sixteen tables that stands in its run.
-        (
-            Tg::K64,
-            true,
-            false,
-            [(0x1a_af30, 0x50_000c_c000_0445), (0x2_f568, 0)],
-            2,
-            1,
-            block(0xc_dead_beef, 34, 2),
-        ),
-        // The access flag is clear.
-        (
-            Tg::K64,
-            false,
-            true,
-            [(0x2_f568, 0x3_00ff), (0x2_f570, 0)],
-            3,
-            1,
-            fault(3, Class::AccessFlag, true),
-        ),
-        // Bit 0 of the word of a table is clear.
-        (
-            Tg::K64,
-            true,
-            false,
-            [(0x1a_af30, 0x2_0002), (0x2_f568, 0x3_07ff)],
-            2,
-            1,
-            fault(2, Class::Translation, false),
-        ),
-        // A table of the second of two beyond 40 bits of output.
-        (
-            Tg::K4,
-            true,
-            true,
-            [(0x5008, 0x100_0000_0003), (0x100_0000_0008, 0x7ff)],
-            1,
-            1,
-            fault(1, Class::AddressSize, true),
-        ),
-        // A word of the last level is lacking.
-        (
-            Tg::K4,
-            false,
-            true,
-            [(0x3008, 0x7003), (0x7010, 0x57ff)],
-            2,
-            1,
-            lacking(0x7008),
-        ),
-        // A block of level 2 is a page's end, and no word of level 3 is read.
-        (
-            Tg::K4,
-            false,
-            false,
-            [(0x3008, 0x50_0000_0060_0445), (0x7008, 0)],
-            2,
-            1,
-            block(0x60_1abc, 21, 2),
-        ),
-    ] {
+    for walk in WALKS.as_slice() {
+        let words = walk.words;
         let mut trail = Trail::none();
-        let mut supply = Words {
-            words: words.as_slice(),
-            asked: 0,
+        let mut supply = Words { words, asked: 0 };
+        let found = match walk.tg {
+            Tg::K4 => walk_4k(walk.start, walk.ptw, &mut supply, &mut trail),
+            Tg::K16 => walk_16k(walk.start, walk.ptw, &mut supply, &mut trail),
+            Tg::K64 => walk_64k(walk.start, walk.ptw, &mut supply, &mut trail),
         };
-        let found = match tg {
-            Tg::K4 => walk_4k(start, ptw, &mut supply, &mut trail),
-            Tg::K16 => walk_16k(start, ptw, &mut supply, &mut trail),
-            Tg::K64 => walk_64k(start, ptw, &mut supply, &mut trail),
-        };
-        assert_eq!(rt; found, end, "{words:?}");
-        let items = [
-            word(levels, words[0].0, words[0].1),
-            word(levels + 1, words[1].0, words[1].1),
-        ];
-        assert_eq!(rt; trail.items(), &items[..read], "{words:?}");
-        let lacks = matches!(found, Err(Stop::Absent { .. })) as usize;
-        assert_eq!(rt; supply.asked, read + lacks, "{words:?}");
+        assert_eq!(rt; found, answer(walk.end, walk.ptw), "{words:?}");
+        assert_eq!(rt; trail.items().len(), walk.read, "{words:?}");
+        for (item, (level, pa, value)) in trail.items().iter().zip(words) {
+            assert_eq!(rt; *item, word(*level, *pa, *value), "{words:?}");
+        }
+        let lacking = matches!(walk.end, End::Lacking(_)) as usize;
+        assert_eq!(rt;
+            supply.asked,
+            walk.read.saturating_add(lacking),
+            "{words:?}"
+        );
     }
 }

@@ -5,4 +5,4 @@ use Rattle.stage2_walk.proofs.tests.first.Given as goal
 
 -- no word so far stood at the place
 abbrev pub invariant-loop-place : goal.invariant-loop-place
-invariant-loop-place l = find (λ w. w.0 == l.pa) (drop l.place-index l.words) ≡ find (λ w. w.0 == l.pa) l.words
+invariant-loop-place l = find (λ w. w.1 == l.pa) (drop l.place-index l.words) ≡ find (λ w. w.1 == l.pa) l.words
