@@ -25,3 +25,10 @@ offset_small p run class h l =
 -- a run is larger than its entries
 pub run_sizes : (g left run : ℕ) → IsGranule g → run_of g left ≡ Some run → (class_of g left ≤ run) × (run ≤ 34)
 run_sizes g left run h e = (grind (arith, nat_tests), grind (arith, nat_tests))
+
+-- the words of a run take no more than 2 ^ 37 bytes
+pub line_small : (run class : ℕ) → run ≤ 34 → (8 * 2 ^ (run - class) < 2 ^ 38) × (0 < 2 ^ (run - class))
+line_small run class l =
+    let less : run - class ≤ 34 = omega arith in
+    let most : 2 ^ (run - class) ≤ 2 ^ 34 = pow_mono less in
+    (omega arith, pow_pos (run - class))

@@ -1,6 +1,6 @@
-ghost use Rattle.std.specs.Prelude.{◌≡◌, ◌≤◌, ◌<◌, ◌+◌, ◌-◌, ◌*◌, ◌/◌, ◌%◌, ◌^◌, Some};
+ghost use Rattle.std.specs.Prelude.{◌≡◌, ◌≤◌, ◌<◌, ◌+◌, ◌-◌, ◌*◌, ◌/◌, ◌%◌, ◌^◌, ◌&&◌, Some};
 ghost use Rattle.geometry.specs.Tables.{IsGranule, most_left, class_of, top_of, index_of};
-ghost use Rattle.geometry.specs.Runs.{run_of, goes_to, is_counted, leaf_class};
+ghost use Rattle.geometry.specs.Runs.{run_of, goes_to, is_counted, is_one_run, leaf_class};
 
 use crate::case_table;
 use crate::levels::{class_at, index};
@@ -86,6 +86,23 @@ pub fn leaf_class<const G: u32>(input: u32, left: u32, out: u64, contiguous: boo
     match run_at::<G>(left) {
         Some(run) if contiguous && counts::<G>(run, input, left, out, pa) => run,
         _ => class,
+    }
+}
+
+/// Whether a leaf that counts as one of a run, and whose word stands at `pa`, serves another place of that run. `out` is
+/// the entry's output.
+#[tactic(auto, using(crate::proofs::Fits::run_sizes, crate::proofs::Fits::line_small))]
+pub fn serves_run<const G: u32>(input: u32, left: u32, out: u64, pa: u64, place: u64) -> bool
+    requires granule { IsGranule G }
+    requires left { left ≤ most_left }
+    ensures { result ≡ (is_counted G input left out pa && is_one_run G left pa place) }
+{
+    match run_at::<G>(left) {
+        Some(run) if counts::<G>(run, input, left, out, pa) => {
+            let line = 8 * power(run - class_at::<G>(left));
+            pa / line == place / line
+        }
+        _ => false,
     }
 }
 

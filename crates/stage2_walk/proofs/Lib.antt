@@ -1,3 +1,5 @@
 pub mod OnWords
 pub mod Accepted
 pub mod Levels
+pub mod Starts
+pub mod OnKept

@@ -37,11 +37,11 @@ walk2_from_asks : (q : Asked2) (left table : ℕ) → walk2_from q left table �
 walk2_from_asks q zero table = refl
 walk2_from_asks q (suc left) table = refl
 
-walk2_below_less : (q : Asked2) (left table : ℕ) → 0 < left → walk2_below q left table ≡ walk2_from q (left - 1) table
+pub walk2_below_less : (q : Asked2) (left table : ℕ) → 0 < left → walk2_below q left table ≡ walk2_from q (left - 1) table
 walk2_below_less q zero table h = absurd (omega (arith, h))
 walk2_below_less q (suc left) table h = let e : suc left - 1 ≡ left = omega arith in rw e refl
 
-asks_here : (q : Asked2) (left table p : ℕ) → p ≡ place_of q.sizes left table q.ipa → walk2_from q left table ≡ ask (word (word_at q left table p)) (λ i. walk2_then q left (step2 q left i.pa i.value))
+pub asks_here : (q : Asked2) (left table p : ℕ) → p ≡ place_of q.sizes left table q.ipa → walk2_from q left table ≡ ask (word (word_at q left table p)) (λ i. walk2_then q left (step2 q left i.pa i.value))
 asks_here q left table p here = walk2_from_asks q left table ∙ ap (λ w. ask (word (word_at q left table w)) (λ i. walk2_then q left (step2 q left i.pa i.value))) (sym here)
 
 module _ (m : Told) (k : ℕ) (q : Asked2) (left table p : ℕ) (here : p ≡ place_of q.sizes left table q.ipa) where

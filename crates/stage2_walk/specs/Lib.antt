@@ -6,3 +6,5 @@ pub use Rattle.walk_spec.specs.Walked
 pub mod Under
 pub mod SoundSteps
 pub mod Clauses
+pub mod Standing
+pub mod Replayed

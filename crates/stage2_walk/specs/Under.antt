@@ -1,9 +1,11 @@
 -- What a walk through stage 2 is done under.
 use Rattle.std.specs.Prelude.{◌≡◌}
 use Rattle.sysregs.specs.Registers.{granule_of}
+use Rattle.sysregs.specs.declared.regs.Side.{Side}
 use Rattle.fault_codes.specs.declared.fault.Stage.TheVariants.{S2}
 use Rattle.table_reads.specs.declared.levels.Walker.{Walker}
-use Rattle.table_reads.specs.Numbers.{AreSound}
+use Rattle.table_reads.specs.Numbers.{AreSound, sizes1}
+use Rattle.walk_spec.specs.Needs.{Regime}
 use Rattle.walk_spec.specs.Stage2.{Asked2}
 use Rattle.stage2_walk.specs.declared.step.Under.{Under}
 
@@ -19,3 +21,7 @@ walker_under u = record { moment = u.moment; stage = S2; s1ptw = u.s1ptw }
 pub record IsUnder (u : Under) : Type 0 where
   pub sound : AreSound u.sizes
   pub granule : u.sizes.granule ≡ granule_of u.config.now.tg2
+
+-- the regime of a side, for the items that fit
+abbrev pub regime_under : (under : Under) (side : Side) → Regime
+regime_under u s = record { config = u.config.now; side = s; stage1 = sizes1 u.config.now s; stage2 = u.sizes }

@@ -9,7 +9,7 @@ use sysregs::{Config, Tg};
 use table_reads::{Sizes, left_below};
 
 /// The start level for SL0, or None where the code is invalid.
-fn start_level(tg: Tg, sl0: u32, sl2: u32) -> Option<i8>
+pub(crate) fn start_level(tg: Tg, sl0: u32, sl2: u32) -> Option<i8>
     requires sl0 { sl0 < 4 }
     requires sl2 { sl2 < 2 }
     ensures { result ≡ start_level2 (granule_of tg) sl0 }

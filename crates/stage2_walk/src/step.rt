@@ -51,7 +51,7 @@ fn decode_at<const G: u32>(left: u32, word: u64, config: &Config) -> Kind2
 
 /// What a word means, and that it keeps to its bounds.
 #[tactic(auto, using(descriptors::proofs::Bounds::bounded2))]
-fn meaning<const G: u32>(left: u32, word: u64, config: &Config) -> Kind2
+pub(crate) fn meaning<const G: u32>(left: u32, word: u64, config: &Config) -> Kind2
     requires granule { G ≡ granule_of config.now.tg2 }
     requires left { left ≤ most_left }
     ensures value { result ≡ means2_of config.now left word }

@@ -11,7 +11,7 @@ mod supply;
 pub use bases::{is_too_large, keep_base, start_base};
 pub use levels::{MOST_LEFT, Walker, fault, left_below, level};
 pub use reads::{place, read};
-pub use sizes::Sizes;
+pub use sizes::{Sizes, is_sized};
 pub use step::Step;
 pub use supply::Supply;
 

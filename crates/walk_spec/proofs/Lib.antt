@@ -2,6 +2,8 @@ pub mod Standing
 pub mod Feeding
 pub mod Finer
 pub mod Walks
+pub mod Kept
+pub mod StartTables
 pub mod FreshWalks
 pub mod Worked
 pub mod WorkedSizes

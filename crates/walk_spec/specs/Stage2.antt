@@ -23,7 +23,7 @@ use Rattle.walk_spec.specs.declared.leaf.Leaf2.{Leaf2}
 use Rattle.walk_spec.specs.declared.leaf.Fields2.{Fields2}
 use Rattle.walk_spec.specs.Ask.{Ask, done, ask, after}
 use Rattle.walk_spec.specs.Needs.{Need, base2, word}
-use Rattle.walk_spec.specs.Steps.{End, stops, reaches, step_then}
+use Rattle.walk_spec.specs.Steps.{End, stops, step_then}
 
 -- what stage 2 is asked: where an IPA goes, under these register fields and numbers. The mark s1ptw says that it is the
 -- place of a stage 1 descriptor.

@@ -2,6 +2,7 @@
 #![tactic(auto)]
 
 mod entry;
+pub mod items;
 mod leaf;
 
 pub use entry::{Entry1, Table1};

@@ -1,37 +1,19 @@
 //! What each stage refuses before its base.
 ghost use Rattle.std.specs.Prelude.{◌≡◌, ◌≤◌, ◌<◌, ◌+◌, ◌-◌, ◌^◌, ◌==◌, pos, ◌≤ℤ◌, if◌then◌else◌};
 ghost use Rattle.bitwords.specs.Fields.{bits_of, bit};
-ghost use Rattle.geometry.specs.Tables.{is_txsz, start_level1, start_level2, is_suited_at};
-ghost use Rattle.sysregs.specs.Registers.{InRange, granule_of};
-ghost use Rattle.table_reads.specs.Numbers.{is_sized2};
-ghost use Rattle.walk_spec.specs.Stage2;
+ghost use Rattle.sysregs.specs.Registers.{InRange};
 ghost use Rattle.walk_spec.specs.BothStages.{top_bit, is_fetch, is_el0, is_refused1, is_refused_off};
 ghost use Rattle.translate.specs.Parts.{begin1_of, begin2_of};
 
 use crate::begin::Begin1;
 use bitwords::{flag, power};
 use fault_codes::{Class, Fault, Stage};
-use geometry::{case_table, start_level1, start_level2, suits2};
 use permissions::{El, Kind};
 use stage1_walk::sizes1;
-use stage2_walk::sizes2;
-use sysregs::{Config, Tg};
-use table_reads::{MOST_LEFT, Walker, fault, level};
+use stage2_walk::{is_refused2, sizes2};
+use sysregs::Config;
+use table_reads::{MOST_LEFT, Walker, fault, is_sized, level};
 use trails::Access;
-
-/// The start level for a TxSZ, or None where it is out of its range.
-fn start_level(tg: Tg, txsz: u32) -> Option<i8>
-    ensures { result ≡ start_level1 (granule_of tg) txsz }
-{
-    case_table!(granule tg; start_level1(txsz))
-}
-
-/// Whether TxSZ is in its range.
-fn is_sized(tg: Tg, txsz: u32) -> bool
-    ensures { result ≡ is_txsz (granule_of tg) txsz }
-{
-    start_level(tg, txsz).is_some()
-}
 
 pub(crate) fn is_fetch(kind: Kind) -> bool
     ensures { result ≡ is_fetch kind }
@@ -125,50 +107,6 @@ pub fn begin1(config: &Config, access: &Access) -> Result<Begin1, Fault>
         side,
         level: level(sizes1(config, side).start),
     })
-}
-
-/// The stage 2 start level for SL0, or None where the code is invalid.
-fn start_level_2(tg: Tg, sl0: u32, sl2: u32) -> Option<i8>
-    requires { sl0 < 4 × sl2 < 2 }
-    ensures { result ≡ start_level2 (granule_of tg) sl0 }
-{
-    case_table!(granule tg; start_level2(sl0, sl2))
-}
-
-/// Whether a stage 2 input size suits a start level.
-fn is_suited(tg: Tg, start: i8, input: u32) -> bool
-    requires least { pos 0 ≤ℤ start }
-    requires most { start ≤ℤ pos 3 }
-    ensures { result ≡ is_suited_at (granule_of tg) start input }
-{
-    case_table!(granule tg; suits2(start, input))
-}
-
-/// Whether stage 2's sizes are in range and suit each other.
-#[tactic(auto, using(geometry::proofs::Sizes::start2_within, crate::proofs::Starts::left_below_of))]
-fn has_sizes(config: &Config) -> bool
-    requires { InRange config.now }
-    ensures { result ≡ is_sized2 config.now }
-{
-    let Some(start) = start_level_2(config.tg2, config.sl0, config.sl2) else {
-        return false;
-    };
-    if !is_sized(config.tg2, config.t2sz) {
-        return false;
-    }
-    is_suited(config.tg2, start, 64 - config.t2sz)
-}
-
-/// Whether stage 2 refuses an IPA before any table.
-#[tactic(auto, unfolding(walk_spec::specs::Stage2::is_refused2), using(crate::proofs::Starts::sized_input))]
-fn is_refused2(config: &Config, ipa: u64) -> bool
-    requires { InRange config.now }
-    ensures { result ≡ Stage2.is_refused2 config.now ipa }
-{
-    if !has_sizes(config) {
-        return true;
-    }
-    ipa >= power(64 - config.t2sz)
 }
 
 /// What stage 2 checks before its base: the start level, or the fault of an IPA that is refused. `ptw` marks the place

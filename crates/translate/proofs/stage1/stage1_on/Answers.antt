@@ -3,7 +3,8 @@ use Rattle.sysregs.specs.Registers.{config_of}
 use Rattle.sysregs.specs.Sides.{side_of}
 use Rattle.trails.specs.declared.outcome.Stop.TheVariants.{Fault as FaultStop}
 use Rattle.stage1_walk.proofs.Accepted.{accepted_size}
-use Rattle.translate.proofs.Starts.{left_below_of, start1_most}
+use Rattle.stage2_walk.proofs.Starts.{left_below_of}
+use Rattle.translate.proofs.Starts.{start1_most}
 use Rattle.translate.proofs.FirstStage.{rooted1, refused_root1, walked_large1, walked_from1}
 use Rattle.translate.proofs.stage1.stage1_on.Goals as goal
 

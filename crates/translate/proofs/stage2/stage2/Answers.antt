@@ -3,7 +3,7 @@ use Rattle.sysregs.specs.Registers.{config_of}
 use Rattle.trails.specs.declared.outcome.Stop.TheVariants.{Fault as FaultStop}
 use Rattle.walk_spec.proofs.Walks.{one_longer}
 use Rattle.stage2_walk.proofs.Accepted.{accepted_sizes}
-use Rattle.translate.proofs.Starts.{start2_most, left_below_of}
+use Rattle.stage2_walk.proofs.Starts.{start2_most, left_below_of}
 use Rattle.translate.proofs.Begun.{begun2, refused_begin2, rooted2, refused_root2, walked_refused2, walked_large2, walked_from2}
 use Rattle.translate.proofs.stage2.stage2.Goals as goal
 

@@ -5,7 +5,7 @@ use Rattle.table_reads.specs.Numbers.{sizes2}
 use Rattle.table_reads.specs.Places.{is_too_large}
 use Rattle.walk_spec.specs.Fresh.{start_base2}
 use Rattle.translate.proofs.Fields.{same_sizes2, root2_small}
-use Rattle.translate.proofs.Starts.{table2_of}
+use Rattle.stage2_walk.proofs.Starts.{table2_of}
 use Rattle.translate.proofs.parts.roots.root2.Goals as goal
 
 pub returns-clause-value : goal.returns-clause-value
