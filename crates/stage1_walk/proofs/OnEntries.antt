@@ -39,10 +39,10 @@ walk1_from_asks : (q : Asked) (left : ℕ) (t : Table1) → walk1_from q left t 
 walk1_from_asks q zero t = refl
 walk1_from_asks q (suc left) t = refl
 
-asks_here : (q : Asked) (left : ℕ) (t : Table1) (e : Entry1) → e ≡ entry1 q left t → walk1_from q left t ≡ ask e (λ i. walk1_then q left (step1 q e i.pa i.value))
+pub asks_here : (q : Asked) (left : ℕ) (t : Table1) (e : Entry1) → e ≡ entry1 q left t → walk1_from q left t ≡ ask e (λ i. walk1_then q left (step1 q e i.pa i.value))
 asks_here q left t e here = walk1_from_asks q left t ∙ ap (λ n. ask n (λ i. walk1_then q left (step1 q n i.pa i.value))) (sym here)
 
-walk1_below_less : (q : Asked) (left : ℕ) (t : Table1) → 0 < left → walk1_below q left t ≡ walk1_from q (left - 1) t
+pub walk1_below_less : (q : Asked) (left : ℕ) (t : Table1) → 0 < left → walk1_below q left t ≡ walk1_from q (left - 1) t
 walk1_below_less q zero t h = absurd (omega (arith, h))
 walk1_below_less q (suc left) t h = let e : suc left - 1 ≡ left = omega arith in rw e refl
 

@@ -8,3 +8,4 @@ pub mod Gave
 pub mod Under
 pub mod SoundSteps
 pub mod Clauses
+pub mod Kept

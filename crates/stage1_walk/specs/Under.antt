@@ -1,8 +1,10 @@
 -- What a walk through stage 1 is done under.
 use Rattle.std.specs.Prelude.{◌≡◌, true}
 use Rattle.sysregs.specs.Registers.{granule_of}
-use Rattle.sysregs.specs.Sides.{tg_of}
-use Rattle.table_reads.specs.Numbers.{AreSound}
+use Rattle.sysregs.specs.declared.regs.Config.{Config}
+use Rattle.sysregs.specs.Sides.{tg_of, side_of}
+use Rattle.trails.specs.declared.outcome.Access.{Access}
+use Rattle.table_reads.specs.Numbers.{AreSound, sizes1}
 use Rattle.walk_spec.specs.Needs.{Regime, regime_with}
 use Rattle.walk_spec.specs.Stage1.{Asked, untagged}
 use Rattle.stage1_walk.specs.declared.step.Under.{Under}
@@ -20,3 +22,10 @@ pub record IsUnder (u : Under) : Type 0 where
   pub sound : AreSound u.sizes
   pub granule : u.sizes.granule ≡ granule_of (tg_of u.config.now u.side)
   pub address : u.address ≡ untagged u.access.now.va
+
+-- it is done for an access under register fields
+pub record IsUnderFor (c : Config) (a : Access) (u : Under) : Type 0 where
+  pub config : u.config.now ≡ c
+  pub access : u.access.now ≡ a
+  pub side : u.side ≡ side_of a.va
+  pub sizes : u.sizes ≡ sizes1 c (side_of a.va)

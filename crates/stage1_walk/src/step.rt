@@ -56,7 +56,7 @@ fn decode_at<const G: u32>(left: u32, word: u64, config: &Config, side: Side) ->
 
 /// What a word means, and that it keeps to its bounds.
 #[tactic(auto, using(descriptors::proofs::Bounds::bounded1))]
-fn meaning<const G: u32>(left: u32, word: u64, config: &Config, side: Side) -> Kind1
+pub(crate) fn meaning<const G: u32>(left: u32, word: u64, config: &Config, side: Side) -> Kind1
     requires granule { G ≡ granule_of (tg_of config.now side) }
     requires left { left ≤ most_left }
     ensures value { result ≡ means1_of config.now side left word }

@@ -80,7 +80,7 @@ fn walk_left<const G: u32, S: Supply1>(
 }
 
 /// The address as indices and offsets see it, without what stands above bit 55.
-fn untagged(va: u64) -> u64
+pub(crate) fn untagged(va: u64) -> u64
     ensures { result ≡ untagged va }
 {
     va % (1 << 56)

@@ -1,6 +1,10 @@
 pub mod Choices
 pub mod Fields
 pub mod Starts
+pub mod OnWords1
+pub mod Deeper
+pub mod Tops
+pub mod OnTables1
 pub mod Begun
 pub mod Had
 pub mod DeepLaw

@@ -9,3 +9,4 @@ pub use Rattle.walk_spec.specs.Walked
 pub mod Checked
 pub mod Parts
 pub mod Deep
+pub mod Standing

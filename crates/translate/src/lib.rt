@@ -6,6 +6,7 @@ mod deep;
 pub mod parts;
 mod stage1;
 mod stage2;
+mod stand;
 mod under;
 mod whole;
 
