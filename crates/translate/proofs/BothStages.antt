@@ -1,9 +1,8 @@
 -- How both stages together are walked.
-use Rattle.std.proofs.Common.{◌≡◌, ℕ, List, [], ◌∷◌, ◌++◌, Bool, true, false, not, ◌&&◌, Option, Some, None, refl, sym, ap, ◌∙◌, subst, append-nil, Result, Ok, Err, if◌then◌else◌}
+use Rattle.std.proofs.Common.{◌≡◌, List, [], ◌++◌, Bool, true, false, not, Option, Some, None, refl, sym, ap, subst, append-nil, Ok, Err, if◌then◌else◌}
 use Rattle.sysregs.specs.declared.regs.Regs.{Regs}
 use Rattle.sysregs.specs.declared.regs.Config.{Config}
 use Rattle.sysregs.specs.Registers.{config_of}
-use Rattle.sysregs.specs.Sides.{side_of}
 use Rattle.permissions.specs.Rights.{is_allowed2}
 use Rattle.fault_codes.specs.Status.{HasLevel}
 use Rattle.fault_codes.specs.declared.fault.Stage.TheVariants.{S2}

@@ -1,5 +1,5 @@
 -- Which way a choice went.
-use Rattle.std.proofs.Common.{◌≡◌, Bool, true, false, cond, refl, Result, Ok, Err}
+use Rattle.std.proofs.Common.{◌≡◌, Bool, true, false, cond, refl, Ok, Err}
 
 pub on_with : {A : Type 0} (b : Bool) → b ≡ true → (t u : A) → cond b t u ≡ t
 on_with true h t u = refl

@@ -1,8 +1,7 @@
 -- The supply walks for each entry: together stage 1 and the stage 2 of its words are the finer walk.
-use Rattle.std.proofs.Common.{◌≡◌, ℕ, ◌≤◌, List, [], ◌∷◌, ◌++◌, refl, sym, ap, ◌∙◌, subst, arith, Ok, Err, Result, true}
+use Rattle.std.proofs.Common.{◌≡◌, ℕ, ◌≤◌, List, [], ◌∷◌, ◌++◌, refl, ap, ◌∙◌, arith, Ok, Err, Result, true}
 use Rattle.std.specs.Prelude.{ℤ, IfErr}
 use Rattle.bitwords.specs.Causes.{Rose}
-use Rattle.geometry.specs.Tables.{level_of}
 use Rattle.sysregs.specs.declared.regs.Regs.{Regs}
 use Rattle.sysregs.specs.declared.regs.Side.{Side}
 use Rattle.sysregs.specs.Registers.{config_of}
@@ -17,12 +16,12 @@ use Rattle.table_reads.proofs.Weaker.{misses_weaker, rose_weaker}
 use Rattle.walk_spec.specs.declared.entry.Entry1.{Entry1}
 use Rattle.walk_spec.specs.declared.entry.Table1.{Table1}
 use Rattle.walk_spec.specs.declared.leaf.Leaf1.{Leaf1}
-use Rattle.walk_spec.specs.Ask.{Ask, finer, Fed, ended, lacks, Took}
+use Rattle.walk_spec.specs.Ask.{Ask, Fed, ended, lacks, Took}
 use Rattle.walk_spec.specs.Needs.{Need, base1, base2, word, regime_of}
 use Rattle.walk_spec.specs.Steps.{End, stops, reaches}
-use Rattle.walk_spec.specs.Stage1.{word_of, stage1_from}
+use Rattle.walk_spec.specs.Stage1.{word_of}
 use Rattle.walk_spec.specs.BothStages.{asked}
-use Rattle.walk_spec.specs.Walked.{LacksFor, result_of, Walked, HasLineStop}
+use Rattle.walk_spec.specs.Walked.{LacksFor, result_of, HasLineStop}
 use Rattle.walk_spec.proofs.Finer.{Walks, StopsBy, TellsEnd, ran_finer, Keeps, ran_keeps}
 use Rattle.stage1_walk.specs.Gave.{by_entry, Walked1, answer_of, HasCode}
 use Rattle.stage1_walk.proofs.OnEntries.{last_same}

@@ -1,5 +1,5 @@
 -- How stage 1 is walked from its base, on or off.
-use Rattle.std.proofs.Common.{◌≡◌, ℕ, ◌≤◌, ◌+◌, ◌*◌, List, [], ◌∷◌, ◌++◌, Bool, true, false, Option, Some, None, refl, sym, ap, subst, arith, Result, Ok, Err, ◌%◌, ◌^◌, if◌then◌else◌}
+use Rattle.std.proofs.Common.{◌≡◌, ℕ, ◌≤◌, List, [], ◌∷◌, Bool, true, false, Option, None, refl, sym, ap, subst, arith, Result, Ok, Err, ◌%◌, ◌^◌, if◌then◌else◌}
 use Rattle.std.specs.Prelude.{ℤ, pos, negsuc, ◌≤ℤ◌}
 use Rattle.std.proofs.lemmas.Int.{ints}
 use Rattle.geometry.specs.Tables.{most_left, level_of, left_below}
@@ -21,7 +21,7 @@ use Rattle.table_reads.specs.Places.{is_too_large}
 use Rattle.table_reads.specs.Items.{base_item}
 use Rattle.table_reads.specs.Memory.{Told}
 use Rattle.walk_spec.specs.declared.leaf.Leaf1.{Leaf1}
-use Rattle.walk_spec.specs.Ask.{Ask, done, ask}
+use Rattle.walk_spec.specs.Ask.{done, ask}
 use Rattle.walk_spec.specs.Needs.{Need, base1, base2, word}
 use Rattle.walk_spec.specs.Steps.{End, stops, reaches}
 use Rattle.walk_spec.specs.Stage1.{Asked, fault1}
@@ -30,7 +30,6 @@ use Rattle.walk_spec.specs.Fresh.{start_base1}
 use Rattle.walk_spec.specs.Walked.{ReadsNow, Walked}
 use Rattle.walk_spec.proofs.Walks.{walked_done, walked_ends, walked_goes, walked_weaker}
 use Rattle.stage1_walk.specs.declared.walk.From1.{From1}
-use Rattle.translate.specs.declared.begin.Begin1.{Begin1}
 use Rattle.translate.specs.declared.begin.Begin1.TheVariants.{Off, On}
 use Rattle.translate.specs.Parts.{refusal, begin1_on, begin1_of, root1_of}
 use Rattle.translate.specs.Deep.{Reads2, WalkedFrom1, WalkedOn1, WalkedStage1, leaf_answer}

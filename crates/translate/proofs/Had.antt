@@ -1,5 +1,5 @@
 -- How a word of stage 1 was had, over the stage 2 of its place.
-use Rattle.std.proofs.Common.{◌≡◌, ℕ, ◌≤◌, ◌+◌, List, [], ◌∷◌, ◌++◌, length, length-append, refl, sym, ap, subst, ◌∙◌, arith, append-nil, append_assoc, Bool, true, false, Ok, Err, Result}
+use Rattle.std.proofs.Common.{◌≡◌, ℕ, ◌≤◌, ◌+◌, List, [], ◌∷◌, ◌++◌, length, length-append, refl, sym, ap, subst, ◌∙◌, arith, append-nil, append_assoc, true, false, Ok, Err, Result}
 use Rattle.std.specs.Prelude.{ℤ}
 use Rattle.bitwords.specs.Causes.{Rose}
 use Rattle.geometry.specs.Tables.{level_of}
@@ -13,8 +13,7 @@ use Rattle.trails.specs.declared.outcome.Stop.{Stop}
 use Rattle.trails.specs.declared.outcome.Stop.TheVariants.{Fault as FaultStop, Absent}
 use Rattle.trails.specs.Lengths.{most_items2, most_per_word}
 use Rattle.table_reads.specs.Items.{word_item}
-use Rattle.table_reads.specs.Memory.{Told, Holds, HasRead}
-use Rattle.table_reads.proofs.Weaker.{rose_weaker}
+use Rattle.table_reads.specs.Memory.{Told, HasRead}
 use Rattle.walk_spec.specs.declared.entry.Entry1.{Entry1}
 use Rattle.walk_spec.specs.declared.leaf.Leaf2.{Leaf2}
 use Rattle.walk_spec.specs.Ask.{Ask, after, Fed, ended, lacks, Took}
@@ -27,7 +26,7 @@ use Rattle.walk_spec.proofs.Feeding.{took_after, took_after_lacks}
 use Rattle.walk_spec.proofs.Walks.{lacks_weaker}
 use Rattle.stage1_walk.specs.Gave.{Gave, EndsInWord}
 use Rattle.translate.specs.Parts.{unreadable}
-use Rattle.translate.specs.Deep.{Reads2, asked2_of, Walked2, walker1, StopTells, HadWord, DeepGave}
+use Rattle.translate.specs.Deep.{Reads2, asked2_of, Walked2, walker1, HadWord, DeepGave}
 use Rattle.translate.specs.declared.deep.Deep.{Deep}
 use Rattle.translate.proofs.Choices.{on_with, off_with}
 

@@ -1,5 +1,5 @@
 -- How the words of stage 1 are had over a supply of words of memory: with stage 2 on, by stage 2 of each place.
-use Rattle.std.specs.Prelude.{ℕ, ℤ, ◌≡◌, ◌≤◌, List, [], ◌∷◌, ◌++◌, Bool, Option, Some, None, Result, Ok, Err, true, false}
+use Rattle.std.specs.Prelude.{ℕ, ℤ, ◌≡◌, ◌≤◌, List, [], ◌∷◌, ◌++◌, Bool, Option, Result, Ok, Err, true, false}
 use Rattle.bitwords.specs.Causes.{Rose}
 use Rattle.geometry.specs.Tables.{level_of}
 use Rattle.sysregs.specs.declared.regs.Regs.{Regs}
@@ -25,9 +25,8 @@ use Rattle.walk_spec.specs.declared.leaf.Leaf1.{Leaf1}
 use Rattle.walk_spec.specs.declared.leaf.Leaf2.{Leaf2}
 use Rattle.walk_spec.specs.Ask.{Ask, Fed, ended, lacks, Took}
 use Rattle.walk_spec.specs.Needs.{Need, base1, base2, word, regime_of}
-use Rattle.walk_spec.specs.Steps.{End}
 use Rattle.walk_spec.specs.Stage2.{Asked2, walk2}
-use Rattle.walk_spec.specs.Stage1.{Asked, word_of, stage1_from}
+use Rattle.walk_spec.specs.Stage1.{word_of, stage1_from}
 use Rattle.walk_spec.specs.BothStages.{asked, stage1, stage1_on}
 use Rattle.walk_spec.specs.Fresh.{start_base2}
 use Rattle.walk_spec.specs.Walked.{ReadsWord, ReadsNow, LacksFor, Walked}

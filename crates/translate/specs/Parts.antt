@@ -19,9 +19,8 @@ use Rattle.table_reads.specs.Places.{is_too_large}
 use Rattle.table_reads.specs.Items.{fault_at}
 use Rattle.walk_spec.specs.declared.leaf.Leaf1.{Leaf1}
 use Rattle.walk_spec.specs.declared.leaf.Leaf2.{Leaf2}
-use Rattle.walk_spec.specs.Steps.{stops, reaches}
+use Rattle.walk_spec.specs.Steps.{reaches}
 use Rattle.walk_spec.specs.Stage2.{is_refused2}
-use Rattle.walk_spec.specs.Stage1.{is_readable}
 use Rattle.walk_spec.specs.BothStages.{is_refused1, is_refused_off, off_leaf, landed, judged2, outcome_of}
 use Rattle.walk_spec.specs.Fresh.{start_base1, start_base2}
 use Rattle.stage1_walk.specs.declared.walk.From1.{From1}

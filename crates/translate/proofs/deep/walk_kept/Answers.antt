@@ -1,4 +1,3 @@
-use Rattle.std.proofs.Common.{◌≡◌, refl}
 use Rattle.translate.proofs.DeepLaw.{Stays, deep_stays, deep_walked, line_of}
 use Rattle.translate.proofs.deep.walk_kept.Goals as goal
 

@@ -1,4 +1,3 @@
-use Rattle.std.proofs.Common.{◌≡◌, refl, ap, Ok}
 use Rattle.sysregs.specs.Registers.{config_of}
 use Rattle.translate.proofs.FirstStage.{is_off, stage_off, stage_refused}
 use Rattle.translate.proofs.stage1.stage1.Goals as goal

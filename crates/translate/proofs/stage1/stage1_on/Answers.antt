@@ -1,4 +1,4 @@
-use Rattle.std.proofs.Common.{◌≡◌, [], ap, Err, refl}
+use Rattle.std.proofs.Common.{ap, Err}
 use Rattle.sysregs.specs.Registers.{config_of}
 use Rattle.sysregs.specs.Sides.{side_of}
 use Rattle.trails.specs.declared.outcome.Stop.TheVariants.{Fault as FaultStop}

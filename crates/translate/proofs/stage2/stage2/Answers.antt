@@ -1,5 +1,4 @@
-use Rattle.std.proofs.Common.{◌≡◌, ◌+◌, ◌≤◌, length, arith, refl, ap, sym, Err}
-use Rattle.geometry.specs.Tables.{most_left, left_below}
+use Rattle.std.proofs.Common.{◌≡◌, ◌+◌, length, arith, refl, ap, Err}
 use Rattle.sysregs.specs.Registers.{config_of}
 use Rattle.trails.specs.declared.outcome.Stop.TheVariants.{Fault as FaultStop}
 use Rattle.walk_spec.proofs.Walks.{one_longer}

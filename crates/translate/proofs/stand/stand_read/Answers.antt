@@ -1,4 +1,4 @@
-use Rattle.std.proofs.Common.{◌≡◌, ◌≤◌, ◌+◌, ◌<◌, length, arith, refl, sym, Ok}
+use Rattle.std.proofs.Common.{◌≤◌, ◌+◌, ◌<◌, length, arith, refl, sym, Ok}
 use Rattle.sysregs.specs.Sides.{side_of}
 use Rattle.walk_spec.specs.Ask.{done}
 use Rattle.walk_spec.specs.Needs.{fits, regime_of, word}

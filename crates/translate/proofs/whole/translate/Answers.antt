@@ -1,6 +1,4 @@
-use Rattle.std.proofs.Common.{◌≡◌, ap, sym, ◌∙◌, refl, subst, Ok, Err}
-use Rattle.bitwords.specs.Causes.{Rose}
-use Rattle.walk_spec.specs.Walked.{WalkedWhole}
+use Rattle.std.proofs.Common.{◌≡◌, ap, sym, ◌∙◌}
 use Rattle.walk_spec.proofs.FreshWalks.{fresh}
 use Rattle.translate.specs.Deep.{outcome_by}
 use Rattle.translate.proofs.whole.translate.Goals as goal

@@ -1,4 +1,4 @@
-use Rattle.std.proofs.Common.{◌≡◌, ap, sym, ◌∙◌, refl, arith}
+use Rattle.std.proofs.Common.{◌∙◌, arith}
 use Rattle.sysregs.specs.Registers.{config_of}
 use Rattle.table_reads.proofs.Weaker.{rose_weaker}
 use Rattle.translate.proofs.BothStages.{whole_stop1, whole_flat, whole_stop2, whole_ends, out_same}

@@ -1,6 +1,5 @@
-use Rattle.std.proofs.Common.{◌≡◌, refl, sym, ap, ◌∙◌, arith, true, false, Err}
+use Rattle.std.proofs.Common.{refl, ◌∙◌, arith}
 use Rattle.std.proofs.lemmas.Int.{to_z-of_z}
-use Rattle.trails.specs.declared.outcome.Stop.TheVariants.{Fault as FaultStop}
 use Rattle.table_reads.proofs.Weaker.{rose_weaker}
 use Rattle.translate.proofs.Had.{gave_deep, had_flat, had_stop, had_denied_by, had_read}
 use Rattle.translate.proofs.deep.DeepSupply1.word_at.Goals as goal
