@@ -74,9 +74,10 @@ module _ (c : Config) (a : Access) (items : List Item) (m : c.m ≡ true) (ok : 
 
       -- the base is too large
       pub start_large : true ≡ is_too_large (sizes1 c (side_of a.va)) i.value → (d : Fault) → d ≡ fault1 AddressSize most_left → IsStoodOn c a items (Refused d 1)
-      start_large h d p =
-          (omega (arith, l),
-           by_base ∙ ap (λ t. on (fits r) t (drop 1 items)) (on_with (is_too_large (sizes1 c (side_of a.va)) i.value) (sym h) (done (stops (fault1 AddressSize most_left))) (stage1_from q (sizes1 c (side_of a.va)).start record { address = i.value; bits = no_bits })) ∙ ap (λ z. ends (stops z) (drop 1 items)) (sym p))
+      start_large h d p = (
+        omega (arith, l),
+        by_base ∙ ap (λ t. on (fits r) t (drop 1 items)) (on_with (is_too_large (sizes1 c (side_of a.va)) i.value) (sym h) (done (stops (fault1 AddressSize most_left))) (stage1_from q (sizes1 c (side_of a.va)).start record { address = i.value; bits = no_bits })) ∙ ap (λ z. ends (stops z) (drop 1 items)) (sym p),
+      )
 
       module _ (h : false ≡ is_too_large (sizes1 c (side_of a.va)) i.value) where
         abbrev pub t : Table1

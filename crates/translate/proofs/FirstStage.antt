@@ -105,7 +105,6 @@ module _ (regs : Regs) (a : Access) (m : Told) where
     walked_from1 F new s h w =
         walked_goes reads m F F _ base1 _ first_item _ [] mid new s asks kept refl (off_with _ h _ _) (λ f. f) (walked_weaker (Reads2 regs m) reads m F read_now _ mid new s w)
 
-
   -- stage 1 is refused
   refused_at : (F : Type 0) (old new : List Item) (f : Fault) (b : Bool) → Err f ≡ (if b then begin1_on (config_of regs) a else (if is_refused_off (config_of regs) a then Err (refusal S1 false AddressSize) else Ok (Off (a.va % 2 ^ 52)))) → new ≡ old → Walked reads m F (if b then stage1_on q else stage1_off q) old new (Err (FaultStop f))
   refused_at F old new f true h n =

@@ -56,9 +56,11 @@ module _ (c : Config) (a : Access) (left : ℕ) (t : Table1) (e : Entry1) (here 
   pub lifted : (i : Item) (items rest more : List Item) → on (fits r) (word_of r e) rest ≡ ends (Ok i) more → (next : Table1) → Down next ≡ step1 q e i.pa i.value → 0 < left → (d : Stood1) → IsStood1 c a (left - 1) next items more d → IsStood1 c a left t items rest d
   lifted i items rest more h next step few (Found l at) d = (d.0, by_down i rest more h next step few ∙ d.1, d.2)
   lifted i items rest more h next step few (Refused f at) d = (d.0, by_down i rest more h next step few ∙ d.1)
-  lifted i items rest more h next step few (AtTable from) d =
-      ((d.0.0, by_down i rest more h next step few ∙ d.0.1), d.1,
-       λ z. by_down i (rest ++ z) (more ++ z) (on_ends_append (fits r) (word_of r e) rest z (Ok i) more h) next step few ∙ d.2 z)
+  lifted i items rest more h next step few (AtTable from) d = (
+    (d.0.0, by_down i rest more h next step few ∙ d.0.1),
+    d.1,
+    λ z. by_down i (rest ++ z) (more ++ z) (on_ends_append (fits r) (word_of r e) rest z (Ok i) more h) next step few ∙ d.2 z,
+  )
   lifted i items rest more h next step few Within d = ((d.0.0, by_down i rest more h next step few ∙ d.0.1), d.1)
   lifted i items rest more h next step few Unfit d = by_down i rest more h next step few ∙ d
 

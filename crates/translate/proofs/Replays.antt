@@ -123,9 +123,10 @@ module _ (c : Config) (a : Access) (items : List Item) where
   on_refused f at l h = ended_at c a items at (stops f) (Faulted f) l (by_stage1 c a items _ h) refl
 
   pub on_more : (from : From1) → IsStoodOn c a items (AtTable from) → IsReplayed c a items (More from)
-  on_more from d =
-      (((d.0.0, by_stage1 c a items _ d.0.1), d.1),
-       λ more. by_stage1 c a (items ++ more) _ (d.2 more) ∙ sym (on_after (fits (r c a)) (stage1_from (q c a) (left_below from.level) (table_from from)) (stage2_behind (q c a)) more))
+  on_more from d = (
+    ((d.0.0, by_stage1 c a items _ d.0.1), d.1),
+    λ more. by_stage1 c a (items ++ more) _ (d.2 more) ∙ sym (on_after (fits (r c a)) (stage1_from (q c a) (left_below from.level) (table_from from)) (stage2_behind (q c a)) more),
+  )
 
   pub on_needs : (n : Need) → stands_stage1 c a items ≡ needs n → (EndsAtTop c (side_of a.va) items → ⊥) → IsReplayed c a items Other
   on_needs n h t = other_needs c a items n (by_stage1 c a items _ h) t

@@ -141,7 +141,14 @@ fn stand_start(config: &Config, access: &Access, items: &[Item]) -> Stood1
             at: 1,
         };
     }
-    stand_granule(config, access, sizes.start, start_table(item.value), items, 1)
+    stand_granule(
+        config,
+        access,
+        sizes.start,
+        start_table(item.value),
+        items,
+        1,
+    )
 }
 
 /// The numbers of stage 1 for an access that it doesn't refuse.

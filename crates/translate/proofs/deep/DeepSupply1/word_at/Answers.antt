@@ -20,7 +20,7 @@ returns-in-Err-descriptor_read-clause-gave g c =
     let on = rw c.config-config.ensures.same at c.if-not-config.false in
     let denied = rw c.config-config.ensures.same at c.in-Err-descriptor_read.ensures in
     gave_deep g.S.Supply.memory g.S.Supply.faults g.S.Supply.keeps c.args.self.now _ _ _ _ _ _ refl refl c.in-Ok.ensures.same c.in-Ok.ensures.later c.in-Ok.ensures.kept
-      (had_denied_by _ _ on _ _ _ _ _ c.in-Ok.leaf c.in-Ok.ensures.walked c.in-Ok.ensures.most denied.0 _ denied.1)
+    (had_denied_by _ _ on _ _ _ _ _ c.in-Ok.leaf c.in-Ok.ensures.walked c.in-Ok.ensures.most denied.0 _ denied.1)
 
 pub returns-clause-gave : goal.returns-clause-gave
 returns-clause-gave g c =
@@ -28,8 +28,8 @@ returns-clause-gave g c =
     let readable = rw c.config-config.ensures.same at c.in_default.ensures in
     let read = rw (c.walker1-2.ensures, to_z-of_z _ _ c.ranges.level, c.in-Ok.ensures.same) at c.read-2.ensures.read in
     gave_deep g.S.Supply.memory g.S.Supply.faults g.S.Supply.keeps c.args.self.now _ c.args.level c.args.ipa _ _ _ refl refl
-      (c.read-2.ensures.same ∙ c.in-Ok.ensures.same)
-      (omega (arith, c.in-Ok.ensures.later, c.read-2.ensures.later))
-      (g.met.S.Supply.keeps_then _ _ _ c.in-Ok.ensures.kept c.read-2.ensures.kept)
-      (had_read _ _ on c.args.level _ _ _ _ c.in-Ok.leaf c.in-Ok.ensures.walked c.in-Ok.ensures.most _ _
-        (rose_weaker _ _ _ _ c.in-Ok.ensures.later (omega arith)) _ _ readable read)
+    (c.read-2.ensures.same ∙ c.in-Ok.ensures.same)
+    (omega (arith, c.in-Ok.ensures.later, c.read-2.ensures.later))
+    (g.met.S.Supply.keeps_then _ _ _ c.in-Ok.ensures.kept c.read-2.ensures.kept)
+    (had_read _ _ on c.args.level _ _ _ _ c.in-Ok.leaf c.in-Ok.ensures.walked c.in-Ok.ensures.most _ _
+    (rose_weaker _ _ _ _ c.in-Ok.ensures.later (omega arith)) _ _ readable read)
