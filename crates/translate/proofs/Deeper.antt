@@ -1,6 +1,6 @@
 -- The items of a walk through stage 2 are of stage 2.
-use Rattle.std.proofs.Common.{◌≡◌, ℕ, zero, suc, ◌<◌, ◌≤◌, List, [], ◌∷◌, ◌++◌, length, length-append, drop, refl, sym, ap, ◌∙◌, subst, true, false, Bool, cond, arith, Ok, Err, Result, inl, inr, append-nil}
-use Rattle.std.specs.Prelude.{◌&&◌, ◌||◌, ◌⊎◌}
+use Rattle.std.proofs.Common.{◌≡◌, ℕ, zero, suc, ◌<◌, ◌≤◌, List, [], ◌∷◌, ◌++◌, length, length-append, drop, refl, sym, ap, ◌∙◌, subst, true, false, Bool, cond, arith, Ok, Result, inl, inr, append-nil}
+use Rattle.std.specs.Prelude.{◌&&◌, ◌||◌}
 use Rattle.geometry.specs.Tables.{left_below}
 use Rattle.descriptors.specs.Meaning.{means1_of}
 use Rattle.fault_codes.specs.declared.fault.Fault.{Fault}
@@ -16,7 +16,7 @@ use Rattle.walk_spec.specs.declared.leaf.Leaf2.{Leaf2}
 use Rattle.walk_spec.specs.Ask.{Ask, done, ask, after, Stands, needs, bad, ends, on}
 use Rattle.walk_spec.specs.Needs.{Need, base2, word, WordNeed, Regime, fits, stage_eq, is_base}
 use Rattle.walk_spec.specs.Steps.{End, stops, reaches, step_then}
-use Rattle.walk_spec.specs.Stage2.{Asked2, step2, walk2_from, walk2_behind, walk2, is_refused2}
+use Rattle.walk_spec.specs.Stage2.{Asked2, step2, walk2_from, walk2, is_refused2}
 use Rattle.walk_spec.specs.Stage1.{asked2, is_readable, read1, read1_by, word_of}
 use Rattle.table_reads.specs.Places.{is_too_large}
 use Rattle.walk_spec.proofs.Standing.{on_after_needs, NeedsLater}

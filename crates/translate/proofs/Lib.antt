@@ -5,6 +5,8 @@ pub mod OnWords1
 pub mod Deeper
 pub mod Tops
 pub mod OnTables1
+pub mod Replays
+pub mod Begins1
 pub mod Begun
 pub mod Had
 pub mod DeepLaw

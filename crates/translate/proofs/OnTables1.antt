@@ -1,21 +1,20 @@
 -- How stage 1 stands from a table on kept items.
-use Rattle.std.proofs.Common.{◌≡◌, ℕ, ◌+◌, ◌-◌, ◌<◌, ◌≤◌, List, [], ◌∷◌, ◌++◌, length, drop, refl, sym, ap, ◌∙◌, subst, true, false, Bool, arith, Ok, Err, Result}
-use Rattle.geometry.specs.Tables.{most_left, level_of, left_below}
+use Rattle.std.proofs.Common.{◌≡◌, ℕ, ◌-◌, ◌<◌, ◌≤◌, List, [], ◌∷◌, ◌++◌, length, drop, sym, ap, ◌∙◌, true, false, Bool, Ok, Result}
+use Rattle.geometry.specs.Tables.{most_left, left_below}
 use Rattle.sysregs.specs.declared.regs.Config.{Config}
 use Rattle.sysregs.specs.declared.regs.Side.{Side}
 use Rattle.sysregs.specs.Sides.{side_of}
 use Rattle.fault_codes.specs.declared.fault.Fault.{Fault}
 use Rattle.trails.specs.declared.item.Item.{Item}
 use Rattle.trails.specs.declared.outcome.Access.{Access}
-use Rattle.table_reads.specs.declared.step.Step.{Step}
 use Rattle.table_reads.specs.declared.step.Step.TheVariants.{Down, Reached, Stopped}
 use Rattle.walk_spec.specs.declared.entry.Entry1.{Entry1}
 use Rattle.walk_spec.specs.declared.entry.Table1.{Table1}
 use Rattle.walk_spec.specs.declared.leaf.Leaf1.{Leaf1}
-use Rattle.walk_spec.specs.Ask.{Ask, done, ask, after, finer, go_on, Stands, needs, bad, ends, on}
+use Rattle.walk_spec.specs.Ask.{Ask, finer, go_on, Stands, ends, on}
 use Rattle.walk_spec.specs.Needs.{Need, Regime, fits, regime_of}
 use Rattle.walk_spec.specs.Steps.{End, stops, reaches}
-use Rattle.walk_spec.specs.Stage1.{Asked, entry1, step1, word_of, walk1_from}
+use Rattle.walk_spec.specs.Stage1.{Asked, entry1, step1, word_of}
 use Rattle.walk_spec.specs.BothStages.{asked}
 use Rattle.walk_spec.proofs.Standing.{on_after, then_on, on_ends_append}
 use Rattle.walk_spec.proofs.Kept.{rest_none}
@@ -57,9 +56,11 @@ module _ (c : Config) (a : Access) (left : ℕ) (t : Table1) (e : Entry1) (here 
   pub lifted : (i : Item) (items rest more : List Item) → on (fits r) (word_of r e) rest ≡ ends (Ok i) more → (next : Table1) → Down next ≡ step1 q e i.pa i.value → 0 < left → (d : Stood1) → IsStood1 c a (left - 1) next items more d → IsStood1 c a left t items rest d
   lifted i items rest more h next step few (Found l at) d = (d.0, by_down i rest more h next step few ∙ d.1, d.2)
   lifted i items rest more h next step few (Refused f at) d = (d.0, by_down i rest more h next step few ∙ d.1)
-  lifted i items rest more h next step few (AtTable from) d =
-      ((d.0.0, by_down i rest more h next step few ∙ d.0.1), d.1,
-       λ z. by_down i (rest ++ z) (more ++ z) (on_ends_append (fits r) (word_of r e) rest z (Ok i) more h) next step few ∙ d.2 z)
+  lifted i items rest more h next step few (AtTable from) d = (
+    (d.0.0, by_down i rest more h next step few ∙ d.0.1),
+    d.1,
+    λ z. by_down i (rest ++ z) (more ++ z) (on_ends_append (fits r) (word_of r e) rest z (Ok i) more h) next step few ∙ d.2 z,
+  )
   lifted i items rest more h next step few Within d = ((d.0.0, by_down i rest more h next step few ∙ d.0.1), d.1)
   lifted i items rest more h next step few Unfit d = by_down i rest more h next step few ∙ d
 

@@ -1,18 +1,16 @@
 -- How the words of stage 1 stand on kept items.
-use Rattle.std.proofs.Common.{◌≡◌, ℕ, zero, suc, ◌+◌, ◌-◌, ◌<◌, ◌≤◌, List, [], ◌∷◌, ◌++◌, length, drop, add-one, get_or, refl, sym, ap, ◌∙◌, subst, true, false, Bool, arith, Ok, Err, Result}
-use Rattle.std.specs.Prelude.{if◌then◌else◌, ◌&&◌}
-use Rattle.sysregs.specs.declared.regs.Config.{Config}
+use Rattle.std.proofs.Common.{◌≡◌, ℕ, zero, suc, ◌+◌, ◌<◌, List, [], ◌∷◌, ◌++◌, length, drop, add-one, get_or, refl, sym, ap, ◌∙◌, true, false, Bool, arith, Err}
+use Rattle.std.specs.Prelude.{◌&&◌}
 use Rattle.fault_codes.specs.declared.fault.Fault.{Fault}
 use Rattle.trails.specs.declared.item.Item.{Item}
 use Rattle.walk_spec.specs.declared.entry.Entry1.{Entry1}
 use Rattle.walk_spec.specs.declared.leaf.Leaf2.{Leaf2}
-use Rattle.walk_spec.specs.Ask.{Ask, done, ask, after, Stands, needs, bad, ends, on}
+use Rattle.walk_spec.specs.Ask.{done, after, Stands, ends, on}
 use Rattle.walk_spec.specs.Needs.{Need, Regime, word, fits}
-use Rattle.walk_spec.specs.Steps.{End, stops, reaches}
+use Rattle.walk_spec.specs.Steps.{End, reaches}
 use Rattle.walk_spec.specs.Stage2.{walk2}
 use Rattle.walk_spec.specs.Stage1.{asked2, is_readable, read1, read1_by, word_of}
 use Rattle.walk_spec.proofs.Standing.{on_after, then_on}
-use Rattle.walk_spec.proofs.Kept.{rest_some}
 use Rattle.stage1_walk.specs.Kept.{needed1}
 use Rattle.translate.specs.Parts.{unreadable}
 use Rattle.translate.specs.Standing.{is_word1}

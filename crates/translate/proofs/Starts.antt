@@ -1,5 +1,5 @@
 -- Start levels and tables of stage 1.
-use Rattle.std.proofs.Common.{◌≡◌, ℕ, ◌≤◌, ◌<◌, ◌%◌, ◌^◌, true, arith}
+use Rattle.std.proofs.Common.{◌≡◌, ◌≤◌, ◌<◌, ◌%◌, ◌^◌, true, arith}
 use Rattle.geometry.specs.Tables.{most_left, level_of}
 use Rattle.geometry.proofs.Sizes.{start_within}
 use Rattle.sysregs.specs.declared.regs.Config.{Config}

@@ -1,5 +1,5 @@
 -- Which words of stage 1 are those of tables.
-use Rattle.std.proofs.Common.{◌≡◌, ℕ, zero, suc, ◌≤◌, refl, sym, ap, ◌∙◌, subst, true, false, Bool, not, arith}
+use Rattle.std.proofs.Common.{◌≡◌, ℕ, zero, suc, ◌≤◌, refl, ap, ◌∙◌, true, false, Bool, not, arith}
 use Rattle.std.specs.Prelude.{◌&&◌, ◌||◌, ℤ, pos, negsuc, if◌then◌else◌}
 use Rattle.std.proofs.lemmas.Bool.{eqb-true}
 use Rattle.geometry.specs.Tables.{most_left, level_of, left_below}
@@ -13,7 +13,6 @@ use Rattle.descriptors.specs.Meaning.{means1_of}
 use Rattle.trails.specs.declared.item.Item.{Item}
 use Rattle.trails.specs.declared.item.What.{What}
 use Rattle.trails.specs.declared.item.What.TheVariants.{Base, Word}
-use Rattle.table_reads.specs.declared.step.Step.{Step}
 use Rattle.table_reads.specs.declared.step.Step.TheVariants.{Down, Reached, Stopped}
 use Rattle.walk_spec.specs.declared.entry.Entry1.{Entry1}
 use Rattle.walk_spec.specs.declared.entry.Table1.{Table1}

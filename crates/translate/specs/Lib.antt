@@ -10,3 +10,4 @@ pub mod Checked
 pub mod Parts
 pub mod Deep
 pub mod Standing
+pub mod Replayed

@@ -4,6 +4,8 @@
 mod begin;
 mod deep;
 pub mod parts;
+pub mod replay;
+mod replayed;
 mod stage1;
 mod stage2;
 mod stand;
@@ -11,6 +13,7 @@ mod under;
 mod whole;
 
 pub use begin::Begin1;
+pub use replayed::Replay;
 pub use whole::translate;
 
 #[cfg(test)]

@@ -43,7 +43,7 @@ pub(crate) enum Stood1 {
 }
 
 /// The item at a place.
-fn item_at(items: &[Item], at: usize) -> Item
+pub(crate) fn item_at(items: &[Item], at: usize) -> Item
     requires { at < length items.now }
     ensures { result ≡ slice_index_or items.now at result }
 {

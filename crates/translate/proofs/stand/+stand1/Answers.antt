@@ -1,4 +1,4 @@
-use Rattle.std.proofs.Common.{rules, ◌≡◌, ◌≤◌, ◌+◌, ◌-◌, ◌<◌, length, drop, arith, refl, sym, ap, ◌∙◌, true}
+use Rattle.std.proofs.Common.{◌≡◌, ◌≤◌, ◌<◌, length, drop, arith, ap, true}
 use Rattle.sysregs.specs.Sides.{side_of}
 use Rattle.walk_spec.specs.Needs.{regime_of}
 use Rattle.walk_spec.specs.BothStages.{asked}
@@ -25,10 +25,11 @@ returns-in-Reached g t c = λ top.
     let e = c.entry1-entry.ensures in
     let h = c.in-Had.ensures in
     let few = c.requires.left.1 in
-    let few2 : c.entry1-entry.result.left ≤ most_left = rw e few in
-    (h.0,
-     by_reached c.args.config.now c.args.access.now c.args.left c.args.table c.entry1-entry.result e c.in-Had.item (drop c.args.at c.args.items.now) (drop c.in-Had.next c.args.items.now) h.1 c.in-Reached.leaf c.in-Reached.ensures.value,
-     λ l. ends_untop _ _ c.args.items.now h.3.0 c.in-Had.item c.in-Had.next h.3.1 (reached_top (asked c.args.config.now true c.args.access.now) c.entry1-entry.result c.in-Had.item few2 h.2 c.in-Reached.leaf c.in-Reached.ensures.value) l)
+    let few2 : c.entry1-entry.result.left ≤ most_left = rw e few in (
+      h.0,
+      by_reached c.args.config.now c.args.access.now c.args.left c.args.table c.entry1-entry.result e c.in-Had.item (drop c.args.at c.args.items.now) (drop c.in-Had.next c.args.items.now) h.1 c.in-Reached.leaf c.in-Reached.ensures.value,
+      λ l. ends_untop _ _ c.args.items.now h.3.0 c.in-Had.item c.in-Had.next h.3.1 (reached_top (asked c.args.config.now true c.args.access.now) c.entry1-entry.result c.in-Had.item few2 h.2 c.in-Reached.leaf c.in-Reached.ensures.value) l,
+    )
 
 pub returns-in-Stopped : goal.returns-in-Stopped
 returns-in-Stopped g t c = λ top.
@@ -43,17 +44,19 @@ returns-in-Refused g t c = λ top.
 
 pub returns-then-at-items : goal.returns-then-at-items
 returns-then-at-items g t c = λ top.
-    let h = c.in-Needs.ensures in
-    ((h.0, by_word c.args.config.now c.args.access.now c.args.left c.args.table c.entry1-entry.result c.entry1-entry.ensures (drop c.args.at c.args.items.now) _ h.1),
-     top c.if-at-items.true,
-     goes_here c.args.config.now c.args.access.now c.args.left c.args.table (drop c.args.at c.args.items.now) _ c.requires.left.1 (rest_none c.args.at c.args.items.now c.if-at-items.true) c.from1_at.ensures)
+    let h = c.in-Needs.ensures in (
+      (h.0, by_word c.args.config.now c.args.access.now c.args.left c.args.table c.entry1-entry.result c.entry1-entry.ensures (drop c.args.at c.args.items.now) _ h.1),
+      top c.if-at-items.true,
+      goes_here c.args.config.now c.args.access.now c.args.left c.args.table (drop c.args.at c.args.items.now) _ c.requires.left.1 (rest_none c.args.at c.args.items.now c.if-at-items.true) c.from1_at.ensures,
+    )
 
 pub returns-else-at-items : goal.returns-else-at-items
 returns-else-at-items g t c = λ top.
     let h = c.in-Needs.ensures in
-    let l : c.args.at < length c.args.items.now = omega arith in
-    ((h.0, by_word c.args.config.now c.args.access.now c.args.left c.args.table c.entry1-entry.result c.entry1-entry.ensures (drop c.args.at c.args.items.now) _ h.1),
-     deep_end _ _ c.args.items.now c.args.at l (word_needs_deep (regime_of c.args.config.now (side_of c.args.access.now.va)) c.entry1-entry.result _ h.0 h.1))
+    let l : c.args.at < length c.args.items.now = omega arith in (
+      (h.0, by_word c.args.config.now c.args.access.now c.args.left c.args.table c.entry1-entry.result c.entry1-entry.ensures (drop c.args.at c.args.items.now) _ h.1),
+      deep_end _ _ c.args.items.now c.args.at l (word_needs_deep (regime_of c.args.config.now (side_of c.args.access.now.va)) c.entry1-entry.result _ h.0 h.1),
+    )
 
 pub returns-in-Unfit : goal.returns-in-Unfit
 returns-in-Unfit g t c = λ top. by_word c.args.config.now c.args.access.now c.args.left c.args.table c.entry1-entry.result c.entry1-entry.ensures (drop c.args.at c.args.items.now) _ c.in-Unfit.ensures

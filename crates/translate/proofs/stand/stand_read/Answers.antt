@@ -1,4 +1,4 @@
-use Rattle.std.proofs.Common.{◌≡◌, ◌≤◌, ◌+◌, ◌<◌, length, arith, refl, sym, Ok}
+use Rattle.std.proofs.Common.{◌≤◌, ◌+◌, ◌<◌, length, arith, refl, sym, Ok}
 use Rattle.sysregs.specs.Sides.{side_of}
 use Rattle.walk_spec.specs.Ask.{done}
 use Rattle.walk_spec.specs.Needs.{fits, regime_of, word}
@@ -22,8 +22,9 @@ pub returns : goal.returns
 returns g c =
     let r = regime_of c.args.config.now (side_of c.args.access.now.va) in
     let l : c.args.at < length c.args.items.now = omega arith in
-    let m : c.args.at + 1 ≤ length c.args.items.now = omega arith in
-    (m,
-     asks_by (fits r) _ (word (needed1 c.args.entry.now c.args.place)) (λ i. done (Ok i)) refl c.args.items.now c.args.at c.item_at-item.result l c.item_at-item.ensures (sym c.if-not-fits_entry.ensures),
-     fits_is_word1 r c.args.entry.now c.args.place c.item_at-item.result c.if-not-fits_entry.ensures,
-     split_at c.args.items.now c.args.at c.item_at-item.result l c.item_at-item.ensures)
+    let m : c.args.at + 1 ≤ length c.args.items.now = omega arith in (
+      m,
+      asks_by (fits r) _ (word (needed1 c.args.entry.now c.args.place)) (λ i. done (Ok i)) refl c.args.items.now c.args.at c.item_at-item.result l c.item_at-item.ensures (sym c.if-not-fits_entry.ensures),
+      fits_is_word1 r c.args.entry.now c.args.place c.item_at-item.result c.if-not-fits_entry.ensures,
+      split_at c.args.items.now c.args.at c.item_at-item.result l c.item_at-item.ensures,
+    )

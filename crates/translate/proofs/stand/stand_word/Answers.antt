@@ -1,4 +1,4 @@
-use Rattle.std.proofs.Common.{◌≡◌, sym, subst, drop}
+use Rattle.std.proofs.Common.{sym, subst, drop}
 use Rattle.sysregs.specs.Sides.{side_of}
 use Rattle.walk_spec.specs.Needs.{regime_of}
 use Rattle.translate.specs.Standing.{IsStoodWord}
