@@ -43,7 +43,8 @@ NeedsMore c a trail = ((n : Need) × (stands_whole c a trail ≡ needs n)) × En
 abbrev pub GoesOnFrom : (config : Config) (access : Access) (trail : List Item) (from : From1) → Type 0
 GoesOnFrom c a trail from =
     (more : List Item) → stands_whole c a (trail ++ more)
-    ≡ on (fits (regime_of c (side_of a.va))) (after (stage1_from (asked c true a) (left_below from.level) (table_from from)) (stage2_behind (asked c true a))) more
+    ≡ on (fits (regime_of c (side_of a.va)))
+    (after (stage1_from (asked c true a) (left_below from.level) (table_from from)) (stage2_behind (asked c true a))) more
 
 -- It ended exactly where the walk ends on a front of the trail; else there is more exactly where the walk needs something
 -- behind the whole of it and the last item is a base or a table of stage 1; else it is neither. (A walk that needs

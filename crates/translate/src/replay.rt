@@ -51,7 +51,8 @@ fn replay_output(
     requires config { InRange config.now }
     requires on { IsTrue config.now.m ↔ IsSome leaf1 }
     requires at { at ≤ length items.now }
-    requires stage1 { stands_stage1 config.now access.now items.now ≡ ends (reaches (leaf1_or_off config.now access.now (option_map (λ l. l.now) leaf1))) (drop at items.now) }
+    requires stage1 { stands_stage1 config.now access.now items.now
+        ≡ ends (reaches (leaf1_or_off config.now access.now (option_map (λ l. l.now) leaf1))) (drop at items.now) }
     requires untop { at ≡ length items.now → EndsAtTop config.now (side_of access.now.va) items.now → ⊥ }
     ensures { IsReplayed config.now access.now items.now result }
 {

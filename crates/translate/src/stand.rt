@@ -64,7 +64,8 @@ fn stand_read<const G: u32>(
     requires accepted { IsFalse (is_refused1 config.now access.now) }
     requires left { entry.now.left ≤ most_left }
     requires at { at ≤ length items.now }
-    ensures { IsStoodWord entry.now.left items.now result (on (fits (regime_of config.now (side_of access.now.va))) (read1 entry.now place) (drop at items.now)) }
+    ensures { IsStoodWord entry.now.left items.now result
+        (on (fits (regime_of config.now (side_of access.now.va))) (read1 entry.now place) (drop at items.now)) }
 {
     if at == items.len() {
         return StoodWord::Needs;
@@ -89,7 +90,8 @@ fn stand_word<const G: u32>(
     requires accepted { IsFalse (is_refused1 config.now access.now) }
     requires left { entry.now.left ≤ most_left }
     requires at { at ≤ length items.now }
-    ensures { IsStoodWord entry.now.left items.now result (on (fits (regime_of config.now (side_of access.now.va))) (word_of (regime_of config.now (side_of access.now.va)) entry.now) (drop at items.now)) }
+    ensures { IsStoodWord entry.now.left items.now result (on (fits (regime_of config.now (side_of access.now.va)))
+        (word_of (regime_of config.now (side_of access.now.va)) entry.now) (drop at items.now)) }
 {
     if !config.vm {
         return stand_read::<G>(config, access, entry, entry.place, items, at);
@@ -134,7 +136,8 @@ pub(crate) fn stand1<const G: u32>(
     requires left { left ≤ (Numbers.sizes1 config.now (side_of access.now.va)).start × left ≤ most_left }
     requires table { table.address < 2 ^ 52 × table.address % 8 ≡ 0 }
     requires at { at ≤ length items.now }
-    ensures { (at ≡ length items.now → EndsAtTop config.now (side_of access.now.va) items.now) → IsStood1 config.now access.now left table items.now (drop at items.now) result }
+    ensures { (at ≡ length items.now → EndsAtTop config.now (side_of access.now.va) items.now)
+        → IsStood1 config.now access.now left table items.now (drop at items.now) result }
 {
     let entry = entry1::<G>(config, access, left, table);
     match stand_word::<G>(config, access, &entry, items, at) {

@@ -9,15 +9,17 @@ mod refused;
 mod sizes;
 mod worked;
 
+use crate::replay::replay;
 use crate::tests::case::Case;
 use crate::tests::denied::DENIED;
 use crate::tests::reached::REACHED;
 use crate::tests::refused::REFUSED;
 use crate::tests::sizes::SIZES;
 use crate::tests::worked::WORKED;
-use crate::translate;
+use crate::{Replay, translate};
+use stage2_walk::{Replay2, replay2};
 use std::process::Abort;
-use sysregs::fields::check_reg;
+use sysregs::fields::{check_reg, config};
 use sysregs::{Reg, Regs};
 use table_reads::Supply;
 use trails::{Outcome, What};
@@ -89,6 +91,52 @@ fn expect(rt: &impl Abort, case: &Case) -> usize {
     found.len()
 }
 
+/// Asserts that a trail is replayed to the end of its walk by all its items, unless a word was lacking, and that its base
+/// alone needs more where it is of stage 1. It answers how many items there are.
+fn expect_again(rt: &impl Abort, case: &Case) -> usize {
+    assert!(rt; are_accepted(&case.regs), "{}", case.name);
+    let mut supply = Words {
+        words: case.words,
+        asked: 0,
+    };
+    let config = config(&case.regs);
+    let (outcome, mut trail) = translate(&case.regs, &case.access(), &mut supply);
+    let len = trail.items().len();
+    let again = replay(&config, &case.access(), &trail);
+    if matches!(outcome, Outcome::Absent { .. }) {
+        assert!(rt; !matches!(again, Replay::Ended { .. }), "{}", case.name);
+    } else {
+        assert_eq!(rt; again, Replay::Ended { len, outcome }, "{}", case.name);
+    }
+    if len > 1 {
+        trail.cut(1);
+        let base = replay(&config, &case.access(), &trail);
+        assert_eq!(rt;
+            matches!(base, Replay::More { .. }),
+            config.m,
+            "{}",
+            case.name
+        );
+    }
+    len
+}
+
+/// The last five items of the walk of both stages from level 0 are those of its output.
+fn expect_output(rt: &impl Abort, case: &Case, ipa: u64) {
+    assert!(rt; are_accepted(&case.regs), "{}", case.name);
+    let mut supply = Words {
+        words: case.words,
+        asked: 0,
+    };
+    let (_, trail) = translate(&case.regs, &case.access(), &mut supply);
+    let Some(last) = trail.items().get(25..) else {
+        assert!(rt; false, "{}", case.name);
+        return;
+    };
+    let found = replay2(&config(&case.regs), ipa, last);
+    assert!(rt; matches!(found, Replay2::Ended { .. }), "{}", case.name);
+}
+
 #[test]
 fn translations(rt: HostRuntime) {
     let mut longest = 0;
@@ -101,6 +149,10 @@ fn translations(rt: HostRuntime) {
     ] {
         for case in table {
             longest = expect(&rt, case).max(longest);
+            let again = expect_again(&rt, case);
+            if again == 30 {
+                expect_output(&rt, case, 0x5abc);
+            }
         }
     }
     assert_eq!(rt; longest, 1 + 4 * (5 + 1) + 5, "four levels of both stages");
