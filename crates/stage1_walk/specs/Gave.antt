@@ -19,7 +19,8 @@ EndsInWord items (Ok v) = (front : List Item) × (i : Item) × (items ≡ front 
 EndsInWord items (Err stop) = Unit {0}
 
 -- A supply appended what it gave for a word: at most a base and five words of stage 2, and the word's own item last.
-pub record Gave {S : Type 0} (gives : List Item → Result ℕ Stop → S → Type 0) (old new : List Item) (result : Result ℕ Stop) (after : S) : Type 0 where
+pub record Gave {S : Type 0} (gives : List Item → Result ℕ Stop → S → Type 0) (old new : List Item)
+    (result : Result ℕ Stop) (after : S) : Type 0 where
   pub more : List Item
   pub grown : new ≡ old ++ more
   pub most : length more ≤ most_per_word

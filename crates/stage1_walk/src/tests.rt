@@ -98,7 +98,16 @@ impl<'a> Supply1 for Words<'a> {
 
 /// The registers with stage 1 alone. The attributes of index 0 are Device-nGnRnE, those of index 1 write-back.
 fn regs(tcr_el1: u64) -> Regs
-    ensures { result ≡ record { sctlr_el1 = 1; tcr_el1 = tcr_el1; ttbr0_el1 = 0; ttbr1_el1 = 0; mair_el1 = 0xff00; hcr_el2 = 0; vtcr_el2 = 0; vttbr_el2 = 0 } }
+    ensures { result ≡ record {
+      sctlr_el1 = 1;
+      tcr_el1 = tcr_el1;
+      ttbr0_el1 = 0;
+      ttbr1_el1 = 0;
+      mair_el1 = 0xff00;
+      hcr_el2 = 0;
+      vtcr_el2 = 0;
+      vttbr_el2 = 0;
+    } }
 {
     Regs {
         sctlr_el1: 1,

@@ -57,7 +57,8 @@ IsReplayed c a trail Other = ((len : ℕ) (o : Outcome) → EndsOn c a trail len
 -- what is answered for how stage 1 stands from its base
 abbrev pub IsStoodOn : (config : Config) (access : Access) (trail : List Item) (stood : Stood1) → Type 0
 IsStoodOn c a trail (Found l at) =
-    (at ≤ length trail) × (stands_stage1 c a trail ≡ ends (reaches l) (drop at trail)) × (at ≡ length trail → EndsAtTop c (side_of a.va) trail → ⊥)
+    (at ≤ length trail) × (stands_stage1 c a trail ≡ ends (reaches l) (drop at trail))
+    × (at ≡ length trail → EndsAtTop c (side_of a.va) trail → ⊥)
 IsStoodOn c a trail (Refused f at) = (at ≤ length trail) × (stands_stage1 c a trail ≡ ends (stops f) (drop at trail))
 IsStoodOn c a trail (AtTable from) =
     ((n : Need) × (stands_stage1 c a trail ≡ needs n)) × EndsAtTop c (side_of a.va) trail

@@ -50,7 +50,8 @@ is_word1 left i = is_word i.what && stage_eq i.stage S1 && level_eq i.level (lev
 -- what is answered for how a word stands on the items from a place on
 abbrev pub IsStoodWord : (left : ℕ) (items : List Item) (stood : StoodWord) (stands : Stands Need Item (Result Item Fault)) → Type 0
 IsStoodWord left items (Had i at) s =
-    (at ≤ length items) × (s ≡ ends (Ok i) (drop at items)) × (is_word1 left i ≡ true) × ((front : List Item) × (items ≡ front ++ i ∷ drop at items))
+    (at ≤ length items) × (s ≡ ends (Ok i) (drop at items)) × (is_word1 left i ≡ true)
+    × ((front : List Item) × (items ≡ front ++ i ∷ drop at items))
 IsStoodWord left items (Refused f at) s = (at ≤ length items) × (s ≡ ends (Err f) (drop at items))
 IsStoodWord left items Needs s = (n : Need) × (s ≡ needs n)
 IsStoodWord left items Unfit s = s ≡ bad
@@ -66,7 +67,8 @@ GoesOn c a left t items from = (more : List Item) → stands1 c a left t (items 
 -- What is answered for how stage 1 stands from a table on the rest of a list. (The list, and its rest.)
 abbrev pub IsStood1 : (config : Config) (access : Access) (left : ℕ) (table : Table1) (items rest : List Item) (stood : Stood1) → Type 0
 IsStood1 c a left t items rest (Found l at) =
-    (at ≤ length items) × (stands1 c a left t rest ≡ ends (reaches l) (drop at items)) × (at ≡ length items → EndsAtTop c (side_of a.va) items → ⊥)
+    (at ≤ length items) × (stands1 c a left t rest ≡ ends (reaches l) (drop at items))
+    × (at ≡ length items → EndsAtTop c (side_of a.va) items → ⊥)
 IsStood1 c a left t items rest (Refused1 f at) = (at ≤ length items) × (stands1 c a left t rest ≡ ends (stops f) (drop at items))
 IsStood1 c a left t items rest (AtTable from) =
     ((n : Need) × (stands1 c a left t rest ≡ needs n)) × EndsAtTop c (side_of a.va) items × GoesOn c a left t rest from

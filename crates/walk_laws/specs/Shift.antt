@@ -43,7 +43,8 @@ regions2 c s p x items = regions_met (regime_of c s) (walk2 (asked2 (regime_of c
 -- word has the same region for both.
 abbrev pub Stage2Shifts : Type 0
 Stage2Shifts =
-    (c : Config) (s : Side) (s1ptw : Bool) (x y : ℕ) (items : List Item) (l : Leaf2) → stands2 c s s1ptw x items ≡ ends (reaches l) [] → SameAbove l.class x y →
+    (c : Config) (s : Side) (s1ptw : Bool) (x y : ℕ) (items : List Item) (l : Leaf2) →
+    stands2 c s s1ptw x items ≡ ends (reaches l) [] → SameAbove l.class x y →
     (stands2 c s s1ptw y items ≡ ends (reaches (moved2 l y)) []) × (regions2 c s s1ptw x items ≡ regions2 c s s1ptw y items)
 
 -- a walk needs a word

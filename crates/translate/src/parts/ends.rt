@@ -40,7 +40,8 @@ fn is_device(mem: MemType) -> bool
 /// Whether stage 2 lets a stage 1 descriptor be read whose place this leaf maps: as a read at EL1, and with PTW not from
 /// Device memory.
 pub fn descriptor_read(config: &Config, leaf: &Leaf2) -> Result<(), Fault>
-    ensures { MatchResult result (λ _. is_readable config.now leaf.now ≡ true) (λ f. (is_readable config.now leaf.now ≡ false) × (f ≡ unreadable leaf.now)) }
+    ensures { MatchResult result (λ _. is_readable config.now leaf.now ≡ true)
+        (λ f. (is_readable config.now leaf.now ≡ false) × (f ≡ unreadable leaf.now)) }
 {
     let readable = allows2(leaf.perms, El::El1, Kind::Read) & !(config.ptw & is_device(leaf.mem));
     if readable {
