@@ -3,3 +3,4 @@ pub mod Registers
 pub mod Sides
 pub mod Refused
 pub mod Equality
+pub mod Names

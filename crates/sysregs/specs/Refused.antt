@@ -1,8 +1,9 @@
 -- The fields that are refused where they are set. Which fields those are is this project's own rule.
-use Rattle.std.specs.Prelude.{ℕ, List, [], ◌∷◌, Option, Some, None, if◌then◌else◌}
+use Rattle.std.specs.Prelude.{ℕ, ◌≡◌, List, [], ◌∷◌, Option, Some, None, if◌then◌else◌}
 use Rattle.bitwords.specs.Fields.{bit}
 use Rattle.sysregs.specs.declared.regs.Reg.{Reg}
 use Rattle.sysregs.specs.declared.regs.Reg.TheVariants.{SctlrEl1, TcrEl1, Ttbr0El1, Ttbr1El1, MairEl1, HcrEl2, VtcrEl2, VttbrEl2}
+use Rattle.sysregs.specs.declared.regs.Regs.{Regs}
 use Rattle.sysregs.specs.declared.regs.Field.{Field}
 use Rattle.sysregs.specs.declared.regs.Field.TheVariants.{Ee, Dc, Tge, Cd, Id, Fwb, Ds}
 
@@ -25,3 +26,18 @@ first_set (x ∷ xs) w = if bit w x.0 then Some x.1 else first_set xs w
 -- the lowest refused field that a value sets
 abbrev pub refused_field : (register : Reg) (value : ℕ) → Option Field
 refused_field reg w = first_set (refused_bits reg) w
+
+-- what a register holds
+abbrev pub value_of : (registers : Regs) (register : Reg) → ℕ
+value_of r SctlrEl1 = r.sctlr_el1
+value_of r TcrEl1 = r.tcr_el1
+value_of r Ttbr0El1 = r.ttbr0_el1
+value_of r Ttbr1El1 = r.ttbr1_el1
+value_of r MairEl1 = r.mair_el1
+value_of r HcrEl2 = r.hcr_el2
+value_of r VtcrEl2 = r.vtcr_el2
+value_of r VttbrEl2 = r.vttbr_el2
+
+-- no register sets a refused field
+abbrev pub AreAccepted : (registers : Regs) → Type 0
+AreAccepted r = (register : Reg) → refused_field register (value_of r register) ≡ None

@@ -3,6 +3,7 @@
 
 mod equality;
 pub mod fields;
+mod names;
 mod regs;
 mod sides;
 

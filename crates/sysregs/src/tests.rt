@@ -240,3 +240,15 @@ fn refused_fields_and_equality(rt: HostRuntime) {
         );
     }
 }
+
+#[test]
+fn names(rt: HostRuntime) {
+    for (reg, name, key) in [
+        (Reg::SctlrEl1, "SCTLR_EL1", "sctlr_el1"),
+        (Reg::Ttbr1El1, "TTBR1_EL1", "ttbr1_el1"),
+        (Reg::VttbrEl2, "VTTBR_EL2", "vttbr_el2"),
+    ] {
+        assert_eq!(rt; (reg.name(), reg.key()), (name, key));
+    }
+    assert_eq!(rt; (Field::Fwb.name(), Field::Hd.name()), ("FWB", "HD"));
+}

@@ -1,6 +1,6 @@
 ghost use Rattle.std.specs.Prelude.{◌≡◌, ◌==◌, Some, true, option_map};
 ghost use Rattle.std.specs.List.{find};
-ghost use Rattle.translate.specs.Checked.{AreAccepted};
+ghost use Rattle.sysregs.specs.Refused.{AreAccepted};
 
 mod case;
 mod denied;

@@ -3,7 +3,7 @@ ghost use Rattle.std.specs.Prelude.{◌≡◌, ◌≤◌, [], IfOk, IfErr, Err, 
 ghost use Rattle.bitwords.specs.Causes.{Rose};
 ghost use Rattle.sysregs.specs.Registers.{config_of};
 ghost use Rattle.walk_spec.specs.Walked.{WalkedWhole, IsFresh, HasLine, HasLineStop};
-ghost use Rattle.translate.specs.Checked.{AreAccepted};
+ghost use Rattle.sysregs.specs.Refused.{AreAccepted};
 ghost use Rattle.translate.specs.Parts.{out_of};
 ghost use Rattle.translate.specs.Deep.{outcome_by};
 

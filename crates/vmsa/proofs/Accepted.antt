@@ -2,7 +2,7 @@
 use Rattle.std.proofs.Common.{◌≡◌, ℕ, None, refl}
 use Rattle.sysregs.specs.declared.regs.Reg.TheVariants.{SctlrEl1, TcrEl1, Ttbr0El1, Ttbr1El1, MairEl1, HcrEl2, VtcrEl2, VttbrEl2}
 use Rattle.sysregs.specs.Refused.{refused_field}
-use Rattle.translate.specs.Checked.{AreAccepted}
+use Rattle.sysregs.specs.Refused.{AreAccepted}
 use Rattle.vmsa.specs.Raw.{raw_regs}
 
 -- no refused field is set where TCR_EL1 sets none

@@ -1,0 +1,14 @@
+//! Files that are read by name, and dumps of memory: ELF64 cores that are read a page at a time.
+#![tactic(auto)]
+
+mod dump;
+mod files;
+mod fill;
+mod header;
+mod pages;
+mod refusal;
+
+pub use dump::{Dump, Segment};
+pub use files::{FailingFiles, Files, MemoryFile, MemoryFiles, ReadFailed, RealFiles};
+pub use fill::fill_from;
+pub use refusal::{DumpError, DumpField, DumpRefusal};

@@ -1,0 +1,196 @@
+ghost use Rattle.std.specs.Prelude.{◌≡◌, ℕ, List, [], Option, Some, None, false, if◌then◌else◌};
+ghost use Rattle.bitwords.specs.Causes.{HasCause};
+ghost use Rattle.explain_text.specs.Written.{Wrote};
+
+use std::alloc::Global;
+use std::io;
+
+/// A piece was not taken whole.
+#[derive(Clone, Copy, Debug, PartialEq, Eq)]
+pub struct WriteFailed;
+
+/// Takes bytes in order.
+pub trait Sink {
+    /// What was written, where that is told.
+    ghost written: { Self → Option (List ℕ) };
+
+    /// How often a call has failed.
+    ghost faults: { Self → ℕ };
+
+    /// Appends the piece, or at `Err` a prefix of it.
+    fn put(&mut self, piece: &[u8]) -> Result<(), WriteFailed>
+        ensures text { Wrote (written self.old) (written self.new) result piece.now }
+        ensures cause { HasCause (faults self.old) (faults self.new) result };
+}
+
+/// A sink over a writer. It doesn't tell what was written.
+#[derive(Drop)]
+pub struct Adapter<W> {
+    inner: W,
+    faults: u64,
+}
+
+impl<W: io::Write> Adapter<W> {
+    pub fn new(inner: W) -> Adapter<W> {
+        Adapter { inner, faults: 0 }
+    }
+}
+
+impl<W: io::Write> Sink for Adapter<W> {
+    ghost written = { λ _. None };
+
+    ghost faults = { λ s. s.faults };
+
+    /// A write that takes nothing of what is left fails, by `write_all`.
+    fn put(&mut self, piece: &[u8]) -> Result<(), WriteFailed> {
+        match self.inner.write_all(piece) {
+            Ok(()) => Ok(()),
+            Err(_) => {
+                self.faults = self.faults.saturating_add(1);
+                Err(WriteFailed)
+            }
+        }
+    }
+}
+
+/// Keeps what is written, and never fails. Where memory is refused it stops telling.
+#[derive(Drop)]
+pub struct QuietMemory {
+    pub bytes: Vec<u8>,
+    pub lost: bool,
+}
+
+impl QuietMemory {
+    pub fn new(alloc: Global) -> QuietMemory
+        ensures bytes { result.bytes.items ≡ [] }
+        ensures told { result.lost ≡ false }
+    {
+        QuietMemory {
+            bytes: Vec::new(alloc),
+            lost: false,
+        }
+    }
+}
+
+impl Sink for QuietMemory {
+    ghost written = { λ s. if s.lost then None else Some s.bytes.items };
+
+    ghost faults = { λ _. 0 };
+
+    fn put(&mut self, piece: &[u8]) -> Result<(), WriteFailed> {
+        if !self.lost && self.bytes.extend_from_slice(piece).is_err() {
+            self.lost = true;
+        }
+        Ok(())
+    }
+}
+
+/// Keeps what is written. The calls of a list fail after so many bytes of their piece, and so does a call that is
+/// refused memory.
+#[derive(Drop)]
+pub struct FailingMemory {
+    pub bytes: Vec<u8>,
+    /// The number of a call, counted from 0, and how many bytes it takes before it fails.
+    pub fails: Vec<(u64, usize)>,
+    pub calls: u64,
+    pub faults: u64,
+}
+
+impl FailingMemory {
+    pub fn new(alloc: Global, fails: Vec<(u64, usize)>) -> FailingMemory
+        ensures bytes { result.bytes.items ≡ [] }
+        ensures fails { result.fails ≡ fails }
+        ensures calls { result.calls ≡ 0 }
+        ensures faults { result.faults ≡ 0 }
+    {
+        FailingMemory {
+            bytes: Vec::new(alloc),
+            fails,
+            calls: 0,
+            faults: 0,
+        }
+    }
+
+    /// How many bytes this call takes, where it is one that fails.
+    fn fails_after(&self) -> Option<usize> {
+        for (call, taken) in self.fails.iter() {
+            if *call == self.calls {
+                return Some(*taken);
+            }
+        }
+        None
+    }
+}
+
+impl Sink for FailingMemory {
+    ghost written = { λ s. Some s.bytes.items };
+
+    ghost faults = { λ s. s.faults };
+
+    fn put(&mut self, piece: &[u8]) -> Result<(), WriteFailed> {
+        let fails = self.fails_after();
+        self.calls = self.calls.saturating_add(1);
+        let taken = match fails {
+            None => piece,
+            Some(taken) => &piece[..taken.min(piece.len())],
+        };
+        let stored = self.bytes.extend_from_slice(taken);
+        if fails.is_none() && stored.is_ok() {
+            return Ok(());
+        }
+        self.faults = self.faults.saturating_add(1);
+        Err(WriteFailed)
+    }
+}
+
+#[cfg(test)]
+mod tests {
+    use super::*;
+
+    /// A writer that takes so many bytes at once, and counts what it got and its last byte.
+    #[derive(Drop)]
+    struct Slow {
+        most: usize,
+        count: u64,
+        last: u8,
+    }
+
+    impl io::Write for Slow {
+        fn write(&mut self, piece: &[u8]) -> io::Result<usize> {
+            let taken = piece.len().min(self.most);
+            if taken > 0 {
+                self.last = piece[taken - 1];
+            }
+            self.count = self.count.saturating_add(taken as u64);
+            Ok(taken)
+        }
+
+        fn flush(&mut self) -> io::Result<()> {
+            Ok(())
+        }
+    }
+
+    fn adapter_of(most: usize) -> Adapter<Slow> {
+        Adapter::new(Slow {
+            most,
+            count: 0,
+            last: 0,
+        })
+    }
+
+    #[test]
+    fn writes_the_whole_piece_or_fails(rt: HostRuntime) {
+        let mut piece = [b'x'; 100];
+        piece[99] = b'!';
+        let mut sink = adapter_of(7);
+        assert!(rt; sink.put(&piece).is_ok());
+        assert_eq!(rt;
+            (sink.inner.count, sink.inner.last, sink.faults),
+            (100, b'!', 0)
+        );
+        let mut none = adapter_of(0);
+        assert!(rt; none.put(b"").is_ok());
+        assert_eq!(rt; none.put(b"piece"), Err(WriteFailed));
+        assert_eq!(rt; none.faults, 1);
+    }
+}

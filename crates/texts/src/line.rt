@@ -1,0 +1,190 @@
+ghost use Rattle.std.specs.Prelude.{◌≡◌, ◌++◌, ℕ, ◌≤◌, ◌<◌, ◌+◌, ◌^◌, List, [], drop, take, length, map, false, decimal, if◌then◌else◌};
+ghost use Rattle.std.specs.Fmt.{digits, digit_glyph};
+ghost use Rattle.texts.specs.Texts.{hex_text, byte_text};
+ghost use Rattle.texts.specs.Shown.{shown, shown_byte};
+
+use std::marker::Model;
+
+/// The most bytes of a line.
+pub const LINE: usize = 160;
+
+/// How many bytes of a name are shown.
+pub const SHOWN: usize = 64;
+
+/// A text of at most LINE bytes that stands at the end of an array and grows at its front.
+#[derive(Drop)]
+pub struct Line {
+    bytes: [u8; LINE],
+    start: usize,
+}
+
+impl Model for Line {
+    ghost use Rattle.std.specs.Prelude.{List, ℕ, drop, ◌≤◌};
+    ghost use Rattle.texts.specs.declared.line.TheConstants.{LINE};
+
+    ghost Value = { List ℕ };
+
+    ghost view = { λ s. drop s.start s.bytes };
+
+    ghost invariant = { λ s. s.start ≤ LINE };
+}
+
+#[inline]
+fn glyph(digit: u8) -> u8
+    requires { digit < 16 }
+    ensures { result ≡ digit_glyph false digit }
+{
+    if digit < 10 {
+        b'0' + digit
+    } else {
+        b'a' + (digit - 10)
+    }
+}
+
+/// Writes the digits of a number of at most `most` digits so that they end before `end`. Answers where they start.
+#[inline(always)]
+fn digits_before(bytes: &mut [u8; LINE], end: usize, n: u64, radix: u64, most: usize) -> usize
+    requires radix { (2 ≤ radix) × (radix ≤ 16) }
+    requires most { (0 < most) × (most ≤ 64) × (n < radix ^ most) }
+    requires end { (most ≤ end) × (end ≤ LINE) }
+    ensures text { drop result bytes.new ≡ digits radix false n ++ drop end bytes.old }
+    ensures room { length (drop result bytes.new) ≤ most + length (drop end bytes.old) }
+    ensures starts { end ≤ result + most }
+    ensures within { result ≤ end }
+{
+    let mut start = end;
+    let mut left = most;
+    let mut rest = n;
+    while left > 0 {
+        left -= 1;
+        start -= 1;
+        bytes[start] = glyph((rest % radix) as u8);
+        rest /= radix;
+        if rest == 0 {
+            break;
+        }
+    }
+    start
+}
+
+/// Writes a text so that it ends before `end`. Answers where it starts.
+#[inline]
+fn text_before(bytes: &mut [u8; LINE], end: usize, text: &[u8]) -> usize
+    requires { (length text.now ≤ end) × (end ≤ LINE) }
+    ensures text { drop result bytes.new ≡ text.now ++ drop end bytes.old }
+    ensures room { length (drop result bytes.new) ≡ length text.now + length (drop end bytes.old) }
+    ensures starts { result + length text.now ≡ end }
+{
+    let start = end - text.len();
+    bytes[start..end].copy_from_slice(text);
+    start
+}
+
+#[inline]
+fn shown_byte(byte: u8) -> u8
+    ensures { result ≡ Rattle.texts.specs.Shown.shown_byte byte }
+{
+    if byte >= 0x21 && byte <= 0x7e {
+        byte
+    } else {
+        b'?'
+    }
+}
+
+/// Puts a name as it is shown at the front of an array. Answers its length.
+fn shown_name(name: &[u8], room: &mut [u8; SHOWN]) -> usize
+    ensures most { result ≤ SHOWN }
+    ensures text { take result room.new ≡ shown name.now }
+{
+    let count = name.len().min(SHOWN);
+    let name = &name[..count];
+    for (i, byte) in name.iter().enumerate() {
+        room[i] = shown_byte(*byte);
+    }
+    count
+}
+
+impl Line {
+    /// A line without text.
+    #[inline]
+    pub fn new() -> Line
+        ensures { result ≡ [] }
+    {
+        Line {
+            bytes: [0; LINE],
+            start: LINE,
+        }
+    }
+
+    /// The text so far.
+    #[inline]
+    pub fn bytes(&self) -> &[u8]
+        ensures { result.now ≡ self.now }
+    {
+        &self.bytes[self.start..]
+    }
+
+    /// Puts a text before what stands.
+    #[inline]
+    pub fn text(&mut self, text: &[u8])
+        requires { length text.now + length self.old ≤ LINE }
+        ensures text { self.new ≡ text.now ++ self.old }
+        ensures room { length self.new ≡ length text.now + length self.old }
+    {
+        self.start = text_before(&mut self.bytes, self.start, text);
+    }
+
+    /// Puts a text that is shown or not.
+    #[inline]
+    pub fn when(&mut self, is_shown: bool, text: &[u8])
+        requires { length text.now + length self.old ≤ LINE }
+        ensures text { self.new ≡ (if is_shown then text.now else []) ++ self.old }
+        ensures room { length self.new ≤ length text.now + length self.old }
+    {
+        if is_shown {
+            self.text(text);
+        }
+    }
+
+    /// Puts a byte as `0x` and two hexadecimal digits.
+    #[inline]
+    pub fn byte(&mut self, n: u8)
+        requires { 4 + length self.old ≤ LINE }
+        ensures text { self.new ≡ byte_text n ++ self.old }
+        ensures room { length self.new ≡ 4 + length self.old }
+    {
+        self.text(&[b'0', b'x', glyph(n / 16), glyph(n % 16)]);
+    }
+
+    /// Puts a number as `0x` and hexadecimal digits without leading zeros.
+    #[inline]
+    pub fn hex(&mut self, n: u64)
+        requires { 18 + length self.old ≤ LINE }
+        ensures text { self.new ≡ hex_text n ++ self.old }
+        ensures room { length self.new ≤ 18 + length self.old }
+    {
+        self.start = digits_before(&mut self.bytes, self.start, n, 16, 16);
+        self.start = text_before(&mut self.bytes, self.start, b"0x");
+    }
+
+    /// Puts a number in decimal.
+    #[inline]
+    pub fn decimal(&mut self, n: u64)
+        requires { 20 + length self.old ≤ LINE }
+        ensures text { self.new ≡ decimal n ++ self.old }
+        ensures room { length self.new ≤ 20 + length self.old }
+    {
+        self.start = digits_before(&mut self.bytes, self.start, n, 10, 20);
+    }
+
+    /// Puts a name as it is shown: its first SHOWN bytes, with `?` for each that is not visible.
+    pub fn shown(&mut self, name: &[u8])
+        requires { SHOWN + length self.old ≤ LINE }
+        ensures text { self.new ≡ shown name.now ++ self.old }
+        ensures room { length self.new ≤ SHOWN + length self.old }
+    {
+        let mut room = [0u8; SHOWN];
+        let count = shown_name(name, &mut room);
+        self.text(&room[..count]);
+    }
+}
