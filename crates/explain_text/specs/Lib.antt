@@ -1,0 +1,3 @@
+pub use Rattle.bitwords.specs.Causes
+pub mod Written
+pub mod Texts

@@ -1,0 +1,2 @@
+//! Register files: the values of the registers as text.
+#![tactic(auto)]
