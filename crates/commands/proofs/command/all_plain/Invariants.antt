@@ -1,7 +1,7 @@
 use Rattle.std.proofs.Common.{◌≡◌, drop, map, string_bytes}
 use Rattle.std.specs.List.{list_all}
-use Rattle.vmsa.specs.Command.{is_plain}
-use Rattle.vmsa.proofs.command.all_plain.Given as goal
+use Rattle.commands.specs.Command.{is_plain}
+use Rattle.commands.proofs.command.all_plain.Given as goal
 
 -- the words that are left decide
 abbrev pub invariant-loop-word : goal.invariant-loop-word

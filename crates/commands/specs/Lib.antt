@@ -1,0 +1,4 @@
+pub use Rattle.texts.specs.Numbers
+pub mod Asked
+pub mod Command
+pub mod Clap

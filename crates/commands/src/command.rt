@@ -1,0 +1,61 @@
+ghost use Rattle.std.specs.Prelude.{◌≡◌, IfOk, map, string_bytes, true, option_map};
+ghost use Rattle.std.specs.List.{list_all};
+ghost use Rattle.commands.specs.Asked.{asked_of};
+ghost use Rattle.commands.specs.Command.{command_of, is_plain, named};
+
+use crate::explain::{ExplainArgs, explain};
+use crate::raw::{RawArgs, raw};
+use bitwords::NoMemory;
+use std::alloc::Global;
+
+/// A command and its arguments.
+#[derive(Clone, Copy, Debug, PartialEq, Eq)]
+pub enum Command<'a> {
+    Raw(RawArgs<'a>),
+    Explain(ExplainArgs<'a>),
+}
+
+fn plain(word: &str) -> bool
+    ensures { result ≡ is_plain word.now }
+{
+    !word.is_empty() && word.as_bytes()[0] != b'-'
+}
+
+fn all_plain(words: &[String]) -> bool
+    ensures { result ≡ list_all is_plain (map string_bytes words.now) }
+{
+    for word in words {
+        if !plain(word.as_str()) {
+            return false;
+        }
+    }
+    true
+}
+
+/// The command that the first of plain words names, with its arguments.
+fn named_command(alloc: Global, words: &[String]) -> Result<Option<Command<'_>>, NoMemory>
+    requires { list_all is_plain (map string_bytes words.now) ≡ true }
+    ensures { IfOk result (λ command. option_map asked_of command ≡ named (map string_bytes words.now)) }
+{
+    let Some((name, rest)) = words.split_first() else {
+        return Ok(None);
+    };
+    if name.as_str() == "raw" {
+        Ok(raw(alloc, rest)?.map(Command::Raw))
+    } else if name.as_str() == "explain" {
+        Ok(explain(alloc, rest)?.map(Command::Explain))
+    } else {
+        Ok(None)
+    }
+}
+
+/// What the words after the program's name ask for: `raw IMAGE TCR TTBR0 VA` or `explain REGS DUMP VA EL KIND [pan]`.
+/// None where they are no command. An empty word, or one that begins with `-`, stands in none.
+pub fn read_command(alloc: Global, words: &[String]) -> Result<Option<Command<'_>>, NoMemory>
+    ensures { IfOk result (λ command. option_map asked_of command ≡ command_of (map string_bytes words.now)) }
+{
+    if !all_plain(words) {
+        return Ok(None);
+    }
+    named_command(alloc, words)
+}

@@ -1,0 +1,14 @@
+//! What the words of the command line ask for.
+#![tactic(auto)]
+
+mod command;
+mod explain;
+mod matched;
+mod raw;
+
+pub use command::{Command, read_command};
+pub use explain::ExplainArgs;
+pub use raw::RawArgs;
+
+#[cfg(test)]
+mod tests;
