@@ -12,7 +12,7 @@ use Rattle.sysregs.specs.declared.regs.Unsupported.{Unsupported as UnsupportedFi
 use Rattle.sysregs.specs.Refused.{AreAccepted, refused_field, value_of}
 use Rattle.reg_file.specs.declared.reading.TheConstants.{MOST_BYTES}
 use Rattle.reg_file.specs.declared.refusals.RegRefusal.{RegRefusal}
-use Rattle.reg_file.specs.declared.refusals.RegRefusal.TheVariants.{TooLarge, NotToml, Unknown, Missing, Unsupported}
+use Rattle.reg_file.specs.declared.refusals.RegRefusal.TheVariants.{TooLarge, NotToml, Unsupported}
 use Rattle.reg_file.specs.RegisterFile.{regs_of, regs_in, of_document, none_is, first_refused, all_regs, ◌>>=◌, numbers_in}
 
 -- neither is there

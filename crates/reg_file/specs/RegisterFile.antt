@@ -1,5 +1,6 @@
 -- What a register file gives. It is this project's own rule, but for the grammar of TOML, which parse_document is.
-use Rattle.std.specs.Prelude.{ℕ, pos, negsuc, List, [], ◌∷◌, length, Bool, ◌||◌, nat_lt, bytes_eq, is_none, Option, Some, None, option_map, unwrap_or, find, Result, Ok, Err, if◌then◌else◌}
+use Rattle.std.specs.Prelude.{ℕ, pos, List, [], ◌∷◌, length, find, Bool, nat_lt, bytes_eq, if◌then◌else◌}
+use Rattle.std.specs.Prelude.{Option, Some, None, is_none, option_map, unwrap_or, Result, Ok, Err}
 use Rattle.std.specs.List.{list_any}
 use Rattle.std.specs.Option.{option_or}
 use Rattle.std.specs.Str.{is_utf8}

@@ -9,7 +9,7 @@ use sysregs::{Reg, Unsupported};
 pub enum RegRefusal {
     /// The file has more than `MOST_BYTES` bytes: `size` of them.
     TooLarge { size: u64 },
-    /// The bytes are no UTF-8, or the text is no TOML document.
+    /// The bytes are no UTF-8, or the text is no TOML document. A document nests at most 80 deep.
     NotToml,
     /// A key of the document names no register. It is the first such key in the order of the keys' bytes.
     Unknown { key: Name },

@@ -1,4 +1,4 @@
-use Rattle.std.proofs.Common.{arith, ◌≡◌, sym, subst, Result}
+use Rattle.std.proofs.Common.{arith, sym, subst, Result}
 use Rattle.std.proofs.lemmas.Bool.Decides.{nat_tests}
 use Rattle.sysregs.specs.declared.regs.Regs.{Regs}
 use Rattle.reg_file.specs.declared.refusals.RegRefusal.{RegRefusal}
