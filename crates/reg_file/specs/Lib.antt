@@ -1,0 +1,3 @@
+pub use Rattle.sysregs.specs.Refused
+pub mod RegisterFile
+pub mod Given
