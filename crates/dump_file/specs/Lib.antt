@@ -5,3 +5,4 @@ pub mod Filled
 pub mod DumpOf
 pub mod Kept
 pub mod Dumps
+pub mod Opening
