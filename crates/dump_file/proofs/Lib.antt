@@ -1,2 +1,4 @@
 pub mod Filling
 pub mod Collected
+pub mod Openings
+pub mod Keeping

@@ -6,3 +6,4 @@ pub mod DumpOf
 pub mod Kept
 pub mod Dumps
 pub mod Opening
+pub mod Paging

@@ -1,7 +1,7 @@
-ghost use Rattle.std.specs.Prelude.{◌≡◌, ◌≤◌, ◌+◌, ◌*◌, length, Some, None, if◌then◌else◌, All};
+ghost use Rattle.std.specs.Prelude.{◌≡◌, ◌≤◌, ◌+◌, ◌*◌, length, Some, None, if◌then◌else◌, IfOk};
 ghost use Rattle.byteorder.specs.Endian.{little_from};
 ghost use Rattle.dump_file.specs.DumpOf.{table_of, table_in, is_loaded, segment_of, segments_of};
-ghost use Rattle.dump_file.specs.Opening.{GivesTable, GivesSegments, EndsWithin};
+ghost use Rattle.dump_file.specs.Opening.{GivesTable, GivesSegments};
 
 use crate::dump::Segment;
 use crate::refusal::{DumpError, DumpField, DumpRefusal};
@@ -44,7 +44,8 @@ fn long(bytes: &[u8], at: usize) -> u64
 
 /// The table that a header names, where it ends within the file. The sum of its place and its size is a plain number.
 fn table_in(head: &[u8; 64], size: u64) -> Result<TableAt, DumpRefusal>
-    ensures { GivesTable result (table_in head.now size) }
+    ensures table { GivesTable result (table_in head.now size) }
+    ensures within { IfOk result (λ t. t.place + 56 * t.count ≤ size) }
 {
     let count = half(head, 56);
     if count == 0 {
@@ -66,7 +67,8 @@ fn table_in(head: &[u8; 64], size: u64) -> Result<TableAt, DumpRefusal>
 /// refused, with what, is this project's own rule.
 pub fn table_at(head: &[u8; 64], size: u64) -> Result<TableAt, DumpRefusal>
     requires { 64 ≤ size }
-    ensures { GivesTable result (table_of head.now size) }
+    ensures table { GivesTable result (table_of head.now size) }
+    ensures within { IfOk result (λ t. t.place + 56 * t.count ≤ size) }
 {
     if !head.starts_with(b"\x7fELF") {
         return Err(DumpRefusal::NotElf);

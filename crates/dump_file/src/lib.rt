@@ -8,7 +8,7 @@ mod header;
 mod pages;
 mod refusal;
 
-pub use dump::{Segment};
+pub use dump::{Dump, Segment};
 pub use files::{FailingFiles, Files, MemoryFile, MemoryFiles, ReadFailed, RealFiles};
 pub use fill::fill_from;
 pub use refusal::{DumpError, DumpField, DumpRefusal};

@@ -1,6 +1,6 @@
 ghost use Rattle.std.specs.Prelude.{◌≡◌, ◌≤◌, ◌+◌, ◌*◌, ◌%◌, length, take, drop, true, false, IfOk, IsTrue};
 ghost use Rattle.bitwords.specs.Causes.{HasCause};
-ghost use Rattle.dump_file.specs.Paging.{AreFull, IsPart, IsKeptPart, StayOf};
+ghost use Rattle.dump_file.specs.Paging.{AreFull, AreAmong, IsAdded, IsPart, IsKeptPart, StayOf};
 
 use crate::files::{Files, ReadFailed};
 use crate::fill::fill_from;
@@ -28,13 +28,12 @@ fn copy_part(page: &[u8], offset: usize, into: &mut [u8])
 }
 
 /// Fills a slice from a place of a file on, by the page that is kept, and answers whether it is.
-fn kept_part(file: Paged, pages: &mut LruCache<u64, Vec<u8>>, at: u64, into: &mut [u8]) -> bool
-    requires full { AreFull file.size pages.old.entries }
-    requires inside { at + length into.old ≤ file.size }
+fn kept_part(file: &Paged, pages: &mut LruCache<u64, Vec<u8>>, at: u64, into: &mut [u8]) -> bool
+    requires full { AreFull file.now.size pages.old.entries }
+    requires inside { at + length into.old ≤ file.now.size }
     requires page { at % 4096 + length into.old ≤ 4096 }
-    ensures full { AreFull file.size pages.new.entries }
     ensures part { IsTrue result → IsKeptPart pages.old.entries at into.new }
-    ensures stay { StayOf pages.old.entries pages.new.entries }
+    ensures among { AreAmong pages.old.entries pages.new.entries }
 {
     let Some(page) = pages.get(&(at / PAGE)) else {
         return false;
@@ -43,22 +42,29 @@ fn kept_part(file: Paged, pages: &mut LruCache<u64, Vec<u8>>, at: u64, into: &mu
     true
 }
 
+/// Keeps a page, where there is memory for it.
+fn keep(pages: &mut LruCache<u64, Vec<u8>>, number: u64, page: Vec<u8>)
+    ensures { IsAdded pages.old.entries pages.new.entries number page.entry.items }
+{
+    let _ = pages.put(number, page);
+}
+
 /// Fills a slice from a place of a file on, by a page that is read, and answers whether its bytes came. The page is kept
 /// where all of it came and there is memory for it.
 fn read_part<F: Files>(
     files: &mut F,
-    file: Paged,
+    file: &Paged,
     pages: &mut LruCache<u64, Vec<u8>>,
     at: u64,
     into: &mut [u8],
 ) -> Result<bool, ReadFailed>
-    requires full { AreFull file.size pages.old.entries }
-    requires inside { at + length into.old ≤ file.size }
+    requires full { AreFull file.now.size pages.old.entries }
+    requires inside { at + length into.old ≤ file.now.size }
     requires page { at % 4096 + length into.old ≤ 4096 }
     ensures same { F.holds files.new ≡ F.holds files.old }
-    ensures full { AreFull file.size pages.new.entries }
-    ensures part { IfOk result (IsPart (F.holds files.old file.name.now) file.size pages.old.entries (F.missing files.old) (F.missing files.new) at into.new) }
-    ensures stay { StayOf (F.holds files.old file.name.now) file.size pages.old.entries pages.new.entries }
+    ensures full { AreFull file.now.size pages.new.entries }
+    ensures part { IfOk result (IsPart (F.holds files.old file.now.name.now) file.now.size pages.old.entries (F.missing files.old) (F.missing files.new) at into.new) }
+    ensures stay { StayOf (F.holds files.old file.now.name.now) file.now.size pages.old.entries pages.new.entries }
     ensures missing { F.missing files.old ≤ F.missing files.new }
     ensures cause { HasCause (F.faults files.old) (F.faults files.new) result }
 {
@@ -73,8 +79,33 @@ fn read_part<F: Files>(
         return Ok(false);
     }
     copy_part(page.as_slice(), offset, into);
-    if count == size {
-        let _ = pages.put(at / PAGE, page);
+    if count < size {
+        return Ok(true);
     }
+    keep(pages, at / PAGE, page);
     Ok(true)
+}
+
+/// Fills a slice from a place of a file on, by the one page that holds it, and answers whether its bytes came.
+pub fn part<F: Files>(
+    files: &mut F,
+    file: &Paged,
+    pages: &mut LruCache<u64, Vec<u8>>,
+    at: u64,
+    into: &mut [u8],
+) -> Result<bool, ReadFailed>
+    requires full { AreFull file.now.size pages.old.entries }
+    requires inside { at + length into.old ≤ file.now.size }
+    requires page { at % 4096 + length into.old ≤ 4096 }
+    ensures same { F.holds files.new ≡ F.holds files.old }
+    ensures full { AreFull file.now.size pages.new.entries }
+    ensures part { IfOk result (IsPart (F.holds files.old file.now.name.now) file.now.size pages.old.entries (F.missing files.old) (F.missing files.new) at into.new) }
+    ensures stay { StayOf (F.holds files.old file.now.name.now) file.now.size pages.old.entries pages.new.entries }
+    ensures missing { F.missing files.old ≤ F.missing files.new }
+    ensures cause { HasCause (F.faults files.old) (F.faults files.new) result }
+{
+    if kept_part(file, pages, at, into) {
+        return Ok(true);
+    }
+    read_part(files, file, pages, at, into)
 }
