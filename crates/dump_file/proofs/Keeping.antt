@@ -1,10 +1,10 @@
 -- What a look-up and a put leave of kept pages, and parts of a page.
-use Rattle.std.proofs.Common.{◌≡◌, ◌⊎◌, ℕ, ◌+◌, ◌-◌, ◌*◌, ◌/◌, ◌%◌, ◌<◌, ◌≤◌, List, [], length, take, drop, min, Vec, Global, Result, Ok, Err, Some, Bool, true, false, nat_eq, Contains, refl, sym, ◌∙◌, ap, inl, inr, subst, arith, take_all}
-use Rattle.std.specs.Result.{OnOk, OnErr}
+use Rattle.std.proofs.Common.{◌≡◌, ◌⊎◌, ℕ, ◌+◌, ◌-◌, ◌*◌, ◌/◌, ◌%◌, ◌<◌, ◌≤◌, List, ◌++◌, length, take, drop, min, Vec, Global, Result, Ok, Err, Some, Bool, true, false, nat_eq, Contains, refl, sym, ◌∙◌, ap, inl, inr, subst, arith, take_all}
+use Rattle.std.specs.Result.{OnOk, OnErr, IfOk}
 use Rattle.std.specs.Map.{lookup}
 use Rattle.std.proofs.Math.Seq.{drop-drop}
 use Rattle.std.proofs.lemmas.Bool.Decides.{nat_tests}
-use Rattle.std.proofs.lemmas.List.{drop-take, take-take_le}
+use Rattle.std.proofs.lemmas.List.{drop-take, take-take, take-append-le, take_min, length-drop}
 use Rattle.lru.specs.LruCache.{LruCache, lru_cache, put_entries, promoted}
 use Rattle.lru.proofs.CallerLemmas.{Contains-put_entries, Contains-lookup, Contains-promoted}
 use Rattle.bitwords.specs.Causes.{Rose}
@@ -34,19 +34,92 @@ pub after_put : {T E : Type 0} (r : Result T E) (c d : LruCache ℕ (Vec ℕ Glo
 after_put (Ok x) c d number page ok err = subst (λ (x : LruCache ℕ (Vec ℕ Global)). IsAdded c.entries x.entries number page.items) (sym ok) (put_added c number page)
 after_put (Err x) c d number page ok err = λ p m. inl (subst (λ (x : LruCache ℕ (Vec ℕ Global)). Contains x.entries p) err m)
 
--- a part of a front of what stands from a place on
-cut : (offset size front place : ℕ) (bytes : List ℕ) → offset + size ≤ front → take size (drop offset (take front (drop place bytes))) ≡ take size (drop (offset + place) bytes)
-cut offset size front place bytes h =
+-- a part of a front
+cut : (offset size front : ℕ) (xs : List ℕ) → offset + size ≤ front → take size (drop offset (take front xs)) ≡ take size (drop offset xs)
+cut offset size front xs h =
     let more : front ≡ offset + (size + (front - (offset + size))) = omega arith in
-    ap (λ (n : ℕ). take size (drop offset (take n (drop place bytes)))) more
-    ∙ ap (take size) (drop-take offset (size + (front - (offset + size))) (drop place bytes))
-    ∙ take-take_le size (size + (front - (offset + size))) (drop offset (drop place bytes)) (omega arith)
-    ∙ ap (take size) (drop-drop offset place bytes)
+    ap (λ (n : ℕ). take size (drop offset (take n xs))) more
+    ∙ ap (take size) (drop-take offset (size + (front - (offset + size))) xs)
+    ∙ take-take size (size + (front - (offset + size))) (drop offset xs) (omega arith)
+
+-- bytes that are written over all of a list
+pub written : (len : ℕ) (new items : List ℕ) → length new ≡ len → take len (new ++ drop (length new) items) ≡ new
+written len new items h = take-append-le len new (drop (length new) items) (omega arith) ∙ take_all len new (omega arith)
 
 -- a part of a page that is kept
 pub part_of_page : (bytes : List ℕ) (at size : ℕ) (page new : List ℕ) → at % 4096 + size ≤ 4096 → page ≡ page_of bytes (at / 4096) → new ≡ take size (drop (at % 4096) page) → new ≡ take size (drop at bytes)
 part_of_page bytes at size page new h p e =
-    let place : at % 4096 + 4096 * (at / 4096) ≡ at = omega arith in
+    let place : 4096 * (at / 4096) + at % 4096 ≡ at = omega arith in
     e ∙ ap (λ (x : List ℕ). take size (drop (at % 4096) x)) p
-    ∙ cut (at % 4096) size 4096 (4096 * (at / 4096)) bytes h
-    ∙ ap (λ (n : ℕ). take size (drop n bytes)) place
+    ∙ cut (at % 4096) size 4096 (drop (4096 * (at / 4096)) bytes) h
+    ∙ ap (take size) (drop-drop (at % 4096) (4096 * (at / 4096)) bytes ∙ ap (λ (n : ℕ). drop n bytes) place)
+
+-- what stays where each page was kept before
+pub full_among : (size : ℕ) (before after : List (ℕ × Vec ℕ Global)) → AreAmong before after → AreFull size before → AreFull size after
+full_among size before after a h page m = h page (a page m)
+
+pub stay_among : (held : Holding) (size : ℕ) (before after : List (ℕ × Vec ℕ Global)) → AreAmong before after → StayOf held size before after
+stay_among Untold size before after a = tt
+stay_among Absent size before after a = tt
+stay_among (Bytes bytes) size before after a = λ e h page m. h page (a page m)
+
+module _ (size : ℕ) (pages : List (ℕ × Vec ℕ Global)) (before now : ℕ) where
+  -- bytes that were read and not kept
+  pub part_direct : (held : Holding) (at n : ℕ) (new : List ℕ) → at + length new ≤ size → n ≤ length new → IsFilled held before now at new n → IsPart held size pages before now at new (nat_eq n (length new))
+  part_direct Untold at n new w b f = λ e. f (grind (arith, nat_tests))
+  part_direct Absent at n new w b f = tt
+  part_direct (Bytes bytes) at n new w b f = λ e h.
+      let all : n ≡ length new = omega (arith, f.0) in
+      let same : nat_eq n (length new) ≡ true = grind (arith, nat_tests) in
+      (same, sym (take_all n new (omega arith)) ∙ f.1 ∙ ap (λ (m : ℕ). take m (drop at bytes)) all)
+
+  module _ (start n : ℕ) (page : List ℕ) (l : length page ≡ min 4096 (size - start)) where
+    -- a page whose bytes didn't come
+    pub part_short : (held : Holding) (at : ℕ) (new : List ℕ) → IsFilled held before now start page n → n < length page → IsPart held size pages before now at new false
+    part_short Untold at new f k = λ _. f k
+    part_short Absent at new f k = tt
+    part_short (Bytes bytes) at new f k = λ e h. absurd (omega (arith, f.0))
+
+    -- a page whose bytes came
+    pub part_whole : (held : Holding) (offset at : ℕ) (new : List ℕ) → IsFilled held before now start page n → start + offset ≡ at → offset + length new ≤ n → new ≡ take (length new) (drop offset page) → IsPart held size pages before now at new true
+    part_whole Untold offset at new f s k c = λ e. cc
+    part_whole Absent offset at new f s k c = tt
+    part_whole (Bytes bytes) offset at new f s k c = λ e h. (refl,
+      c ∙ sym (cut offset (length new) n page k)
+      ∙ ap (λ (x : List ℕ). take (length new) (drop offset x)) f.1
+      ∙ cut offset (length new) n (drop start bytes) k
+      ∙ ap (take (length new)) (drop-drop offset start bytes ∙ ap (λ (m : ℕ). drop m bytes) s),
+    )
+
+    page_is : (bytes : List ℕ) (number : ℕ) → IsFilled (Bytes bytes) before now start page n → size ≡ length bytes → start ≡ 4096 * number → length page ≤ n → n ≤ length page → page ≡ page_of bytes number
+    page_is bytes number f e s k b =
+        let many : n ≡ min 4096 (length (drop start bytes)) = omega (arith, length-drop start bytes) in
+        sym (take_all n page (omega arith)) ∙ f.1 ∙ ap (λ (m : ℕ). take m (drop start bytes)) many
+        ∙ take_min 4096 (drop start bytes) ∙ ap (λ (m : ℕ). take 4096 (drop m bytes)) s
+
+    module _ (after : List (ℕ × Vec ℕ Global)) (number : ℕ) (s : start ≡ 4096 * number) (a : IsAdded pages after number page) where
+      pub full_added : AreFull size pages → AreFull size after
+      full_added h p m = elim (a p m) [
+        | inl old ↦ h p old
+        | inr new ↦ ap length new.1 ∙ l ∙ ap (λ (k : ℕ). min 4096 (size - k)) (s ∙ ap (λ (k : ℕ). 4096 * k) (sym new.0))
+      ]
+
+      pub stay_added : (held : Holding) → IsFilled held before now start page n → length page ≤ n → n ≤ length page → StayOf held size pages after
+      stay_added Untold f k b = tt
+      stay_added Absent f k b = tt
+      stay_added (Bytes bytes) f k b = λ e h p m. elim (a p m) [
+        | inl old ↦ h p old
+        | inr new ↦ new.1 ∙ page_is bytes number f e s k b ∙ ap (page_of bytes) (sym new.0)
+      ]
+
+-- the same by pages of which each was kept before
+pub part_among : {E : Type 0} (r : Result Bool E) (held : Holding) (size : ℕ) (pages between : List (ℕ × Vec ℕ Global)) (before now at : ℕ) (new : List ℕ) → AreAmong pages between → IfOk r (IsPart held size between before now at new) → IfOk r (IsPart held size pages before now at new)
+part_among (Err e) held size pages between before now at new a h = tt
+part_among (Ok came) Untold size pages between before now at new a h = h
+part_among (Ok came) Absent size pages between before now at new a h = tt
+part_among (Ok came) (Bytes bytes) size pages between before now at new a h = λ e k. h e (λ page m. k page (a page m))
+
+pub stay_then : (held : Holding) (size : ℕ) (before between after : List (ℕ × Vec ℕ Global)) → StayOf held size before between → StayOf held size between after → StayOf held size before after
+stay_then Untold size before between after h k = tt
+stay_then Absent size before between after h k = tt
+stay_then (Bytes bytes) size before between after h k = λ e m. k e (h e m)

@@ -44,7 +44,7 @@ fn kept_part(file: &Paged, pages: &mut LruCache<u64, Vec<u8>>, at: u64, into: &m
 
 /// Keeps a page, where there is memory for it.
 fn keep(pages: &mut LruCache<u64, Vec<u8>>, number: u64, page: Vec<u8>)
-    ensures { IsAdded pages.old.entries pages.new.entries number page.entry.items }
+    ensures { IsAdded pages.old.entries pages.new.entries number page.items }
 {
     let _ = pages.put(number, page);
 }
@@ -68,13 +68,13 @@ fn read_part<F: Files>(
     ensures missing { F.missing files.old ≤ F.missing files.new }
     ensures cause { HasCause (F.faults files.old) (F.faults files.new) result }
 {
+    let offset = (at % PAGE) as usize;
     let start = at - at % PAGE;
     let size = PAGE.min(file.size - start) as usize;
     let Ok(mut page) = vec![in file.alloc; 0u8; size] else {
         return Ok(fill_from(files, file.name, at, into)? == into.len());
     };
     let count = fill_from(files, file.name, start, page.as_mut_slice())?;
-    let offset = (at - start) as usize;
     if count < offset + into.len() {
         return Ok(false);
     }
