@@ -2,16 +2,18 @@
 use Rattle.std.proofs.Common.{◌≡◌, ◌⊎◌, ℕ, ◌+◌, ◌-◌, ◌*◌, ◌/◌, ◌%◌, ◌<◌, ◌≤◌, List, ◌++◌, length, take, drop, min, Vec, Global, Result, Ok, Err, Some, Bool, true, false, nat_eq, Contains, refl, sym, ◌∙◌, ap, inl, inr, subst, arith, take_all}
 use Rattle.std.specs.Result.{OnOk, OnErr, IfOk}
 use Rattle.std.specs.Map.{lookup}
-use Rattle.std.proofs.Math.Seq.{drop-drop}
+use Rattle.std.proofs.Math.Seq.{drop-drop, take-add}
 use Rattle.std.proofs.lemmas.Bool.Decides.{nat_tests}
-use Rattle.std.proofs.lemmas.List.{drop-take, take-take, take-append-le, take_min, length-drop}
+use Rattle.std.proofs.lemmas.List.{length-append, drop-take, take-take, take-append-le, take_min, length-drop}
 use Rattle.lru.specs.LruCache.{LruCache, lru_cache, put_entries, promoted}
 use Rattle.lru.proofs.CallerLemmas.{Contains-put_entries, Contains-lookup, Contains-promoted}
+use Rattle.byteorder.specs.Endian.{little_number}
+use Rattle.byteorder.specs.Numbers.{little_from-take}
 use Rattle.bitwords.specs.Causes.{Rose}
 use Rattle.dump_file.specs.Held.{Holding, Untold, Absent, Bytes}
 use Rattle.dump_file.specs.Filled.{IsFilled}
 use Rattle.dump_file.specs.Kept.{KeepsOf, page_of}
-use Rattle.dump_file.specs.Paging.{AreFull, AreAmong, IsAdded, IsPart, StayOf}
+use Rattle.dump_file.specs.Paging.{AreFull, AreAmong, IsAdded, IsPart, IsWordAt, StayOf}
 
 same_number : (m n : ℕ) → nat_eq m n ≡ true → n ≡ m
 same_number m n h = grind (arith, nat_tests)
@@ -123,3 +125,27 @@ pub stay_then : (held : Holding) (size : ℕ) (before between after : List (ℕ 
 stay_then Untold size before between after h k = tt
 stay_then Absent size before between after h k = tt
 stay_then (Bytes bytes) size before between after h k = λ e m. k e (h e m)
+
+-- two parts, the second from where the first ends
+pub part_joined : {E : Type 0} (r : Result Bool E) (held : Holding) (size : ℕ) (pages between : List (ℕ × Vec ℕ Global)) (before mid now at front : ℕ) (first second : List ℕ)
+    → length first ≡ front → before ≤ mid → StayOf held size pages between → IsPart held size pages before mid at first true
+    → IfOk r (IsPart held size between mid now (at + front) second) → IfOk r (IsPart held size pages before now at (first ++ second))
+part_joined (Err e) held size pages between before mid now at front first second l b s p q = tt
+part_joined (Ok came) Untold size pages between before mid now at front first second l b s p q = λ e. let rose = q e in omega arith
+part_joined (Ok came) Absent size pages between before mid now at front first second l b s p q = tt
+part_joined (Ok came) (Bytes bytes) size pages between before mid now at front first second l b s p q = λ e h.
+    let one = (p e h).1 in
+    let two = (q e (s e h)).1 in
+    ((q e (s e h)).0,
+      ap (λ (x : List ℕ). x ++ second) one
+      ∙ ap (λ (x : List ℕ). take (length first) (drop at bytes) ++ x) (two ∙ ap (take (length second)) (sym (drop-drop (length first) at bytes ∙ ap (λ (n : ℕ). drop (at + n) bytes) l)))
+      ∙ sym (take-add (length first) (length second) (drop at bytes))
+      ∙ ap (λ (n : ℕ). take n (drop at bytes)) (sym (length-append first second)),
+    )
+
+-- the number of eight bytes
+pub word_came : (held : Holding) (size : ℕ) (pages : List (ℕ × Vec ℕ Global)) (before now at : ℕ) (new : List ℕ) (word : ℕ) → length new ≡ 8 → word ≡ little_number 8 new → IsPart held size pages before now at new true → IsWordAt held size pages before now at (Some word)
+word_came Untold size pages before now at new word l w p = λ e. cc
+word_came Absent size pages before now at new word l w p = tt
+word_came (Bytes bytes) size pages before now at new word l w p = λ e h.
+    ap Some (w ∙ ap (little_number 8) ((p e h).1 ∙ ap (λ (n : ℕ). take n (drop at bytes)) l) ∙ little_from-take 0 8 8 (drop at bytes) (omega arith))

@@ -1,5 +1,6 @@
 -- What parts of a file come to that are read by pages. The size of a page is this project's own rule.
-use Rattle.std.specs.Prelude.{◌≡◌, ◌⊎◌, ℕ, ◌-◌, ◌*◌, List, length, take, drop, min, Vec, Contains, Bool, true, false}
+use Rattle.std.specs.Prelude.{◌≡◌, ◌⊎◌, ℕ, ◌-◌, ◌*◌, List, length, take, drop, min, Vec, Contains, Option, Some, None, Bool, true, false}
+use Rattle.byteorder.specs.Endian.{little_number}
 use Rattle.std.specs.declared.alloc.Global.{Global}
 use Rattle.bitwords.specs.Causes.{Rose}
 use Rattle.dump_file.specs.Held.{Holding, Untold, Absent, Bytes}
@@ -27,6 +28,12 @@ abbrev pub IsPart : (held : Holding) (size : ℕ) (pages : List (ℕ × Vec ℕ 
 IsPart Untold size pages before now at new came = came ≡ false → Rose before now
 IsPart Absent size pages before now at new came = Unit {0}
 IsPart (Bytes bytes) size pages before now at new came = size ≡ length bytes → KeepsOf bytes pages → (came ≡ true) × (new ≡ take (length new) (drop at bytes))
+
+-- the word from a place on, likewise
+abbrev pub IsWordAt : (held : Holding) (size : ℕ) (pages : List (ℕ × Vec ℕ Global)) (before now at : ℕ) (word : Option ℕ) → Type 0
+IsWordAt Untold size pages before now at word = word ≡ None → Rose before now
+IsWordAt Absent size pages before now at word = Unit {0}
+IsWordAt (Bytes bytes) size pages before now at word = size ≡ length bytes → KeepsOf bytes pages → word ≡ Some (little_number 8 (drop at bytes))
 
 -- pages of a file of this size that tells its bytes stay its own
 abbrev pub StayOf : (held : Holding) (size : ℕ) (before after : List (ℕ × Vec ℕ Global)) → Type 0

@@ -1,10 +1,15 @@
-ghost use Rattle.std.specs.Prelude.{◌≡◌, ◌≤◌, ◌+◌, ◌*◌, length, string_bytes, IfOk, IfErr};
-ghost use Rattle.dump_file.specs.Dumps.{IsOpened, IsError};
-ghost use Rattle.dump_file.specs.Opening.{IsOfSize, IsTable, AreHeaders, IsFault};
+ghost use Rattle.std.specs.Prelude.{◌≡◌, ◌≤◌, ◌+◌, ◌*◌, ◌-◌, ◌%◌, ℕ, List, length, IfOk, IfErr, IfSome, Ok, None};
+ghost use Rattle.bitwords.specs.Causes.{HasCause};
+ghost use Rattle.dump_file.specs.Held.{Bytes};
+ghost use Rattle.dump_file.specs.DumpOf.{holds_word, serving};
+ghost use Rattle.dump_file.specs.Kept.{IsSame, StandsFor};
+ghost use Rattle.dump_file.specs.Dumps.{IsOpened, IsError, IsWord};
+ghost use Rattle.dump_file.specs.Opening.{EndsWithin, IsOfSize, IsTable, AreHeaders, IsFault};
 
-use crate::files::Files;
+use crate::files::{Files, ReadFailed};
 use crate::fill::fill_from;
 use crate::header::{ENTRY, HEADER, TableAt, segments, table_at};
+use crate::pages::{Paged, word_at};
 use crate::refusal::{DumpError, DumpRefusal};
 use lru::LruCache;
 use std::alloc::Global;
@@ -20,6 +25,28 @@ pub struct Segment {
     pub offset: u64,
     /// How many bytes of it the file has.
     pub size: u64,
+}
+
+impl Segment {
+    /// Whether all eight bytes of a place of memory lie in it.
+    fn holds_word(&self, pa: u64) -> bool
+        ensures { result ≡ holds_word self.now pa }
+    {
+        self.address <= pa && (pa - self.address) as u128 + 8 <= self.size as u128
+    }
+}
+
+/// The first segment that holds a place.
+fn serving(segments: &[Segment], pa: u64) -> Option<Segment>
+    ensures first { result ≡ serving segments.now pa }
+    ensures within { (size : ℕ) → EndsWithin size segments.now → IfSome result (λ s. (s.address ≤ pa) × (s.offset + (pa - s.address) + 8 ≤ size)) }
+{
+    for segment in segments {
+        if segment.holds_word(pa) {
+            return Some(*segment);
+        }
+    }
+    None
 }
 
 /// How many pages are kept at most.
@@ -120,5 +147,29 @@ impl Dump {
             segments,
             pages: LruCache::new(alloc, NonZeroUsize::new(PAGES).unwrap())?,
         })
+    }
+
+    /// The word at a place of memory, or None where no segment holds it whole, or where the file has fewer bytes now than
+    /// when it was opened. The first segment of the table that holds the place serves: this project's own rule.
+    pub fn word<F: Files>(&mut self, files: &mut F, pa: u64) -> Result<Option<u64>, ReadFailed>
+        requires { pa % 8 ≡ 0 }
+        ensures same { F.holds files.new ≡ F.holds files.old }
+        ensures unchanged { IsSame self.old self.new }
+        ensures nowhere { serving self.old.segments pa ≡ None → result ≡ Ok None }
+        ensures word { IfOk result (IsWord (F.holds files.old self.old.name) self.old (F.missing files.old) (F.missing files.new) pa) }
+        ensures stands { (bytes : List ℕ) → F.holds files.old self.old.name ≡ Bytes bytes → StandsFor bytes self.old → StandsFor bytes self.new }
+        ensures missing { F.missing files.old ≤ F.missing files.new }
+        ensures cause { HasCause (F.faults files.old) (F.faults files.new) result }
+    {
+        let Some(segment) = serving(self.segments.as_slice(), pa) else {
+            return Ok(None);
+        };
+        let file = Paged {
+            alloc: self.alloc,
+            name: self.name.as_str(),
+            size: self.size,
+        };
+        let at = segment.offset + (pa - segment.address);
+        word_at(files, &file, &mut self.pages, at)
     }
 }

@@ -1,9 +1,10 @@
 ghost use Rattle.std.specs.Prelude.{◌≡◌, ◌≤◌, ◌+◌, ◌*◌, ◌%◌, length, take, drop, true, false, IfOk, IsTrue};
 ghost use Rattle.bitwords.specs.Causes.{HasCause};
-ghost use Rattle.dump_file.specs.Paging.{AreFull, AreAmong, IsAdded, IsPart, IsKeptPart, StayOf};
+ghost use Rattle.dump_file.specs.Paging.{AreFull, AreAmong, IsAdded, IsPart, IsKeptPart, IsWordAt, StayOf};
 
 use crate::files::{Files, ReadFailed};
 use crate::fill::fill_from;
+use byteorder::{ByteOrder, LittleEndian};
 use lru::LruCache;
 use std::alloc::Global;
 
@@ -87,7 +88,7 @@ fn read_part<F: Files>(
 }
 
 /// Fills a slice from a place of a file on, by the one page that holds it, and answers whether its bytes came.
-pub fn part<F: Files>(
+fn part<F: Files>(
     files: &mut F,
     file: &Paged,
     pages: &mut LruCache<u64, Vec<u8>>,
@@ -108,4 +109,56 @@ pub fn part<F: Files>(
         return Ok(true);
     }
     read_part(files, file, pages, at, into)
+}
+
+/// Fills a slice from a place of a file on, by the one or two pages that hold it, and answers whether its bytes came.
+fn bytes_at<F: Files>(
+    files: &mut F,
+    file: &Paged,
+    pages: &mut LruCache<u64, Vec<u8>>,
+    at: u64,
+    into: &mut [u8],
+) -> Result<bool, ReadFailed>
+    requires full { AreFull file.now.size pages.old.entries }
+    requires inside { at + length into.old ≤ file.now.size }
+    requires short { length into.old ≤ 4096 }
+    ensures same { F.holds files.new ≡ F.holds files.old }
+    ensures full { AreFull file.now.size pages.new.entries }
+    ensures part { IfOk result (IsPart (F.holds files.old file.now.name.now) file.now.size pages.old.entries (F.missing files.old) (F.missing files.new) at into.new) }
+    ensures stay { StayOf (F.holds files.old file.now.name.now) file.now.size pages.old.entries pages.new.entries }
+    ensures missing { F.missing files.old ≤ F.missing files.new }
+    ensures cause { HasCause (F.faults files.old) (F.faults files.new) result }
+{
+    let front = (PAGE - at % PAGE) as usize;
+    if into.len() <= front {
+        return part(files, file, pages, at, into);
+    }
+    let (first, second) = into.split_at_mut(front);
+    if !part(files, file, pages, at, first)? {
+        return Ok(false);
+    }
+    part(files, file, pages, at + front as u64, second)
+}
+
+/// The eight bytes from a place of a file on, as a number, or None where they didn't come.
+pub fn word_at<F: Files>(
+    files: &mut F,
+    file: &Paged,
+    pages: &mut LruCache<u64, Vec<u8>>,
+    at: u64,
+) -> Result<Option<u64>, ReadFailed>
+    requires full { AreFull file.now.size pages.old.entries }
+    requires inside { at + 8 ≤ file.now.size }
+    ensures same { F.holds files.new ≡ F.holds files.old }
+    ensures full { AreFull file.now.size pages.new.entries }
+    ensures word { IfOk result (IsWordAt (F.holds files.old file.now.name.now) file.now.size pages.old.entries (F.missing files.old) (F.missing files.new) at) }
+    ensures stay { StayOf (F.holds files.old file.now.name.now) file.now.size pages.old.entries pages.new.entries }
+    ensures missing { F.missing files.old ≤ F.missing files.new }
+    ensures cause { HasCause (F.faults files.old) (F.faults files.new) result }
+{
+    let mut bytes = [0u8; 8];
+    if !bytes_at(files, file, pages, at, &mut bytes)? {
+        return Ok(None);
+    }
+    Ok(Some(LittleEndian::read_u64(&bytes)))
 }
