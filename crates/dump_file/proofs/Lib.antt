@@ -2,3 +2,4 @@ pub mod Filling
 pub mod Collected
 pub mod Openings
 pub mod Keeping
+pub mod Served
