@@ -1,1 +1,5 @@
 pub mod Filling
+pub mod Collected
+pub mod Openings
+pub mod Keeping
+pub mod Served

@@ -5,3 +5,5 @@ pub mod Filled
 pub mod DumpOf
 pub mod Kept
 pub mod Dumps
+pub mod Opening
+pub mod Paging

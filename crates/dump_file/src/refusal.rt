@@ -1,3 +1,6 @@
+use crate::files::ReadFailed;
+use std::alloc::{AllocError, AllocFailed};
+
 /// What is wrong with a kind of file.
 #[derive(Clone, Copy, Debug, PartialEq, Eq)]
 pub enum DumpField {
@@ -34,4 +37,48 @@ pub enum DumpError {
     ReadFault,
     /// Memory was refused.
     NoMemory,
+}
+
+impl From<DumpRefusal> for DumpError {
+    ghost use Rattle.std.specs.Prelude.{◌≡◌};
+    ghost use Rattle.dump_file.specs.declared.refusal.DumpError.TheVariants.{Refused};
+
+    ghost from_gives = { λ why e. e ≡ Refused why };
+
+    fn from(why: DumpRefusal) -> DumpError {
+        DumpError::Refused { why }
+    }
+}
+
+impl From<ReadFailed> for DumpError {
+    ghost use Rattle.std.specs.Prelude.{◌≡◌};
+    ghost use Rattle.dump_file.specs.declared.refusal.DumpError.TheVariants.{ReadFault};
+
+    ghost from_gives = { λ _ e. e ≡ ReadFault };
+
+    fn from(_: ReadFailed) -> DumpError {
+        DumpError::ReadFault
+    }
+}
+
+impl From<AllocError> for DumpError {
+    ghost use Rattle.std.specs.Prelude.{◌≡◌};
+    ghost use Rattle.dump_file.specs.declared.refusal.DumpError.TheVariants.{NoMemory};
+
+    ghost from_gives = { λ _ e. e ≡ NoMemory };
+
+    fn from(_: AllocError) -> DumpError {
+        DumpError::NoMemory
+    }
+}
+
+impl<T: Drop> From<AllocFailed<T>> for DumpError {
+    ghost use Rattle.std.specs.Prelude.{◌≡◌};
+    ghost use Rattle.dump_file.specs.declared.refusal.DumpError.TheVariants.{NoMemory};
+
+    ghost from_gives = { λ _ e. e ≡ NoMemory };
+
+    fn from(_: AllocFailed<T>) -> DumpError {
+        DumpError::NoMemory
+    }
 }
