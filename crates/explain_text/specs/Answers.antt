@@ -60,4 +60,4 @@ HasText Conflict = Unit {0}
 -- the text of one access: its line, the items in order without their moments, and the outcome
 abbrev pub explain_text : (regs : Regs) (access : Access) (items : List Item) (outcome : Outcome) → List ℕ
 explain_text r a items outcome =
-    access_text (codes "access") a (asid_of r) (vmid_of r) ++ codes "\n" ++ flat_map (item_text false) items ++ outcome_text false outcome
+    (access_text (codes "access") a (asid_of r) (vmid_of r) ++ codes "\n") ++ (flat_map (item_text false) items ++ outcome_text false outcome)

@@ -23,11 +23,13 @@ shown_if shown text = if shown then text else []
 abbrev pub right_text : (given : Bool) (letter : List ℕ) → List ℕ
 right_text given letter = if given then letter else codes "-"
 
--- the rights of an exception level to read, write and fetch
+-- rights to read, write and fetch
+abbrev pub letters_text : (read write fetch : Bool) → List ℕ
+letters_text read write fetch = joined_text (right_text read (codes "r") ∷ right_text write (codes "w") ∷ right_text fetch (codes "x") ∷ [])
+
+-- the rights of an exception level
 abbrev pub rights_text : (perms : Perms) (el : El) → List ℕ
-rights_text p el =
-    joined_text (right_text (has p (needed el Read)) (codes "r") ∷ right_text (has p (needed el Write)) (codes "w") ∷
-    right_text (has p (needed el Fetch)) (codes "x") ∷ [])
+rights_text p el = letters_text (has p (needed el Read)) (has p (needed el Write)) (has p (needed el Fetch))
 
 -- allocation hints: read, write and transient
 abbrev pub hints_text : (transient read write : Bool) → List ℕ
@@ -47,11 +49,15 @@ device_text NGnRE = codes "device-nGnRE"
 device_text NGRE = codes "device-nGRE"
 device_text GRE = codes "device-GRE"
 
+-- Normal memory
+abbrev pub normal_text : (outer inner : Cache) (tagged : Bool) → List ℕ
+normal_text outer inner tagged =
+    joined_text (codes "normal outer " ∷ cache_text outer ∷ codes " inner " ∷ cache_text inner ∷ shown_if tagged (codes " tagged") ∷ [])
+
 -- a memory type
 abbrev pub mem_text : (mem : MemType) → List ℕ
 mem_text (AsDevice kind) = device_text kind
-mem_text (Normal outer inner tagged) =
-    joined_text (codes "normal outer " ∷ cache_text outer ∷ codes " inner " ∷ cache_text inner ∷ shown_if tagged (codes " tagged") ∷ [])
+mem_text (Normal outer inner tagged) = normal_text outer inner tagged
 
 -- a shareability
 abbrev pub share_text : (share : Share) → List ℕ
