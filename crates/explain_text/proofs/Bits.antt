@@ -1,5 +1,5 @@
 -- The rights of a set, as tests under a mask.
-use Rattle.std.proofs.Common.{◌≡◌, ℕ, ◌^◌, List, Bool, eqb, arith, refl}
+use Rattle.std.proofs.Common.{◌≡◌, ℕ, ◌^◌, eqb, arith, refl}
 use Rattle.std.specs.Prelude.{bit_and}
 use Rattle.std.specs.Int.{bit_at}
 use Rattle.std.proofs.lemmas.Nat.{pow_pos}

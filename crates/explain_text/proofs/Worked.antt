@@ -1,21 +1,16 @@
 -- Worked lines.
-use Rattle.std.proofs.Common.{ℕ, ◌≡◌, List, [], ◌∷◌, ◌++◌, Bool, true, false, codes, refl, pos, negsuc}
+use Rattle.std.proofs.Common.{◌≡◌, ◌++◌, true, false, codes, refl, pos, negsuc}
 use Rattle.std.specs.Fmt.{digits}
 use Rattle.permissions.specs.Rights.{has}
-use Rattle.permissions.specs.declared.set.Perms.{Perms}
 use Rattle.permissions.specs.declared.bits.El.TheVariants.{El0, El1}
-use Rattle.permissions.specs.declared.bits.Kind.TheVariants.{Read, Write, Fetch}
+use Rattle.permissions.specs.declared.bits.Kind.TheVariants.{Read, Write}
 use Rattle.attributes.specs.declared.kinds.Cache.TheVariants.{Nc, Wt, Wb}
 use Rattle.attributes.specs.declared.kinds.Device.TheVariants.{NGnRnE}
 use Rattle.attributes.specs.declared.kinds.MemType.TheVariants.{Device, Normal}
 use Rattle.attributes.specs.declared.kinds.Share.TheVariants.{Nsh, Ish, Osh}
 use Rattle.fault_codes.specs.declared.fault.Stage.TheVariants.{S1, S2}
 use Rattle.fault_codes.specs.declared.fault.Class.TheVariants.{Permission}
-use Rattle.fault_codes.specs.declared.fault.Fault.{Fault}
-use Rattle.trails.specs.declared.item.Item.{Item}
 use Rattle.trails.specs.declared.item.What.TheVariants.{Base, Word}
-use Rattle.trails.specs.declared.outcome.Access.{Access}
-use Rattle.trails.specs.declared.outcome.Outcome.{Outcome}
 use Rattle.trails.specs.declared.outcome.Outcome.TheVariants.{Mapped, Faulted, Absent, Conflict}
 use Rattle.explain_text.specs.Texts.{item_text}
 use Rattle.explain_text.specs.Answers.{access_text, outcome_text}

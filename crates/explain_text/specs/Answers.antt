@@ -13,8 +13,8 @@ use Rattle.trails.specs.declared.outcome.Access.{Access}
 use Rattle.trails.specs.declared.outcome.Outcome.{Outcome}
 use Rattle.trails.specs.declared.outcome.Outcome.TheVariants.{Mapped, Faulted, Absent, Conflict}
 use Rattle.texts.specs.Texts.{joined_text, hex_text}
-use Rattle.explain_text.specs.Texts.{item_text, fault_text, absent_text}
-use Rattle.explain_text.specs.Mapped.{shown_if, mapped_text}
+use Rattle.explain_text.specs.Texts.{shown_if, item_text, fault_text, absent_text}
+use Rattle.explain_text.specs.Mapped.{mapped_text}
 
 -- an exception level
 abbrev pub el_text : (el : El) → List ℕ

@@ -14,10 +14,7 @@ use Rattle.attributes.specs.declared.kinds.MemType.TheVariants.{Device as AsDevi
 use Rattle.attributes.specs.declared.kinds.Share.{Share}
 use Rattle.attributes.specs.declared.kinds.Share.TheVariants.{Nsh, Ish, Osh}
 use Rattle.texts.specs.Texts.{joined_text, hex_text}
-
--- a text that is shown or not
-abbrev pub shown_if : (shown : Bool) (text : List ℕ) → List ℕ
-shown_if shown text = if shown then text else []
+use Rattle.explain_text.specs.Texts.{shown_if}
 
 -- a right by its letter, or `-`
 abbrev pub right_text : (given : Bool) (letter : List ℕ) → List ℕ

@@ -12,6 +12,10 @@ use Rattle.trails.specs.declared.item.What.{What}
 use Rattle.trails.specs.declared.item.What.TheVariants.{Base, Word}
 use Rattle.texts.specs.Texts.{joined_text, hex_text, byte_text}
 
+-- a text that is shown or not
+abbrev pub shown_if : (shown : Bool) (text : List ℕ) → List ℕ
+shown_if shown text = if shown then text else []
+
 -- a level in decimal
 abbrev pub level_text : (level : ℤ) → List ℕ
 level_text (pos n) = decimal n
@@ -43,7 +47,7 @@ value_text Word value = codes " value " ++ hex_text value
 
 -- when an item was read, which a run tells
 abbrev pub moment_text : (in_run : Bool) (moment : ℕ) → List ℕ
-moment_text in_run moment = if in_run then codes " moment " ++ decimal moment else []
+moment_text in_run moment = shown_if in_run (codes " moment " ++ decimal moment)
 
 -- the line of an item, as `s1 base level 0 at 0x1000`
 abbrev pub item_text : (in_run : Bool) (item : Item) → List ℕ
@@ -54,7 +58,7 @@ item_text in_run i =
 
 -- the mark of a stage 2 fault for a stage 1 descriptor
 abbrev pub mark_text : (s1ptw : Bool) → List ℕ
-mark_text s1ptw = if s1ptw then codes " s1ptw" else []
+mark_text s1ptw = shown_if s1ptw (codes " s1ptw")
 
 -- the line of a fault: its stage, level and class, the code that a syndrome register gives it, and the mark
 abbrev pub fault_text : (fault : Fault) → List ℕ

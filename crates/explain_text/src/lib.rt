@@ -11,3 +11,6 @@ pub use answer::{access_line, explain};
 pub use lines::{absent_line, fault_line, item_line, item_lines};
 pub use outcomes::outcome_line;
 pub use sink::{Adapter, FailingMemory, QuietMemory, Sink, WriteFailed};
+
+#[cfg(test)]
+mod tests;

@@ -51,12 +51,7 @@ pub fn outcome_line<O: Sink>(
     ensures cause { HasCause (O.faults out.old) (O.faults out.new) result }
 {
     match outcome {
-        Outcome::Mapped {
-            pa,
-            perms,
-            mem,
-            sh,
-        } => mapped_line(out, *pa, *perms, *mem, *sh),
+        Outcome::Mapped { pa, perms, mem, sh } => mapped_line(out, *pa, *perms, *mem, *sh),
         Outcome::Faulted { fault } => fault_line(out, fault),
         Outcome::Absent {
             stage,

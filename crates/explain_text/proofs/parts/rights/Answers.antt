@@ -1,4 +1,3 @@
-use Rattle.std.proofs.Common.{ap, ◌∙◌, ◌++◌, refl}
 use Rattle.explain_text.proofs.Bits.{rights0, rights1}
 use Rattle.explain_text.proofs.parts.rights.Goals as goal
 
