@@ -1,8 +1,9 @@
 -- One call of a sink after another.
-use Rattle.std.proofs.Common.{◌≡◌, ℕ, ◌+◌, ◌<◌, List, [], ◌++◌, length, take, drop, min, Option, Some, None, Result, Ok, Err, IsOk, IsErr, sym, ◌∙◌, ap, refl, append_assoc, append-nil, arith, subst, get_or, flat_map}
+use Rattle.std.proofs.Common.{◌≡◌, ℕ, ◌+◌, ◌-◌, ◌^◌, ◌<◌, ◌≤◌, List, [], ◌++◌, length, take, drop, min, Option, Some, None, Result, Ok, Err, IsOk, IsErr, sym, ◌∙◌, ap, refl, append_assoc, append-nil, arith, subst, get_or, flat_map}
 use Rattle.std.proofs.lemmas.List.{take-append-drop, drop_more, take-append-le}
 use Rattle.std.proofs.lemmas.Grind.{flat_map-append, common_steps}
 use Rattle.std.proofs.Math.Seq.{take-append-add}
+use Rattle.bitwords.specs.Causes.{HasCause}
 use Rattle.explain_text.specs.Written.{Appended, Wrote}
 
 -- nothing written
@@ -42,6 +43,16 @@ goes_on a b c (Ok x) (Err y) s t h v w = (length s + w.0, rw back_take (appended
 -- some text was written, and then a call fails
 pub stops : {T U E : Type 0} (a b c : Option (List ℕ)) (r : Result T E) (q : Result U E) (s t u : List ℕ) → IsErr r → IsErr q → Appended a b s → Wrote b c r t → Wrote a c q (s ++ (t ++ u))
 stops {T} {U} {E} a b c r q s t u h k v w = goes_on {T = Unit {0}} {U = U} {E = E} a b c (Ok tt) q s (t ++ u) refl v (fails_first b c r q t u h k w)
+
+-- a sink that counts no fault answers no error
+pub no_error : {T E : Type 0} (r : Result T E) → HasCause 0 0 r → IsOk r
+no_error (Ok x) h = refl
+no_error (Err e) h = absurd (let rose : min 1 (2 ^ 64 - 1) ≤ 0 = h.failed in omega arith)
+
+-- and so it is given the whole text
+pub no_fault : {T E : Type 0} (a b : Option (List ℕ)) (r : Result T E) (s : List ℕ) → HasCause 0 0 r → Wrote a b r s → Appended a b s
+no_fault a b (Ok x) s h w = w
+no_fault a b (Err e) s h w = absurd (let rose : min 1 (2 ^ 64 - 1) ≤ 0 = h.failed in omega arith)
 
 -- the same text in other words
 pub same_text : {T E : Type 0} (a b : Option (List ℕ)) (r : Result T E) (s t : List ℕ) → s ≡ t → Wrote a b r s → Wrote a b r t

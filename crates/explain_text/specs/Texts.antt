@@ -12,6 +12,10 @@ use Rattle.trails.specs.declared.item.What.{What}
 use Rattle.trails.specs.declared.item.What.TheVariants.{Base, Word}
 use Rattle.texts.specs.Texts.{joined_text, hex_text, byte_text}
 
+-- a text that is shown or not
+abbrev pub shown_if : (shown : Bool) (text : List ℕ) → List ℕ
+shown_if shown text = if shown then text else []
+
 -- a level in decimal
 abbrev pub level_text : (level : ℤ) → List ℕ
 level_text (pos n) = decimal n
@@ -31,22 +35,30 @@ class_text Permission = codes "permission"
 class_text External = codes "external"
 class_text Conflict = codes "conflict"
 
--- the line of a base or a word
-abbrev pub item_text_by : (what : What) (item : Item) → List ℕ
-item_text_by Base i =
-    joined_text (codes "s" ∷ stage_digit i.stage ∷ codes " base level " ∷ level_text i.level ∷ codes " at " ∷ hex_text i.pa ∷ codes "\n" ∷ [])
-item_text_by Word i =
-    joined_text
-    (codes "s" ∷ stage_digit i.stage ∷ codes " word level " ∷ level_text i.level ∷ codes " at " ∷ hex_text i.pa ∷
-    codes " value " ∷ hex_text i.value ∷ codes "\n" ∷ [])
+-- the word of what an item is
+abbrev pub what_text : (what : What) → List ℕ
+what_text Base = codes " base"
+what_text Word = codes " word"
+
+-- what a word holds
+abbrev pub value_text : (what : What) (value : ℕ) → List ℕ
+value_text Base value = []
+value_text Word value = codes " value " ++ hex_text value
+
+-- when an item was read, which a run tells
+abbrev pub moment_text : (in_run : Bool) (moment : ℕ) → List ℕ
+moment_text in_run moment = shown_if in_run (codes " moment " ++ decimal moment)
 
 -- the line of an item, as `s1 base level 0 at 0x1000`
-abbrev pub item_text : (item : Item) → List ℕ
-item_text i = item_text_by i.what i
+abbrev pub item_text : (in_run : Bool) (item : Item) → List ℕ
+item_text in_run i =
+    joined_text
+    (codes "s" ∷ stage_digit i.stage ∷ what_text i.what ∷ codes " level " ∷ level_text i.level ∷ codes " at " ∷ hex_text i.pa ∷
+    value_text i.what i.value ∷ moment_text in_run i.moment ∷ codes "\n" ∷ [])
 
 -- the mark of a stage 2 fault for a stage 1 descriptor
 abbrev pub mark_text : (s1ptw : Bool) → List ℕ
-mark_text s1ptw = if s1ptw then codes " s1ptw" else []
+mark_text s1ptw = shown_if s1ptw (codes " s1ptw")
 
 -- the line of a fault: its stage, level and class, the code that a syndrome register gives it, and the mark
 abbrev pub fault_text : (fault : Fault) → List ℕ

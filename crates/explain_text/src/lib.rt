@@ -1,6 +1,16 @@
 //! Sinks, and the lines in which a walk is printed.
 #![tactic(auto)]
 
+mod answer;
+mod lines;
+mod outcomes;
+mod parts;
 mod sink;
 
+pub use answer::{access_line, explain};
+pub use lines::{absent_line, fault_line, item_line, item_lines};
+pub use outcomes::outcome_line;
 pub use sink::{Adapter, FailingMemory, QuietMemory, Sink, WriteFailed};
+
+#[cfg(test)]
+mod tests;

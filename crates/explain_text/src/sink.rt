@@ -1,4 +1,5 @@
-ghost use Rattle.std.specs.Prelude.{◌≡◌, ℕ, List, [], Option, Some, None, false, if◌then◌else◌};
+ghost use Rattle.std.specs.Prelude.{◌≡◌, ◌≤◌, ℕ, List, [], Option, Some, None, false, if◌then◌else◌};
+ghost use Rattle.std.specs.Vec.{vec_capacity};
 ghost use Rattle.bitwords.specs.Causes.{HasCause};
 ghost use Rattle.explain_text.specs.Written.{Wrote};
 
@@ -68,6 +69,21 @@ impl QuietMemory {
         QuietMemory {
             bytes: Vec::new(alloc),
             lost: false,
+        }
+    }
+
+    /// A sink with room for so many bytes. Where memory for them is refused it tells nothing.
+    pub fn with_room(alloc: Global, room: usize) -> QuietMemory
+        ensures bytes { result.bytes.items ≡ [] }
+        ensures room { result.lost ≡ false → room ≤ vec_capacity result.bytes }
+        ensures told { room ≡ 0 → result.lost ≡ false }
+    {
+        match Vec::with_capacity(alloc, room) {
+            Ok(bytes) => QuietMemory { bytes, lost: false },
+            Err(_) => QuietMemory {
+                bytes: Vec::new(alloc),
+                lost: true,
+            },
         }
     }
 }

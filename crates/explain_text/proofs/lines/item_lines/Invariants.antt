@@ -7,5 +7,5 @@ use Rattle.explain_text.proofs.lines.item_lines.Given as goal
 abbrev pub invariant-loop-item : goal.invariant-loop-item
 invariant-loop-item g l = record {
   later : g.O.Sink.faults l.fn.out ≤ g.O.Sink.faults l.out;
-  text : Appended (g.O.Sink.written l.fn.out) (g.O.Sink.written l.out) (flat_map item_text (take l.item-index l.items));
+  text : Appended (g.O.Sink.written l.fn.out) (g.O.Sink.written l.out) (flat_map (item_text l.in_run) (take l.item-index l.items));
 }

@@ -1,0 +1,63 @@
+-- The text of one access: its line, the items of its walk, and its outcome. Its form is this project's own rule.
+use Rattle.std.specs.Prelude.{ℕ, List, [], ◌∷◌, ◌++◌, Bool, true, false, flat_map, codes}
+use Rattle.sysregs.specs.Registers.{asid_of, vmid_of}
+use Rattle.sysregs.specs.declared.regs.Regs.{Regs}
+use Rattle.permissions.specs.declared.bits.El.{El}
+use Rattle.permissions.specs.declared.bits.El.TheVariants.{El0, El1}
+use Rattle.permissions.specs.declared.bits.Kind.{Kind}
+use Rattle.permissions.specs.declared.bits.Kind.TheVariants.{Read, Write, Fetch}
+use Rattle.fault_codes.specs.Status.{HasStatus}
+use Rattle.fault_codes.specs.declared.fault.Class.TheVariants.{External}
+use Rattle.trails.specs.declared.item.Item.{Item}
+use Rattle.trails.specs.declared.outcome.Access.{Access}
+use Rattle.trails.specs.declared.outcome.Outcome.{Outcome}
+use Rattle.trails.specs.declared.outcome.Outcome.TheVariants.{Mapped, Faulted, Absent, Conflict}
+use Rattle.texts.specs.Texts.{joined_text, hex_text}
+use Rattle.explain_text.specs.Texts.{shown_if, item_text, fault_text, absent_text}
+use Rattle.explain_text.specs.Mapped.{mapped_text}
+
+-- an exception level
+abbrev pub el_text : (el : El) → List ℕ
+el_text El0 = codes " el0"
+el_text El1 = codes " el1"
+
+-- what an access does
+abbrev pub kind_text : (kind : Kind) → List ℕ
+kind_text Read = codes " read"
+kind_text Write = codes " write"
+kind_text Fetch = codes " fetch"
+
+-- an access, behind a word and before the line's end
+abbrev pub access_text : (word : List ℕ) (access : Access) (asid vmid : ℕ) → List ℕ
+access_text word a asid vmid =
+    joined_text
+    (word ∷ codes " " ∷ hex_text a.va ∷ el_text a.el ∷ kind_text a.kind ∷ shown_if a.pan (codes " pan") ∷
+    codes " asid " ∷ hex_text asid ∷ codes " vmid " ∷ hex_text vmid ∷ [])
+
+-- the outcome that is printed: in a run a word that memory lacks is an external abort
+abbrev pub printed : (in_run : Bool) (outcome : Outcome) → Outcome
+printed true (Absent stage level pa s1ptw) = Faulted (record { stage = stage; level = level; class = External; s1ptw = s1ptw })
+printed _ outcome = outcome
+
+-- the line of an outcome
+abbrev pub line_of : (outcome : Outcome) → List ℕ
+line_of (Mapped pa perms mem share) = mapped_text pa perms mem share
+line_of (Faulted fault) = fault_text fault
+line_of (Absent stage level pa s1ptw) = absent_text stage level pa s1ptw
+line_of Conflict = codes "conflict fsc 0x30\n"
+
+-- the line of an outcome, in a run or not
+abbrev pub outcome_text : (in_run : Bool) (outcome : Outcome) → List ℕ
+outcome_text in_run outcome = line_of (printed in_run outcome)
+
+-- an outcome can be printed: if it is a fault, it has a status code
+abbrev pub HasText : (outcome : Outcome) → Type 0
+HasText (Mapped _ _ _ _) = Unit {0}
+HasText (Faulted fault) = HasStatus fault
+HasText (Absent _ _ _ _) = Unit {0}
+HasText Conflict = Unit {0}
+
+-- the text of one access: its line, the items in order without their moments, and the outcome
+abbrev pub explain_text : (regs : Regs) (access : Access) (items : List Item) (outcome : Outcome) → List ℕ
+explain_text r a items outcome =
+    (access_text (codes "access") a (asid_of r) (vmid_of r) ++ codes "\n") ++ (flat_map (item_text false) items ++ outcome_text false outcome)

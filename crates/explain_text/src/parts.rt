@@ -1,0 +1,264 @@
+//! Parts of lines. Each is put before what stands.
+ghost use Rattle.std.specs.Prelude.{◌≡◌, ◌≤◌, ◌+◌, ◌++◌, length, if◌then◌else◌};
+ghost use Rattle.explain_text.specs.Texts.{level_text, stage_digit, class_text, what_text, value_text, moment_text};
+ghost use Rattle.explain_text.specs.Mapped.{letters_text, rights_text, hints_text, cache_text, device_text, normal_text, mem_text, share_text};
+ghost use Rattle.explain_text.specs.Answers.{el_text, kind_text};
+
+use attributes::{Cache, Device, MemType, Share};
+use bitflags::Flags;
+use fault_codes::{Class, Stage};
+use permissions::{El, Kind, Perms};
+use texts::{LINE, Line};
+use trails::What;
+
+/// Puts a level in decimal, also one below 0.
+#[inline]
+pub fn level(line: &mut Line, level: i8)
+    requires { 21 + length line.old ≤ LINE }
+    ensures text { line.new ≡ level_text level ++ line.old }
+    ensures room { length line.new ≤ 21 + length line.old }
+{
+    if level >= 0 {
+        line.decimal(level as u64);
+    } else {
+        line.decimal((0 - level as i64) as u64);
+        line.text(b"-");
+    }
+}
+
+/// Puts a stage's digit.
+#[inline]
+pub fn stage(line: &mut Line, stage: Stage)
+    requires { 1 + length line.old ≤ LINE }
+    ensures text { line.new ≡ stage_digit stage ++ line.old }
+    ensures room { length line.new ≡ 1 + length line.old }
+{
+    match stage {
+        Stage::S1 => line.text(b"1"),
+        Stage::S2 => line.text(b"2"),
+    }
+}
+
+/// Puts the word for a class of faults.
+#[inline]
+pub fn class(line: &mut Line, class: Class)
+    requires { 12 + length line.old ≤ LINE }
+    ensures text { line.new ≡ class_text class ++ line.old }
+    ensures room { length line.new ≤ 12 + length line.old }
+{
+    match class {
+        Class::Translation => line.text(b"translation"),
+        Class::AddressSize => line.text(b"address-size"),
+        Class::AccessFlag => line.text(b"access-flag"),
+        Class::Permission => line.text(b"permission"),
+        Class::External => line.text(b"external"),
+        Class::Conflict => line.text(b"conflict"),
+    }
+}
+
+/// Puts the word for what an item is.
+#[inline]
+pub fn what(line: &mut Line, what: What)
+    requires { 5 + length line.old ≤ LINE }
+    ensures text { line.new ≡ what_text what ++ line.old }
+    ensures room { length line.new ≡ 5 + length line.old }
+{
+    match what {
+        What::Base => line.text(b" base"),
+        What::Word => line.text(b" word"),
+    }
+}
+
+/// Puts what a word holds, and nothing for a base.
+#[inline]
+pub fn value(line: &mut Line, what: What, value: u64)
+    requires { 25 + length line.old ≤ LINE }
+    ensures text { line.new ≡ value_text what value ++ line.old }
+    ensures room { length line.new ≤ 25 + length line.old }
+{
+    if let What::Word = what {
+        line.hex(value);
+        line.text(b" value ");
+    }
+}
+
+/// Puts when an item was read, where a run tells it.
+#[inline]
+pub fn moment(line: &mut Line, in_run: bool, moment: u32)
+    requires { 28 + length line.old ≤ LINE }
+    ensures text { line.new ≡ moment_text in_run moment ++ line.old }
+    ensures room { length line.new ≤ 28 + length line.old }
+{
+    if in_run {
+        line.decimal(moment as u64);
+        line.text(b" moment ");
+    }
+}
+
+/// Puts an exception level.
+#[inline]
+pub fn el(line: &mut Line, el: El)
+    requires { 4 + length line.old ≤ LINE }
+    ensures text { line.new ≡ el_text el ++ line.old }
+    ensures room { length line.new ≡ 4 + length line.old }
+{
+    match el {
+        El::El0 => line.text(b" el0"),
+        El::El1 => line.text(b" el1"),
+    }
+}
+
+/// Puts what an access does.
+#[inline]
+pub fn kind(line: &mut Line, kind: Kind)
+    requires { 6 + length line.old ≤ LINE }
+    ensures text { line.new ≡ kind_text kind ++ line.old }
+    ensures room { length line.new ≤ 6 + length line.old }
+{
+    match kind {
+        Kind::Read => line.text(b" read"),
+        Kind::Write => line.text(b" write"),
+        Kind::Fetch => line.text(b" fetch"),
+    }
+}
+
+/// A right's letter, or `-` where it isn't given.
+#[inline]
+fn letter(given: bool, name: u8) -> u8
+    ensures { result ≡ (if given then name else 0x2d) }
+{
+    if given { name } else { b'-' }
+}
+
+/// Puts the letters of rights to read, write and fetch.
+#[inline]
+fn letters(line: &mut Line, read: bool, write: bool, fetch: bool)
+    requires { 3 + length line.old ≤ LINE }
+    ensures text { line.new ≡ letters_text read write fetch ++ line.old }
+    ensures room { length line.new ≡ 3 + length line.old }
+{
+    line.text(&[letter(read, b'r'), letter(write, b'w'), letter(fetch, b'x')]);
+}
+
+/// Puts the rights of an exception level.
+#[inline]
+pub fn rights(line: &mut Line, perms: Perms, el: El)
+    requires { 3 + length line.old ≤ LINE }
+    ensures text { line.new ≡ rights_text perms el ++ line.old }
+    ensures room { length line.new ≡ 3 + length line.old }
+{
+    match el {
+        El::El0 => letters(
+            line,
+            perms.contains(Perms::R0),
+            perms.contains(Perms::W0),
+            perms.contains(Perms::X0),
+        ),
+        El::El1 => letters(
+            line,
+            perms.contains(Perms::R1),
+            perms.contains(Perms::W1),
+            perms.contains(Perms::X1),
+        ),
+    }
+}
+
+/// Puts the allocation hints of a cacheability.
+#[inline]
+fn hints(line: &mut Line, transient: bool, read: bool, write: bool)
+    requires { 6 + length line.old ≤ LINE }
+    ensures text { line.new ≡ hints_text transient read write ++ line.old }
+    ensures room { length line.new ≤ 6 + length line.old }
+{
+    line.when(transient, b"+t");
+    line.when(write, b"+w");
+    line.when(read, b"+r");
+}
+
+/// Puts how Normal memory is cached at one level.
+#[inline]
+fn cache(line: &mut Line, cache: Cache)
+    requires { 8 + length line.old ≤ LINE }
+    ensures text { line.new ≡ cache_text cache ++ line.old }
+    ensures room { length line.new ≤ 8 + length line.old }
+{
+    match cache {
+        Cache::Nc => line.text(b"nc"),
+        Cache::Wt {
+            transient,
+            read,
+            write,
+        } => {
+            hints(line, transient, read, write);
+            line.text(b"wt");
+        }
+        Cache::Wb {
+            transient,
+            read,
+            write,
+        } => {
+            hints(line, transient, read, write);
+            line.text(b"wb");
+        }
+    }
+}
+
+/// Puts a kind of Device memory.
+#[inline]
+fn device(line: &mut Line, kind: Device)
+    requires { 13 + length line.old ≤ LINE }
+    ensures text { line.new ≡ device_text kind ++ line.old }
+    ensures room { length line.new ≤ 13 + length line.old }
+{
+    match kind {
+        Device::NGnRnE => line.text(b"device-nGnRnE"),
+        Device::NGnRE => line.text(b"device-nGnRE"),
+        Device::NGRE => line.text(b"device-nGRE"),
+        Device::GRE => line.text(b"device-GRE"),
+    }
+}
+
+/// Puts Normal memory.
+#[inline]
+fn normal(line: &mut Line, outer: Cache, inner: Cache, tagged: bool)
+    requires { 43 + length line.old ≤ LINE }
+    ensures text { line.new ≡ normal_text outer inner tagged ++ line.old }
+    ensures room { length line.new ≤ 43 + length line.old }
+{
+    line.when(tagged, b" tagged");
+    cache(line, inner);
+    line.text(b" inner ");
+    cache(line, outer);
+    line.text(b"normal outer ");
+}
+
+/// Puts a memory type.
+#[inline]
+pub fn mem(line: &mut Line, mem: MemType)
+    requires { 43 + length line.old ≤ LINE }
+    ensures text { line.new ≡ mem_text mem ++ line.old }
+    ensures room { length line.new ≤ 43 + length line.old }
+{
+    match mem {
+        MemType::Device { kind } => device(line, kind),
+        MemType::Normal {
+            outer,
+            inner,
+            tagged,
+        } => normal(line, outer, inner, tagged),
+    }
+}
+
+/// Puts a shareability.
+#[inline]
+pub fn share(line: &mut Line, share: Share)
+    requires { 3 + length line.old ≤ LINE }
+    ensures text { line.new ≡ share_text share ++ line.old }
+    ensures room { length line.new ≡ 3 + length line.old }
+{
+    match share {
+        Share::Nsh => line.text(b"nsh"),
+        Share::Ish => line.text(b"ish"),
+        Share::Osh => line.text(b"osh"),
+    }
+}
