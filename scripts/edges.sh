@@ -12,7 +12,7 @@ cp "$program" "$work/vmsa" && cp "$image" "$work/image" && cd "$work" || exit 1
 export LC_ALL=C
 passed=0
 failed=0
-usage=$'usage: vmsa raw IMAGE TCR TTBR0 VA\n'
+usage=$'usage: vmsa raw IMAGE TCR TTBR0 VA\nusage: vmsa explain REGS DUMP VA EL KIND [pan]\n'
 read_fault=$'vmsa: read fault\n'
 
 told() { # NAME IS_RIGHT
@@ -176,6 +176,132 @@ exec 3<>pipe 4>pipe 3>&-
 ./vmsa raw image 0x10 0x1000 0x40201abc >&4 2>err
 compare 'a pipe that nobody reads' $? 6 '' ''
 exec 4>&-
+
+# Dumps. A core has a header, program headers of 56 bytes and what is put behind them.
+bytes() { # NUMBER COUNT: the number's bytes, the lowest first
+    local i text=
+    for ((i = 0; i < $2; i++)); do text+=$(printf '\\x%02x' $((($1 >> (8 * i)) & 255))); done
+    printf '%b' "$text"
+}
+head_of() { # TABLE ENTRY COUNT: the header of a core
+    printf '\x7fELF\x02\x01\x01\0\0\0\0\0\0\0\0\0\x04\0\xb7\0'
+    bytes 0 12
+    bytes "$1" 8
+    bytes 0 14
+    bytes "$2" 2
+    bytes "$3" 2
+    bytes 0 6
+}
+segment() { # ADDRESS OFFSET SIZE: a program header that is loaded
+    bytes 1 8
+    bytes "$2" 8
+    bytes 0 8
+    bytes "$1" 8
+    bytes "$3" 8
+    bytes 0 16
+}
+word() { # FILE PLACE VALUE: puts a word into a file
+    bytes "$3" 8 | dd of="$1" bs=1 seek=$(($2)) conv=notrunc status=none
+}
+registers() { # TTBR0: stage 1 with four levels of 4 KB
+    printf 'sctlr_el1 = 1\ntcr_el1 = 0x500000010\nttbr0_el1 = %s\nttbr1_el1 = 0\nmair_el1 = 0\n' "$1"
+}
+first_lines() { # VA BASE: the first two lines of an answer
+    printf 'access %s el1 read asid 0x0 vmid 0x0\ns1 base level 0 at %s\n' "$1" "$2"
+}
+explains() { # NAME STATUS OUT ERR DUMP BASE VA
+    registers "$6" >regs
+    runs "$1" "$2" "$3" "$4" explain regs "$5" "$7" el1 read
+}
+refused() { # NAME DUMP WHY
+    explains "$1" 4 '' "vmsa: dump: $3"$'\n' "$2" 0 0
+}
+tables=$'s1 word level 0 at 0x1000 value 0x2003\ns1 word level 1 at 0x2008 value 0x3003
+s1 word level 2 at 0x3008 value 0x4003\ns1 word level 3 at 0x4008 value 0x5403\nmapped 0x5abc el0 --x el1 rwx device-nGnRnE osh\n'
+over_tables=$(first_lines 0x40201abc 0x1000)$'\n'$tables
+{ head_of 64 56 1; segment 0 0xffc 0x5000; } >core
+truncate -s $((0xffc)) core && cat "$image" >>core
+explains 'a segment that begins in the middle of a word of the file' 0 "$over_tables" '' core 0x1000 0x40201abc
+{ head_of 64 56 2; segment 0 0x1000 0x5000; segment 0x4000 0 0x78; } >overlap
+truncate -s 4K overlap && cat "$image" >>overlap
+explains 'two segments that overlap' 0 "$over_tables" '' overlap 0x1000 0x40201abc
+{ head_of 64 56 2; segment 0x4000 0 0x78; segment 0 0x1000 0x5000; } >overlap
+truncate -s 4K overlap && cat "$image" >>overlap
+explains 'the first of them serves' 0 "$(first_lines 0x40201abc 0x1000)
+$(head -n 3 <<<"$tables")
+s1 word level 3 at 0x4008 value 0xb70004
+fault stage 1 level 3 translation fsc 0x07
+" '' overlap 0x1000 0x40201abc
+explains 'an empty file' 4 '' $'vmsa: dump: not elf\n' empty 0 0
+explains 'a folder' 5 '' "$read_fault" folder 0 0
+explains 'a dump that is missing' 3 '' $'vmsa: no file a?b\n' $'a\tb' 0 0
+head -c 63 core >short
+refused 'a header of 63 bytes' short 'not elf'
+printf 'makedumpfile    ' >kdump && truncate -s 4K kdump
+refused 'a compressed dump' kdump 'not elf'
+head_of 0xfffffffffffffff0 56 1 >bad
+refused 'a table at the top of all numbers' bad 'bad table'
+{ head_of 64 56 1; segment 0 0xffffffffffffffff 2; } >bad
+refused 'a segment whose end wraps' bad 'segment 0 past end'
+head_of 64 0 4097 >bad
+refused 'a program header too many' bad 'too many segments'
+{ head_of 64 55 1; segment 0 0 8; } >bad
+refused 'program headers of 55 bytes' bad 'wrong entry size'
+{ head_of 64 56 1; segment 0xfffffffffffffff8 0 16; } >top
+explains 'a segment at the top of memory' 0 "$(first_lines 0x0 0x0)"$'\nabsent stage 1 level 0 at 0x0\n' '' top 0 0
+{ head_of 64 56 1; segment 0x1000 64 7; } >seven
+explains 'a segment of seven bytes' 0 "$(first_lines 0x0 0x1000)"$'\nabsent stage 1 level 0 at 0x1000\n' '' seven 0x1000 0
+{ head_of 64 56 1; segment 0x1000 0x1000 0x1000; } >loop
+truncate -s 8K loop && word loop 0x1000 0x1003
+explains 'a table that points to itself' 0 "$(first_lines 0x0 0x1000)
+$(printf 's1 word level %s at 0x1000 value 0x1003\n' 0 1 2 3)
+fault stage 1 level 3 access-flag fsc 0x0b
+" '' loop 0x1000 0
+segment 0x8000 0x40000 8 >many
+for _ in {1..12}; do cat many many >more && mv more many; done
+{ head_of 64 56 4096; cat many; } >segments
+truncate -s 260K segments && word segments 0x40000 0x0
+explains '4,096 segments' 0 "$(first_lines 0x0 0x8000)
+s1 word level 0 at 0x8000 value 0x0
+fault stage 1 level 0 translation fsc 0x04
+" '' segments 0x8000 0
+if truncate -s 16T huge 2>/dev/null || truncate -s 15T huge 2>/dev/null; then
+    end=$(($(stat -c %s huge) - 0x5000))
+    { head_of 64 56 1; segment 0 $end 0x5000; } | dd of=huge conv=notrunc status=none
+    dd if="$image" of=huge bs=4096 seek=$((end / 4096)) conv=notrunc status=none
+    explains 'a sparse file of 16 TB' 0 "$over_tables" '' huge 0x1000 0x40201abc
+    rm -f huge
+else
+    told 'a sparse file of 16 TB (this file system has none)' yes
+fi
+if truncate -s 1T cut 2>/dev/null; then
+    { head_of 64 56 1; segment 0 0x8000000000 0x5000; } | dd of=cut conv=notrunc status=none
+    explains 'a file full of nothing' 0 "$(first_lines 0x0 0x1000)
+s1 word level 0 at 0x1000 value 0x0
+fault stage 1 level 0 translation fsc 0x04
+" '' cut 0x1000 0
+    rm -f cut
+fi
+
+# Register files.
+runs 'registers that are missing' 3 '' $'vmsa: no file none\n' explain none core 0 el1 read
+runs 'a folder as registers' 5 '' "$read_fault" explain folder core 0 el1 read
+runs 'a pipe as registers' 5 '' "$read_fault" explain <(registers 0) core 0 el1 read
+told_regs() { # NAME WHY: the file regs is refused
+    runs "$1" 4 '' "vmsa: registers: $2"$'\n' explain regs core 0 el1 read
+}
+registers 0 >good
+: >regs && told_regs 'no registers' 'missing sctlr_el1'
+{ cat good; printf '# %065400d\n' 0; } >regs && truncate -s 65536 regs
+told_regs '65,536 bytes, of which the last are 0' 'not toml'
+truncate -s 65537 regs && told_regs '65,537 bytes' 'too large'
+printf '\xff' >regs && told_regs 'a byte that is no UTF-8' 'not toml'
+sed 's/^tcr_el1.*/tcr_el1 = -1/' good >regs && told_regs 'a value below 0' 'bad value tcr_el1'
+sed 's/^tcr_el1.*/tcr_el1 = "0x"/' good >regs && told_regs 'a number without digits' 'bad value tcr_el1'
+sed 's/^mair_el1.*/[mair_el1]/; /^sctlr_el1/d' good >regs && told_regs 'a missing key and a table' 'missing sctlr_el1'
+{ cat good; printf '"vbar\\u0001é" = 0\n'; } >regs && told_regs 'a key that is not visible' 'unknown vbar???'
+{ cat good; printf 'a'; printf '.a%.0s' {1..30000}; printf ' = 1\n'; } >regs && told_regs '60 KB of nested keys' 'not toml'
+{ printf '['; printf '[%.0s' {1..60000}; } >regs && told_regs '60 KB of brackets' 'not toml'
 
 echo "edges: $passed passed, $failed failed"
 [ "$failed" = 0 ]

@@ -1,91 +1,153 @@
 -- What is due comes, and what comes was due.
-use Rattle.std.proofs.Common.{◌≡◌, ◌≢◌, ◌⊎◌, ℕ, ◌≤◌, List, Option, Some, None, Ok, Err, inl, inr, refl, sym, ap, ◌∙◌, subst, arith}
-use Rattle.sysregs.specs.declared.regs.Reg.TheVariants.{TcrEl1}
-use Rattle.sysregs.specs.declared.regs.Field.{Field}
-use Rattle.sysregs.specs.Refused.{refused_field}
-use Rattle.bitwords.specs.Causes.{Rose}
-use Rattle.trails.specs.declared.item.Item.{Item}
-use Rattle.trails.specs.declared.outcome.Outcome.{Outcome}
-use Rattle.walk_spec.specs.Walked.{IsFresh, WalkedWhole}
-use Rattle.walk_spec.proofs.Walks.{lacks_weaker}
-use Rattle.vmsa.specs.Held.{Holding, Untold, Absent, Bytes, Reading, ReadFails, IsMissingBy}
-use Rattle.vmsa.specs.Written.{Writing, WriteFails, Got, GotNothing}
-use Rattle.vmsa.specs.ImageSupply.{memory_of}
-use Rattle.vmsa.specs.Raw.{raw_regs, raw_access, raw_text, IsRawText, IsRawTextThere}
-use Rattle.vmsa.specs.Command.{Asked, Raw}
-use Rattle.vmsa.specs.Answers.{Due, IsAccepted, IsRefused, Lacks, SurelyLacks, FailsToRead, IsAnswerable, IsText, IsDue, Tells, Comes, UsageWhere, RefusedWhere, NoFileWhere, NoMemoryWhere, ReadFaultWhere, WriteFaultWhere, DoneWhere, IsComplete}
+use Rattle.std.proofs.Common.{◌≡◌, ◌≢◌, ◌⊎◌, ℕ, List, [], ◌∷◌, Option, Some, None, Ok, Err, inl, inr, refl, sym, ap, ◌∙◌, subst}
+use Rattle.dump_file.specs.Held.{Holding, Untold, Absent, Bytes, Reading, ReadFails, IsMissing, IsMissingBy}
+use Rattle.explain_text.specs.Written.{Writing, WriteFails, Got, GotNothing}
+use Rattle.commands.specs.Asked.{Asked, Raw, Explain}
+use Rattle.vmsa.specs.Raw.{IsRawText}
+use Rattle.vmsa.specs.Explain.{AreRegisters, IsTextOver}
+use Rattle.vmsa.specs.Answers.{Form, Named, words_refusal, files_of, IsTextOf, refusal_in, PassesBy, IsRefusedBy, SurelyPassesBy, IsSurelyRefusedBy, Stops, SurelyStops, StopsIn, SurelyStopsIn, AllPass}
+use Rattle.vmsa.specs.Answers.{Due, MayEndBy, MayEnd, SurelyEndsBy, SurelyEnds, IsText, IsAnswerable, IsDue, Tells, Comes, UsageWhere, RefusedWhere, NoFileWhere, ReadFaultWhere, WriteFaultWhere, DoneWhere, Completes, IsComplete}
+use Rattle.vmsa.proofs.Passing.{PassAll, text_passes}
 use Rattle.vmsa.specs.declared.status.Why.{Why}
-use Rattle.vmsa.specs.declared.status.Why.TheVariants.{Word}
 use Rattle.vmsa.specs.declared.status.Status.{Status}
 use Rattle.vmsa.specs.declared.status.Status.TheVariants.{Done, Usage, NoFile, Refused, ReadFault, WriteFault, NoMemory}
 
-rose_none : (n : ℕ) → n ≤ 0 → Rose 0 n → ⊥
-rose_none n h r = absurd (omega arith)
+-- one thing is not both there and not
+both_ways : {A : Type 0} (o : Option A) (x : A) → o ≡ None → o ≡ Some x → ⊥
+both_ways None x h k = let bad : None ≡ Some x = k in cc
+both_ways (Some y) x h k = let bad : Some y ≡ None = h in cc
 
--- the text of a walk over an image that did not fail
-pub text_there : (h : Holding) (image : List ℕ) (tcr ttbr0 va n : ℕ) (items : List Item) (o : Outcome) → n ≤ 0 → WalkedWhole (raw_regs tcr ttbr0) (raw_access va) 0 (memory_of h) (Rose 0 n) items o → IsFresh (raw_regs tcr ttbr0) (raw_access va) 0 (memory_of h) (Rose 0 n) items o → IsRawTextThere h record { image = image; tcr = tcr; ttbr0 = ttbr0; va = va } (raw_text va items o)
-text_there Untold image tcr ttbr0 va n items o h w f =
-    (items, o, record { end = w.end; took = w.took; cause = lacks_weaker None (Rose 0 n) ⊥ (rose_none n h) w.end w.cause; answer = w.answer }, refl)
-text_there Absent image tcr ttbr0 va n items o h w f = tt
-text_there (Bytes bytes) image tcr ttbr0 va n items o h w f = let e = f _ refl (rose_none n h) in rw (e.0, e.1) refl
+same_some : {A : Type 0} (o : Option A) (x y : A) → o ≡ Some x → o ≡ Some y → x ≡ y
+same_some None x y h k = absurd (let bad : None ≡ Some x = h in cc)
+same_some (Some z) x y h k = let e : Some z ≡ Some x = h in let f : Some z ≡ Some y = k in cc
 
--- no register value is both accepted and refused
-both_ways : (o : Option Field) (f : Field) → o ≡ None → o ≡ Some f → ⊥
-both_ways None f h k = cc
-both_ways (Some x) f h k = cc
-
-no_both : (a : Asked) (why : Why) → IsAccepted a → IsRefused a why → ⊥
-no_both (Raw a) (Word at) h k = both_ways (refused_field TcrEl1 a.tcr) at.field h k.1
-
-one_field : (o : Option Field) (f g : Field) → o ≡ Some f → o ≡ Some g → f ≡ g
-one_field None f g h k = absurd cc
-one_field (Some x) f g h k = cc
-
-one_why : (a : Asked) (v w : Why) → IsRefused a v → IsRefused a w → v ≡ w
-one_why (Raw a) (Word x) (Word y) h k =
-    let reg : x.reg ≡ y.reg = h.0 ∙ sym k.0 in
-    let field : x.field ≡ y.field = one_field (refused_field TcrEl1 a.tcr) x.field y.field h.1 k.1 in
-    ap Word (λ i. record { reg = reg i; field = field i })
+-- a status that surely stops a command is the one that stops it, but for a failed read and want of memory
+data Agree (r : Reading) (want status : Status) : Type 0 where
+  the_same : status ≡ want → Agree r want status
+  failed : ReadFails r → Agree r want status
+  no_memory : status ≡ NoMemory → Agree r want status
 
 module _ (r : Reading) where
-  -- no refusal of its words goes with what comes of an accepted command
-  lacks_refused : (a : Asked) (name : List ℕ) (why : Why) → Lacks r a name → IsRefused a why → ⊥
-  lacks_refused (Raw a) name why h k = no_both (Raw a) why h.0 k
+  -- a file that surely passes stops nothing
+  passes_missing : (h : Holding) (f : Form) (m n : ℕ) → SurelyPassesBy h f → IsMissingBy h m n → ⊥
+  passes_missing Untold f m n p k = p
+  passes_missing Absent f m n p k = p
+  passes_missing (Bytes bytes) f m n p k = k
 
-  fails_refused : (a : Asked) (why : Why) → FailsToRead r a → IsRefused a why → ⊥
-  fails_refused (Raw a) why h k = no_both (Raw a) why h.0 k
+  passes_refused : (h : Holding) (f : Form) (why : Why) → SurelyPassesBy h f → IsRefusedBy h f why → ⊥
+  passes_refused Untold f why p k = p
+  passes_refused Absent f why p k = p
+  passes_refused (Bytes bytes) f why p k = both_ways (refusal_in f bytes) why p k
 
-  text_refused : (a : Asked) (text : List ℕ) (why : Why) → IsText r a text → IsRefused a why → ⊥
-  text_refused (Raw a) text why h k = no_both (Raw a) why h.0 k
+  passes_stops : (f : Named) (status : Status) → SurelyPassesBy (r.holds f.name) f.form → Stops r f status → ReadFails r ⊎ (status ≡ NoMemory)
+  passes_stops f (NoFile name) p s = absurd (passes_missing (r.holds f.name) f.form r.missing r.missing_after p s.1)
+  passes_stops f (Refused why) p s = absurd (passes_refused (r.holds f.name) f.form why p s)
+  passes_stops f ReadFault p s = inl s
+  passes_stops f NoMemory p s = inr refl
+  passes_stops f Done p s = absurd s
+  passes_stops f Usage p s = absurd s
+  passes_stops f WriteFault p s = absurd s
 
-  -- a file that surely isn't there
-  surely_refused : (a : Asked) (name : List ℕ) (why : Why) → SurelyLacks r a name → IsRefused a why → ⊥
-  surely_refused (Raw a) name why h k = no_both (Raw a) why h.0 k
+  -- files that surely pass stop nothing
+  pass_in : (fs : List Named) (status : Status) → AllPass r fs → StopsIn r fs status → ReadFails r ⊎ (status ≡ NoMemory)
+  pass_in [] status p t = absurd t
+  pass_in (f ∷ fs) status p (inl t) = passes_stops f status p.0 t
+  pass_in (f ∷ fs) status p (inr t) = pass_in fs status p.1 t.1
 
-  surely_text : (a : Asked) (name text : List ℕ) → SurelyLacks r a name → IsText r a text → ⊥
-  surely_text (Raw a) name text h k = let t : IsRawText Absent a text = subst (λ z. IsRawText z a text) h.2 k.1 in t
+  agree_passes : (want status : Status) → ReadFails r ⊎ (status ≡ NoMemory) → Agree r want status
+  agree_passes want status (inl e) = failed e
+  agree_passes want status (inr e) = no_memory e
 
-  surely_named : (a : Asked) (m n : List ℕ) → SurelyLacks r a m → Lacks r a n → n ≡ m
-  surely_named (Raw a) m n h k = k.1 ∙ sym h.1
+  -- one that surely is missing, or refused, doesn't pass
+  missing_passes : (h : Holding) (f : Form) → h ≡ Absent → PassesBy h f → ⊥
+  missing_passes h f e p = let q : PassesBy Absent f = subst (λ x. PassesBy x f) e p in q
 
-  fails_rose : (a : Asked) → FailsToRead r a → ReadFails r
-  fails_rose (Raw a) h = h.1
+  refused_passes : (h : Holding) (f : Form) (why : Why) → IsSurelyRefusedBy h f why → PassesBy h f → ⊥
+  refused_passes Untold f why k p = k
+  refused_passes Absent f why k p = k
+  refused_passes (Bytes bytes) f why k p = both_ways (refusal_in f bytes) why p k
 
-  -- a command whose files tell their bytes
-  answerable_lacks : (a : Asked) (name : List ℕ) → IsAnswerable r a → Lacks r a name → ⊥
-  answerable_lacks (Raw a) name h k = let m : IsMissingBy (Bytes h.0) r.missing r.missing_after = subst (λ z. IsMissingBy z r.missing r.missing_after) h.2 k.2 in m
+  stop_passes : (f : Named) (want : Status) → SurelyStops r f want → PassesBy (r.holds f.name) f.form → ⊥
+  stop_passes f (NoFile name) s p = missing_passes (r.holds f.name) f.form s.1 p
+  stop_passes f (Refused why) s p = refused_passes (r.holds f.name) f.form why s p
+  stop_passes f ReadFault s p = s
+  stop_passes f NoMemory s p = s
+  stop_passes f Done s p = s
+  stop_passes f Usage s p = s
+  stop_passes f WriteFault s p = s
 
-  answerable_refused : (a : Asked) (why : Why) → IsAnswerable r a → IsRefused a why → ⊥
-  answerable_refused (Raw a) why h k = no_both (Raw a) why h.1 k
+  missing_refused : (h : Holding) (f : Form) (why : Why) → h ≡ Absent → IsRefusedBy h f why → ⊥
+  missing_refused h f why e k = let q : IsRefusedBy Absent f why = subst (λ x. IsRefusedBy x f why) e k in q
 
-  -- neither Done nor WriteFault is ever a refusal
+  refused_missing : (h : Holding) (f : Form) (why : Why) (m n : ℕ) → IsSurelyRefusedBy h f why → IsMissingBy h m n → ⊥
+  refused_missing Untold f why m n k p = k
+  refused_missing Absent f why m n k p = k
+  refused_missing (Bytes bytes) f why m n k p = p
+
+  one_why : (h : Holding) (f : Form) (v w : Why) → IsSurelyRefusedBy h f v → IsRefusedBy h f w → w ≡ v
+  one_why Untold f v w k l = absurd k
+  one_why Absent f v w k l = absurd k
+  one_why (Bytes bytes) f v w k l = same_some (refusal_in f bytes) w v l k
+
+  -- what surely stops, stops
+  stop_stops : (f : Named) (want status : Status) → SurelyStops r f want → Stops r f status → Agree r want status
+  stop_stops f want ReadFault s t = failed t
+  stop_stops f want NoMemory s t = no_memory refl
+  stop_stops f want Done s t = absurd t
+  stop_stops f want Usage s t = absurd t
+  stop_stops f want WriteFault s t = absurd t
+  stop_stops f (NoFile name) (NoFile n) s t = the_same (ap NoFile (t.0 ∙ sym s.0))
+  stop_stops f (NoFile name) (Refused why) s t = absurd (missing_refused (r.holds f.name) f.form why s.1 t)
+  stop_stops f (Refused why) (NoFile n) s t = absurd (refused_missing (r.holds f.name) f.form why r.missing r.missing_after s t.1)
+  stop_stops f (Refused why) (Refused w) s t = the_same (ap Refused (one_why (r.holds f.name) f.form why w s t))
+  stop_stops f ReadFault (NoFile n) s t = absurd s
+  stop_stops f ReadFault (Refused w) s t = absurd s
+  stop_stops f NoMemory (NoFile n) s t = absurd s
+  stop_stops f NoMemory (Refused w) s t = absurd s
+  stop_stops f Done (NoFile n) s t = absurd s
+  stop_stops f Done (Refused w) s t = absurd s
+  stop_stops f Usage (NoFile n) s t = absurd s
+  stop_stops f Usage (Refused w) s t = absurd s
+  stop_stops f WriteFault (NoFile n) s t = absurd s
+  stop_stops f WriteFault (Refused w) s t = absurd s
+
+  agree_in : (fs : List Named) (want status : Status) → SurelyStopsIn r fs want → StopsIn r fs status → Agree r want status
+  agree_in [] want status s t = absurd s
+  agree_in (f ∷ fs) want status (inl s) (inl t) = stop_stops f want status s t
+  agree_in (f ∷ fs) want status (inl s) (inr t) = absurd (stop_passes f want s t.0)
+  agree_in (f ∷ fs) want status (inr s) (inl t) = agree_passes want status (passes_stops f status s.0 t)
+  agree_in (f ∷ fs) want status (inr s) (inr t) = agree_in fs want status s.1 t.1
+
+  surely_pass : (fs : List Named) (want : Status) → SurelyStopsIn r fs want → PassAll r.holds fs → ⊥
+  surely_pass [] want s p = s
+  surely_pass (f ∷ fs) want (inl s) p = stop_passes f want s p.0
+  surely_pass (f ∷ fs) want (inr s) p = surely_pass fs want s.1 p.1
+
+  -- a command that surely ends otherwise has no text
+  text_ends : (a : Asked) (o : Option Why) (want : Status) (text : List ℕ) → o ≡ None → SurelyEndsBy r o (files_of a) want → IsTextOf r.holds a text → ⊥
+  text_ends a (Some why) want text e s t = let bad : Some why ≡ None = e in cc
+  text_ends a None want text e s t = surely_pass (files_of a) want s.1 (text_passes r.holds a text t)
+
+  -- neither Done nor WriteFault nor Usage ends a command
+  ends_not : (x : Status) → ((f : Named) → Stops r f x → ⊥) → (fs : List Named) → StopsIn r fs x → ⊥
+  ends_not x g [] t = t
+  ends_not x g (f ∷ fs) (inl t) = g f t
+  ends_not x g (f ∷ fs) (inr t) = ends_not x g fs t.1
+
+  ends_by : (x : Status) (o : Option Why) (fs : List Named) → ((why : Why) → x ≢ Refused why) → x ≢ NoMemory → ((f : Named) → Stops r f x → ⊥) → MayEndBy r o fs x → ⊥
+  ends_by x (Some why) fs n m g (inl e) = n why e
+  ends_by x (Some why) fs n m g (inr e) = m e
+  ends_by x None fs n m g t = ends_not x g fs t
+
   never_done : (asked : Option Asked) → IsDue r asked (Err Done) → ⊥
-  never_done None d = cc
-  never_done (Some a) d = d
+  never_done None (inl e) = cc
+  never_done None (inr e) = cc
+  never_done (Some a) d = ends_by Done (words_refusal a) (files_of a) (λ why h. cc) (λ h. cc) (λ f t. t) d
 
   never_write : (asked : Option Asked) → IsDue r asked (Err WriteFault) → ⊥
-  never_write None d = cc
-  never_write (Some a) d = d
+  never_write None (inl e) = cc
+  never_write None (inr e) = cc
+  never_write (Some a) d = ends_by WriteFault (words_refusal a) (files_of a) (λ why h. cc) (λ h. cc) (λ f t. t) d
 
   module _ (out err : Writing) where
     -- a status that is neither Done nor WriteFault was due
@@ -97,20 +159,32 @@ module _ (r : Reading) where
     due_as : (asked : Option Asked) (due : Due) (status x : Status) → IsDue r asked due → Tells out err due status → status ≡ x → x ≢ Done → x ≢ WriteFault → IsDue r asked (Err x)
     due_as asked due status x d t e n m = subst (IsDue r asked) (was_due due status x t e n m) d
 
+    -- what was due comes
     comes : (st status : Status) → Tells out err (Err st) status → Comes err st status
     comes st status (inl w) = inl w.0
-    comes st status (inr f) = inr (f.0, f.1.0)
+    comes st status (inr f) = inr (inr (f.0, f.1.0))
 
     comes_as : (st want status : Status) → st ≡ want → Tells out err (Err st) status → Comes err want status
     comes_as st want status e t = subst (λ z. Comes err z status) e (comes st status t)
 
+    comes_memory : (want status : Status) → Comes err NoMemory status → Comes err want status
+    comes_memory want status (inl e) = inr (inl e)
+    comes_memory want status (inr (inl e)) = inr (inl e)
+    comes_memory want status (inr (inr e)) = inr (inr e)
+
+    comes_by : (want st status : Status) → Agree r want st → (ReadFails r → ⊥) → Tells out err (Err st) status → Comes err want status
+    comes_by want st status (the_same e) f t = comes_as st want status e t
+    comes_by want st status (failed e) f t = absurd (f e)
+    comes_by want st status (no_memory e) f t = comes_memory want status (comes_as st NoMemory status e t)
+
     usage_only : (asked : Option Asked) → IsDue r asked (Err Usage) → asked ≡ None
     usage_only None d = refl
-    usage_only (Some a) d = absurd d
+    usage_only (Some a) d = absurd (ends_by Usage (words_refusal a) (files_of a) (λ why h. cc) (λ h. cc) (λ f t. t) d)
 
     usage_due : (due : Due) (status : Status) → IsDue r None due → Tells out err due status → Comes err Usage status
     usage_due (Ok text) status d t = absurd d
-    usage_due (Err st) status d t = comes_as st Usage status d t
+    usage_due (Err st) status (inl e) t = comes_as st Usage status e t
+    usage_due (Err st) status (inr e) t = comes_memory Usage status (comes_as st NoMemory status e t)
 
     pub usage_where : (asked : Option Asked) (due : Due) (status : Status) → IsDue r asked due → Tells out err due status → UsageWhere err asked status
     usage_where asked due status d t = record {
@@ -118,59 +192,48 @@ module _ (r : Reading) where
       due = λ e. usage_due due status (subst (λ z. IsDue r z due) e d) t;
     }
 
-    refused_only : (asked : Option Asked) (why : Why) → IsDue r asked (Err (Refused why)) → (a : Asked) × (asked ≡ Some a) × IsRefused a why
-    refused_only None why d = absurd cc
-    refused_only (Some a) why d = (a, refl, d)
+    -- what surely ends a command comes
+    ends_due : (a : Asked) (o : Option Why) (want st status : Status) → SurelyEndsBy r o (files_of a) want → MayEndBy r o (files_of a) st → Tells out err (Err st) status → Comes err want status
+    ends_due a (Some why) want st status s (inl e) t = comes_as st want status (e ∙ sym s) t
+    ends_due a (Some why) want st status s (inr e) t = comes_memory want status (comes_as st NoMemory status e t)
+    ends_due a None want st status s d t = comes_by want st status (agree_in (files_of a) want st s.1 d) s.0 t
 
-    refused_due : (a : Asked) (why : Why) (due : Due) (status : Status) → IsRefused a why → IsDue r (Some a) due → Tells out err due status → Comes err (Refused why) status
-    refused_due a why (Ok text) status k d t = absurd (text_refused a text why d k)
-    refused_due a why (Err Usage) status k d t = absurd d
-    refused_due a why (Err Done) status k d t = absurd d
-    refused_due a why (Err (NoFile name)) status k d t = absurd (lacks_refused a name why d k)
-    refused_due a why (Err (Refused v)) status k d t = comes_as (Refused v) (Refused why) status (ap Refused (one_why a v why d k)) t
-    refused_due a why (Err ReadFault) status k d t = absurd (fails_refused a why d k)
-    refused_due a why (Err WriteFault) status k d t = absurd d
-    refused_due a why (Err NoMemory) status k d t = absurd (lacks_refused a d.0 why d.1 k)
+    ends_comes : (a : Asked) (want : Status) (due : Due) (status : Status) → SurelyEnds r a want → IsDue r (Some a) due → Tells out err due status → Comes err want status
+    ends_comes a want (Ok text) status s d t = absurd (text_ends a (words_refusal a) want text d.0 s d.1)
+    ends_comes a want (Err st) status s d t = ends_due a (words_refusal a) want st status s d t
 
-    pub refused_where : (asked : Option Asked) (due : Due) (status : Status) → IsDue r asked due → Tells out err due status → RefusedWhere err asked status
+    ended : (asked : Option Asked) (x : Status) → x ≢ Usage → x ≢ NoMemory → IsDue r asked (Err x) → (a : Asked) × (asked ≡ Some a) × MayEnd r a x
+    ended None x n m (inl e) = absurd (n e)
+    ended None x n m (inr e) = absurd (m e)
+    ended (Some a) x n m d = (a, refl, d)
+
+    pub refused_where : (asked : Option Asked) (due : Due) (status : Status) → IsDue r asked due → Tells out err due status → RefusedWhere r err asked status
     refused_where asked due status d t = record {
-      only = λ why e. refused_only asked why (due_as asked due status (Refused why) d t e (λ h. cc) (λ h. cc));
-      due = λ a e why k. refused_due a why due status k (subst (λ z. IsDue r z due) e d) t;
+      only = λ why e. ended asked (Refused why) (λ h. cc) (λ h. cc) (due_as asked due status (Refused why) d t e (λ h. cc) (λ h. cc));
+      due = λ a e why s. ends_comes a (Refused why) due status s (subst (λ z. IsDue r z due) e d) t;
     }
-
-    no_file_only : (asked : Option Asked) (name : List ℕ) → IsDue r asked (Err (NoFile name)) → (a : Asked) × (asked ≡ Some a) × Lacks r a name
-    no_file_only None name d = absurd cc
-    no_file_only (Some a) name d = (a, refl, d)
-
-    no_file_due : (a : Asked) (name : List ℕ) (due : Due) (status : Status) → SurelyLacks r a name → (ReadFails r → ⊥) → IsDue r (Some a) due → Tells out err due status → Comes err (NoFile name) status ⊎ Comes err NoMemory status
-    no_file_due a name (Ok text) status k f d t = absurd (surely_text a name text k d)
-    no_file_due a name (Err Usage) status k f d t = absurd d
-    no_file_due a name (Err Done) status k f d t = absurd d
-    no_file_due a name (Err (NoFile n)) status k f d t = inl (comes_as (NoFile n) (NoFile name) status (ap NoFile (surely_named a name n k d)) t)
-    no_file_due a name (Err (Refused why)) status k f d t = absurd (surely_refused a name why k d)
-    no_file_due a name (Err ReadFault) status k f d t = absurd (f (fails_rose a d))
-    no_file_due a name (Err WriteFault) status k f d t = absurd d
-    no_file_due a name (Err NoMemory) status k f d t = inr (comes NoMemory status t)
 
     pub no_file_where : (asked : Option Asked) (due : Due) (status : Status) → IsDue r asked due → Tells out err due status → NoFileWhere r err asked status
     no_file_where asked due status d t = record {
-      only = λ name e. no_file_only asked name (due_as asked due status (NoFile name) d t e (λ h. cc) (λ h. cc));
-      due = λ a e name k f. no_file_due a name due status k f (subst (λ z. IsDue r z due) e d) t;
+      only = λ name e. ended asked (NoFile name) (λ h. cc) (λ h. cc) (due_as asked due status (NoFile name) d t e (λ h. cc) (λ h. cc));
+      due = λ a e name s. ends_comes a (NoFile name) due status s (subst (λ z. IsDue r z due) e d) t;
     }
 
-    no_memory_only : (asked : Option Asked) → IsDue r asked (Err NoMemory) → (a : Asked) × (name : List ℕ) × (asked ≡ Some a) × Lacks r a name
-    no_memory_only None d = absurd cc
-    no_memory_only (Some a) d = (a, d.0, refl, d.1)
+    fails_in : (fs : List Named) → StopsIn r fs ReadFault → ReadFails r
+    fails_in [] t = absurd t
+    fails_in (f ∷ fs) (inl t) = t
+    fails_in (f ∷ fs) (inr t) = fails_in fs t.1
 
-    pub no_memory_where : (asked : Option Asked) (due : Due) (status : Status) → IsDue r asked due → Tells out err due status → NoMemoryWhere r asked status
-    no_memory_where asked due status d t e = no_memory_only asked (due_as asked due status NoMemory d t e (λ h. cc) (λ h. cc))
-
-    read_fault_only : (asked : Option Asked) → IsDue r asked (Err ReadFault) → (a : Asked) × (asked ≡ Some a) × FailsToRead r a
-    read_fault_only None d = absurd cc
-    read_fault_only (Some a) d = (a, refl, d)
+    fails_by : (o : Option Why) (fs : List Named) → MayEndBy r o fs ReadFault → (o ≡ None) × ReadFails r
+    fails_by (Some why) fs (inl e) = absurd (let bad : ReadFault ≡ Refused why = e in cc)
+    fails_by (Some why) fs (inr e) = absurd (let bad : ReadFault ≡ NoMemory = e in cc)
+    fails_by None fs t = (refl, fails_in fs t)
 
     pub read_fault_where : (asked : Option Asked) (due : Due) (status : Status) → IsDue r asked due → Tells out err due status → ReadFaultWhere r asked status
-    read_fault_where asked due status d t e = read_fault_only asked (due_as asked due status ReadFault d t e (λ h. cc) (λ h. cc))
+    read_fault_where asked due status d t e =
+        let h = ended asked ReadFault (λ h. cc) (λ h. cc) (due_as asked due status ReadFault d t e (λ h. cc) (λ h. cc)) in
+        let k = fails_by (words_refusal h.0) (files_of h.0) h.2 in
+        (h.0, h.1, k.0, k.1)
 
     pub write_fault_where : (asked : Option Asked) (due : Due) (status : Status) → IsDue r asked due → Tells out err due status → WriteFaultWhere r out err asked status
     write_fault_where asked (Ok text) status d (inl w) e = let h : WriteFault ≡ Done = sym e ∙ w.0 in absurd cc
@@ -186,16 +249,17 @@ module _ (r : Reading) where
     done_where asked (Err st) status d (inl w) e = absurd (never_done asked (subst (λ z. IsDue r asked (Err z)) (sym w.0 ∙ e) d))
     done_where asked due status d (inr f) e = let h : Done ≡ WriteFault = sym e ∙ f.0 in absurd cc
 
-    complete_due : (a : Asked) (due : Due) (status : Status) → IsAnswerable r a → (ReadFails r → ⊥) → (WriteFails out → ⊥) → IsDue r (Some a) due → Tells out err due status → status ≡ Done
-    complete_due a (Ok text) status k f g d (inl w) = w.0
-    complete_due a (Ok text) status k f g d (inr w) = absurd (g w.1.0)
-    complete_due a (Err Usage) status k f g d t = absurd d
-    complete_due a (Err Done) status k f g d t = absurd d
-    complete_due a (Err (NoFile name)) status k f g d t = absurd (answerable_lacks a name k d)
-    complete_due a (Err (Refused why)) status k f g d t = absurd (answerable_refused a why k d)
-    complete_due a (Err ReadFault) status k f g d t = absurd (f (fails_rose a d))
-    complete_due a (Err WriteFault) status k f g d t = absurd d
-    complete_due a (Err NoMemory) status k f g d t = absurd (answerable_lacks a d.0 k d.1)
+    complete_by : (o : Option Why) (fs : List Named) (st : Status) → o ≡ None → AllPass r fs → MayEndBy r o fs st → ReadFails r ⊎ (st ≡ NoMemory)
+    complete_by (Some why) fs st e p d = absurd (let bad : Some why ≡ None = e in cc)
+    complete_by None fs st e p d = pass_in fs st p d
 
-    pub complete_where : (asked : Option Asked) (due : Due) (status : Status) → IsDue r asked due → Tells out err due status → IsComplete r out asked status
+    complete_due : (a : Asked) (due : Due) (status : Status) → IsAnswerable r a → (ReadFails r → ⊥) → (WriteFails out → ⊥) → IsDue r (Some a) due → Tells out err due status → Completes err status
+    complete_due a (Ok text) status k f g d (inl w) = inl w.0
+    complete_due a (Ok text) status k f g d (inr w) = absurd (g w.1.0)
+    complete_due a (Err st) status k f g d t = elim (complete_by (words_refusal a) (files_of a) st k.0 k.1 d) [
+      | inl e ↦ absurd (f e)
+      | inr e ↦ inr (comes_as st NoMemory status e t)
+    ]
+
+    pub complete_where : (asked : Option Asked) (due : Due) (status : Status) → IsDue r asked due → Tells out err due status → IsComplete r out err asked status
     complete_where asked due status d t a e k f g = complete_due a due status k f g (subst (λ z. IsDue r z due) e d) t

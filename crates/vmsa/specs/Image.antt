@@ -1,8 +1,8 @@
 -- A file whose bytes are memory from address 0. Which word it holds is this project's own rule.
-use Rattle.std.specs.Prelude.{◌≡◌, ℕ, ◌+◌, ◌-◌, ◌≤◌, ◌<◌, List, length, take, drop, min, Option, Some, None, nat_le, if◌then◌else◌}
+use Rattle.std.specs.Prelude.{◌≡◌, ℕ, ◌+◌, List, length, drop, Option, Some, None, nat_le, if◌then◌else◌}
 use Rattle.byteorder.specs.Endian.{little_number}
 use Rattle.bitwords.specs.Causes.{Rose}
-use Rattle.vmsa.specs.Held.{Holding, Untold, Absent, Bytes}
+use Rattle.dump_file.specs.Held.{Holding, Untold, Absent, Bytes}
 
 -- the word at a place, where all its eight bytes are there
 abbrev pub image_word : (bytes : List ℕ) (pa : ℕ) → Option ℕ

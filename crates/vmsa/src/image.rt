@@ -1,6 +1,27 @@
-use crate::files::Files;
-use crate::fill::word_at;
+ghost use Rattle.std.specs.Prelude.{◌≡◌, ◌≤◌, ◌%◌, IfOk};
+ghost use Rattle.bitwords.specs.Causes.{HasCause};
+ghost use Rattle.vmsa.specs.Image.{IsImageWord, IsMissed};
+
+use byteorder::{ByteOrder, LittleEndian};
+use dump_file::{Files, ReadFailed, fill_from};
 use table_reads::Supply;
+
+/// The word at a place of a file, or None where not all its eight bytes are there.
+fn word_at<F: Files>(files: &mut F, name: &str, pa: u64) -> Result<Option<u64>, ReadFailed>
+    requires { pa % 8 ≡ 0 }
+    ensures same { F.holds files.new ≡ F.holds files.old }
+    ensures word { IfOk result (IsImageWord (F.holds files.old name.now) pa) }
+    ensures missed { IfOk result (IsMissed (F.holds files.old name.now) (F.missing files.old) (F.missing files.new)) }
+    ensures missing { F.missing files.old ≤ F.missing files.new }
+    ensures cause { HasCause (F.faults files.old) (F.faults files.new) result }
+{
+    let mut bytes = [0u8; 8];
+    let count = fill_from(files, name, pa, &mut bytes)?;
+    if count < 8 {
+        return Ok(None);
+    }
+    Ok(Some(LittleEndian::read_u64(&bytes)))
+}
 
 /// A file whose bytes are memory from address 0, with a count of the reads that failed.
 #[derive(Drop)]
@@ -11,18 +32,21 @@ pub struct Image<'a, F> {
 }
 
 impl<'a, F: Files> Supply for Image<'a, F> {
-    ghost use Rattle.vmsa.specs.ImageSupply.{memory_of, Keeps};
+    ghost use Rattle.std.specs.Prelude.{◌≡◌, refl};
+    ghost use Rattle.vmsa.specs.Supplies.{image_memory, Keeps};
     ghost use Rattle.vmsa.specs.Keeping.{keeps_here as here, keeps_then as then};
 
-    ghost memory = { λ s. memory_of (F.holds s.files.now s.name.now) };
+    ghost memory = { λ s. image_memory (F.holds s.files.now s.name.now) };
 
     ghost faults = { λ s. s.failures };
 
-    ghost keeps = { λ s t. Keeps F.holds F.faults s t };
+    ghost keeps = { λ s t. (t.files.ghost_name ≡ s.files.ghost_name)
+        × Keeps F.holds F.faults F.missing s.files.now t.files.now s.failures t.failures };
 
-    ghost keeps_here = { here F.holds F.faults };
+    ghost keeps_here = { λ s. (refl, here F.holds F.faults F.missing s.files.now s.failures) };
 
-    ghost keeps_then = { then F.holds F.faults };
+    ghost keeps_then = { λ s t u h k. (k.0 ∙ h.0,
+        then F.holds F.faults F.missing s.files.now t.files.now u.files.now s.failures t.failures u.failures h.1 k.1) };
 
     fn word(&mut self, pa: u64) -> Option<u64> {
         match word_at(self.files, self.name, pa) {

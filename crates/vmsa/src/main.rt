@@ -1,4 +1,5 @@
-//! Translates an address through an image of memory: `vmsa raw IMAGE TCR TTBR0 VA`.
+//! Translates an address through a dump or an image of memory: `vmsa explain REGS DUMP VA EL KIND [pan]`,
+//! `vmsa raw IMAGE TCR TTBR0 VA`.
 #![tactic(auto)]
 
 ghost use Rattle.std.specs.Prelude.{◌≡◌, ◌≢◌, ℕ, [], drop, map, string_bytes, IfOk, MatchResult};
@@ -6,27 +7,25 @@ ghost use Rattle.std.specs.IoError.{error_kind};
 ghost use Rattle.std.specs.Process.{exit_status};
 ghost use Rattle.std.specs.Vec.Iter.{into_iter_items};
 ghost use Rattle.std.specs.declared.io.ErrorKind.TheVariants.{InvalidData};
-ghost use Rattle.vmsa.specs.Held.{reading_of};
-ghost use Rattle.vmsa.specs.Written.{writing_of, GotNothing};
-ghost use Rattle.vmsa.specs.Command.{command_of};
+ghost use Rattle.dump_file.specs.Held.{reading_of};
+ghost use Rattle.explain_text.specs.Written.{writing_of, GotNothing};
+ghost use Rattle.commands.specs.Command.{command_of};
 ghost use Rattle.vmsa.specs.Answers.{IsAnswer};
 ghost use Rattle.vmsa.specs.Status.{number_of_status, Exits};
 
+mod answer;
 mod call;
-mod command;
-mod files;
-mod fill;
+mod dump_words;
+mod explain;
 mod image;
-mod line;
-mod lines;
-mod numbers;
-mod sink;
+mod raw;
+mod refusals;
 mod status;
 
 use crate::call::vmsa;
-use crate::files::{Files, RealFiles};
-use crate::sink::{Adapter, Sink};
 use crate::status::Status;
+use dump_file::{Files, RealFiles};
+use explain_text::{Adapter, Sink};
 use std::alloc::Global;
 use std::process::ExitCode;
 use std::{env, io};

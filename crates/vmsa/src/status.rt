@@ -1,47 +1,20 @@
-ghost use Rattle.std.specs.Prelude.{◌≡◌, IfOk};
+ghost use Rattle.std.specs.Prelude.{◌≡◌, ◌⊎◌};
 ghost use Rattle.vmsa.specs.Status.{number_of_status};
 
-use bitwords::NoMemory;
+use dump_file::DumpRefusal;
+use reg_file::{Name, RegRefusal};
 use std::alloc::Global;
-use std::marker::Model;
 use sysregs::Unsupported;
 
-/// A name, seen as its bytes.
-#[derive(Debug, Drop)]
-pub struct Name {
-    text: String,
-}
-
-impl Model for Name {
-    ghost use Rattle.std.specs.Prelude.{List, ℕ, string_bytes};
-
-    ghost Value = { List ℕ };
-
-    ghost view = { λ s. string_bytes s.text };
-}
-
-impl Name {
-    pub fn of(alloc: Global, text: &str) -> Result<Name, NoMemory>
-        ensures { IfOk result (λ name. name ≡ text.now) }
-    {
-        match String::from_str(alloc, text) {
-            Ok(text) => Ok(Name { text }),
-            Err(_) => Err(NoMemory),
-        }
-    }
-
-    pub fn text(&self) -> &str
-        ensures { result.now ≡ self.now }
-    {
-        self.text.as_str()
-    }
-}
-
 /// Why what is asked for is refused.
-#[derive(Clone, Copy, Debug, PartialEq, Eq)]
+#[derive(Debug, Drop)]
 pub enum Why {
     /// A register value of the command line sets a field that is not supported.
     Word { at: Unsupported },
+    /// The register file is refused.
+    Regs { why: RegRefusal },
+    /// The dump is refused.
+    Dump { why: DumpRefusal },
 }
 
 /// How a call of the program ends.
@@ -61,6 +34,36 @@ pub enum Status {
     WriteFault,
     /// Memory was refused.
     NoMemory,
+}
+
+impl From<RegRefusal> for Status {
+    fn from(why: RegRefusal) -> Status
+        ensures { result ≡ Status.Refused (Why.Regs why) }
+    {
+        Status::Refused {
+            why: Why::Regs { why },
+        }
+    }
+}
+
+impl From<DumpRefusal> for Status {
+    fn from(why: DumpRefusal) -> Status
+        ensures { result ≡ Status.Refused (Why.Dump why) }
+    {
+        Status::Refused {
+            why: Why::Dump { why },
+        }
+    }
+}
+
+/// The refusal of a file that isn't there.
+pub fn no_file(alloc: Global, name: &str) -> Status
+    ensures { (result ≡ Status.NoMemory) ⊎ (result ≡ Status.NoFile name.now) }
+{
+    match Name::of(alloc, name) {
+        Ok(name) => Status::NoFile { name },
+        Err(_) => Status::NoMemory,
+    }
 }
 
 impl Status {

@@ -3,7 +3,7 @@ use Rattle.std.specs.declared.alloc.AllocError.{AllocError}
 use Rattle.std.proofs.lemmas.Iterator.{items_from_collect}
 use Rattle.std.proofs.lemmas.Iterator.Adapters.{YieldsList-from_vec}
 use Rattle.std.specs.Vec.Iter.{into_iter_items}
-use Rattle.vmsa.proofs.Commands.{behind_first}
+use Rattle.vmsa.proofs.ProgramName.{behind_first}
 use Rattle.vmsa.proofs.after_name.Goals as goal
 
 pub returns : goal.returns

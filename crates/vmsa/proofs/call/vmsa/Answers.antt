@@ -1,4 +1,4 @@
-use Rattle.vmsa.proofs.Due.{usage_where, refused_where, no_file_where, no_memory_where, read_fault_where, write_fault_where, done_where, complete_where}
+use Rattle.vmsa.proofs.Due.{usage_where, refused_where, no_file_where, read_fault_where, write_fault_where, done_where, complete_where}
 use Rattle.vmsa.proofs.call.vmsa.Goals as goal
 
 pub returns-clause-usage : goal.returns-clause-usage
@@ -9,9 +9,6 @@ returns-clause-refused g c = refused_where _ _ _ _ _ _ c.due.ensures.due c.tell.
 
 pub returns-clause-no_file : goal.returns-clause-no_file
 returns-clause-no_file g c = no_file_where _ _ _ _ _ _ c.due.ensures.due c.tell.ensures
-
-pub returns-clause-no_memory : goal.returns-clause-no_memory
-returns-clause-no_memory g c = no_memory_where _ _ _ _ _ _ c.due.ensures.due c.tell.ensures
 
 pub returns-clause-read_fault : goal.returns-clause-read_fault
 returns-clause-read_fault g c = read_fault_where _ _ _ _ _ _ c.due.ensures.due c.tell.ensures

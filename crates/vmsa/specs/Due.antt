@@ -1,0 +1,24 @@
+-- What the code has before anything is written, as what is due.
+use Rattle.std.specs.Prelude.{ℕ, List, Result, Ok, Err}
+use Rattle.walk_spec.specs.Walked.{HasLine}
+use Rattle.explain_text.specs.Answers.{explain_text}
+use Rattle.vmsa.specs.Texts.{raw_text}
+use Rattle.vmsa.specs.Answers.{Due}
+use Rattle.vmsa.specs.declared.answer.Answer.{Answer}
+use Rattle.vmsa.specs.declared.answer.Answer.TheVariants.{Raw, Explain}
+use Rattle.vmsa.specs.declared.status.Status.{Status}
+
+-- the text of an answer
+abbrev pub answer_text : Answer → List ℕ
+answer_text (Raw va walked) = raw_text va walked.trail walked.outcome
+answer_text (Explain regs access walked) = explain_text regs access walked.trail walked.outcome
+
+-- its outcome has a line
+abbrev pub IsPrintable : Answer → Type 0
+IsPrintable (Raw va walked) = HasLine walked.outcome
+IsPrintable (Explain regs access walked) = HasLine walked.outcome
+
+-- an answer's text, or a refusal
+abbrev pub due_of : Result Answer Status → Due
+due_of (Ok answer) = Ok (answer_text answer)
+due_of (Err status) = Err status
