@@ -27,8 +27,8 @@ KEYS = {**NEEDED, **OF_EL2}
 
 TRIES = 3
 DEEPEST_INCLUDE = 8
-LARGEST_ANSWER = 1 << 20
-CHUNK = 0x400
+LARGEST_ANSWER = 1 << 18
+CHUNK = 0x7F0
 STOP_REPLY = re.compile(rb"[TSWX][0-9a-f]{2}")
 
 
@@ -56,9 +56,17 @@ class Stub:
             except socket.timeout:
                 why = f"{self.name} did not answer in {self.timeout:g} s; is another debugger attached?"
                 raise Failure(why) from None
+            except OSError as error:
+                raise Failure(f"{self.name} broke the connection: {error.strerror}") from None
             if not self.came:
                 raise Failure(f"{self.name} closed the connection")
         return self.came.pop(0)
+
+    def send(self, piece: bytes) -> None:
+        try:
+            self.socket.sendall(piece)
+        except OSError as error:
+            raise Failure(f"{self.name} broke the connection: {error.strerror}") from None
 
     def until(self, end: bytes) -> bytes:
         got = bytearray()
@@ -79,9 +87,9 @@ class Stub:
             body = self.until(b"#")
             said = bytes([self.byte(), self.byte()])
             if said.lower() == checksum(body):
-                self.socket.sendall(b"+")
+                self.send(b"+")
                 return body
-            self.socket.sendall(b"-")
+            self.send(b"-")
         raise Failure(f"{self.name} sent {TRIES} packets with wrong checksums")
 
     def ask(self, question: str) -> bytes:
@@ -89,7 +97,7 @@ class Stub:
         body = question.encode()
         self.deadline = time.monotonic() + self.timeout
         for _ in range(TRIES):
-            self.socket.sendall(b"$" + body + b"#" + checksum(body))
+            self.send(b"$" + body + b"#" + checksum(body))
             answer = self.packet()
             while answer is not None and STOP_REPLY.match(answer):
                 answer = self.packet()
@@ -146,7 +154,9 @@ def connected(name: str, timeout: float) -> socket.socket:
         host, _, port = name.rpartition(":")
         if not port.isdigit() or int(port) > 65535:
             raise Failure(f"{name} is neither HOST:PORT nor the path of a socket")
-        return socket.create_connection((host.strip("[]") or "localhost", int(port)), timeout)
+        to = socket.create_connection((host.strip("[]") or "localhost", int(port)), timeout)
+        to.setsockopt(socket.IPPROTO_TCP, socket.TCP_NODELAY, 1)
+        return to
     except OSError as error:
         raise Failure(f"no connection to {name}: {error.strerror or error}") from None
 
@@ -206,6 +216,14 @@ def chosen(known: "dict[str, int]", where: str) -> "dict[str, str]":
     return {key: name for key, name in names.items() if name}
 
 
+def checked(values: "dict[str, int]", where: str) -> "dict[str, int]":
+    """The values, unless stage 2 is on (bit 0 of HCR_EL2) and one of its registers isn't there."""
+    lacking = [key.upper() for key in OF_EL2 if key not in values]
+    if lacking and values.get("hcr_el2", 0) & 1:
+        raise Failure(f"{where} has stage 2 on, and no {', '.join(lacking)}")
+    return values
+
+
 def level_of(pstate: int) -> str:
     """Where the core stopped: bits 3 to 0 of PSTATE, with bit 4 for AArch32."""
     if pstate & 0x10:
@@ -222,13 +240,14 @@ def from_stub(name: str, thread: int, resume: bool, timeout: float) -> "tuple[di
     if machine and not machine.group(1).startswith("aarch64"):
         raise Failure(f"the target of {name} is {machine.group(1)}, not aarch64")
     known = numbers(description)
-    names = chosen(known, f"the target description of {name}")
+    where = f"the target description of {name}"
+    names = chosen(known, where)
     threads = stub.threads() or ["1"]
     if not 1 <= thread <= len(threads):
         raise Failure(f"{name} has {len(threads)} threads, so there is no thread {thread}")
     if stub.ask(f"Hg{threads[thread - 1]}") != b"OK":
         raise Failure(f"{name} refused thread {thread}")
-    values = {key: stub.value(names[key], known[names[key]]) for key in names}
+    values = checked({key: stub.value(names[key], known[names[key]]) for key in names}, where)
     stopped = level_of(stub.value("CPSR", known["CPSR"])) if "CPSR" in known else ""
     if resume:
         stub.resume(threads[thread - 1])
@@ -247,7 +266,7 @@ def from_gdb(text: str) -> "tuple[dict[str, int], str]":
                 raise Failure(f"gdb's text has two values of {name}")
     names = chosen(known, "gdb's text")
     stopped = level_of(known["CPSR"]) if "CPSR" in known else ""
-    return {key: known[name] for key, name in names.items()}, stopped
+    return checked({key: known[name] for key, name in names.items()}, "gdb's text"), stopped
 
 
 def register_file(values: "dict[str, int]", stopped: str) -> str:
@@ -299,8 +318,11 @@ def run(words: argparse.Namespace) -> None:
 def main() -> int:
     try:
         run(arguments())
-    except (Failure, OSError) as failure:
+    except Failure as failure:
         print(f"registers: {failure}", file=sys.stderr)
+        return 1
+    except OSError as error:
+        print(f"registers: {error.filename or 'output'}: {error.strerror}", file=sys.stderr)
         return 1
     return 0
 
