@@ -225,10 +225,10 @@ def checked(values: "dict[str, int]", where: str) -> "dict[str, int]":
 
 
 def level_of(pstate: int) -> str:
-    """Where the core stopped: bits 3 to 0 of PSTATE, with bit 4 for AArch32."""
+    """Where the core stopped: bits 3 and 2 of PSTATE, with bit 4 for AArch32 and bit 22 for PAN."""
     if pstate & 0x10:
         return "in AArch32"
-    return f"at EL{pstate >> 2 & 3}"
+    return f"at EL{pstate >> 2 & 3}" + (" with PAN" if pstate >> 22 & 1 else "")
 
 
 def from_stub(name: str, thread: int, resume: bool, timeout: float) -> "tuple[dict[str, int], str]":
@@ -304,7 +304,7 @@ def run(words: argparse.Namespace) -> None:
     else:
         with open(words.from_gdb, encoding="utf-8", errors="replace") as file:
             values, stopped = from_gdb(file.read())
-    if stopped in ("in AArch32", "at EL2", "at EL3"):
+    if stopped.startswith(("in AArch32", "at EL2", "at EL3")):
         print(f"registers: note: the core stopped {stopped}, where other registers translate", file=sys.stderr)
     text = register_file(values, stopped)
     if words.output is None:
