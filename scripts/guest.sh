@@ -193,7 +193,7 @@ own_guest() { # NAME WORD..
 
 # What the registers and the stack of a core hold, taken as addresses, and what lies around them.
 linux_guest() { # CPU KERNEL [INITRD]
-    local vas word initrd=()
+    local vas word stack initrd=()
     [ -n "$3" ] && initrd=(-initrd "$(realpath -- "$3")")
     start -machine virt -cpu "$1" -smp 2 -m 512 -kernel "$(realpath -- "$2")" "${initrd[@]}" -append console=ttyAMA0
     await 'Run /init\|Kernel panic\|Starting system log'
@@ -203,7 +203,8 @@ linux_guest() { # CPU KERNEL [INITRD]
         choose "$core"
         monitor 'info registers'
         vas=$(grep -oE '(PC|SP|X[0-9]+)=[0-9a-f]{16}' <<<"$answer" | sed 's/.*=/0x/')
-        monitor 'x /200gx $sp'
+        stack=${answer#* SP=}
+        monitor "x /240gx 0x${stack:0:16}"
         vas+=" $(grep -oE '0x[0-9a-f]{16}' <<<"$answer")"
         compare "Linux on $1, core $core" $(for word in $vas; do printf '0x%x 0x%x\n' $((word)) $((word ^ 0x201000)); done | sort -u) \
             $(between 30 0xffff000000000000 48) $(between 30 0x0 48)
