@@ -68,9 +68,10 @@ class Stub:
         except OSError as error:
             raise Failure(f"{self.name} broke the connection: {error.strerror}") from None
 
-    def until(self, end: bytes) -> bytes:
+    def body(self) -> bytes:
+        """What comes before the mark of a packet's end."""
         got = bytearray()
-        while (byte := self.byte()) != end[0]:
+        while (byte := self.byte()) != ord("#"):
             got.append(byte)
             if len(got) > LARGEST_ANSWER:
                 raise Failure(f"{self.name} sent a packet without end")
@@ -83,8 +84,8 @@ class Stub:
                 if byte == ord("-"):
                     return None
                 if byte == ord("%"):  # a notification, which nobody asked for
-                    self.until(b"#")
-            body = self.until(b"#")
+                    self.body()
+            body = self.body()
             said = bytes([self.byte(), self.byte()])
             if said.lower() == checksum(body):
                 self.send(b"+")
@@ -293,7 +294,10 @@ def arguments() -> argparse.Namespace:
     words.add_argument("--resume", action="store_true", help="detach, so that QEMU lets the guest run on")
     words.add_argument("--timeout", type=float, default=5.0, metavar="S", help="seconds for each answer (5)")
     words.add_argument("--output", metavar="FILE", help="where to write (standard output)")
-    return words.parse_args()
+    given = words.parse_args()
+    if given.from_gdb is not None and (given.resume or given.thread != 1):
+        words.error("--resume and --thread go with the stub, not with gdb's text")
+    return given
 
 
 def run(words: argparse.Namespace) -> None:
