@@ -171,6 +171,29 @@ between() { # COUNT START BITS
     done
 }
 
+# What the program ends with on other files than a whole dump and registers that it knows.
+ends_with() { # NAME PATTERN REGISTERS DUMP
+    last=$("$program" explain "$work/$3" "$work/$4" 0x40000000 el1 read 2>&1 | tail -n 1)
+    if [[ $last == $2 ]]; then
+        passed=$((passed + 1))
+    else
+        failed=$((failed + 1))
+        echo "failed: $1: $last"
+    fi
+}
+other_files() {
+    local dump='{"execute": "dump-guest-memory", "arguments": {"paging": false, "protocol": "file:' root
+    root=$(sed -n 's/^ttbr0_el1 = "\(.*\)"$/\1/p' "$work/registers")
+    ask "$dump"'packed", "format": "kdump-zlib"}}' || give_up "no compressed dump: $answer"
+    ask "$dump"'part", "begin": 1073741824, "length": 1048576}}' || give_up "no dump of a part: $answer"
+    sed 's/^tcr_el1 = .*/tcr_el1 = "0x800000000000010"/' "$work/registers" >"$work/with_ds"
+    { cat "$work/registers" && echo 'hcr_el2 = "0x8000000"'; } >"$work/with_tge"
+    ends_with 'a compressed dump' 'vmsa: dump: not elf' registers packed
+    ends_with 'a dump without the tables' "absent stage 1 level [01] at $root" registers part
+    ends_with 'addresses of 52 bits' 'vmsa: registers: unsupported TCR_EL1.DS' with_ds dump
+    ends_with 'a process of a VHE host' 'vmsa: registers: unsupported HCR_EL2.TGE' with_tge dump
+}
+
 # Flash, devices, RAM, the windows of PCI; where they end; the ends of the lower half and of the upper one.
 firmware_guest() {
     start -machine virt -cpu cortex-a57 -m 64 -bios "$firmware"
@@ -181,6 +204,7 @@ firmware_guest() {
         $(near 0x10000000000 0xffffffffff 0x1000000000000 0x80000000000000 0xff00000000000000 0xffff000000000000) \
         $(near 0xffffff8000000000 0xffffffffffffe000) \
         $(between 80 0x40000000 26) $(between 50 0x0 30) $(between 50 0x0 40) $(between 20 0x0 48) $(between 20 0xffff000000000000 48)
+    other_files
     stop_qemu
 }
 
