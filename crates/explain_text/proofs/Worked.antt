@@ -13,7 +13,7 @@ use Rattle.fault_codes.specs.declared.fault.Class.TheVariants.{Permission}
 use Rattle.trails.specs.declared.item.What.TheVariants.{Base, Word}
 use Rattle.trails.specs.declared.outcome.Outcome.TheVariants.{Mapped, Faulted, Absent, Conflict}
 use Rattle.explain_text.specs.Texts.{item_text}
-use Rattle.explain_text.specs.Answers.{access_text, outcome_text}
+use Rattle.explain_text.specs.Explained.{access_text, outcome_text}
 
 -- a page of Normal memory, with the rights R0, W0, R1 and W1
 normal_page

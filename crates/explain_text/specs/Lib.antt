@@ -5,4 +5,4 @@ pub use Rattle.fault_codes.specs.Status
 pub mod Written
 pub mod Texts
 pub mod Mapped
-pub mod Answers
+pub mod Explained

@@ -2,7 +2,7 @@
 ghost use Rattle.std.specs.Prelude.{◌≡◌, ◌≤◌, ◌+◌, ◌++◌, length, if◌then◌else◌};
 ghost use Rattle.explain_text.specs.Texts.{level_text, stage_digit, class_text, what_text, value_text, moment_text};
 ghost use Rattle.explain_text.specs.Mapped.{letters_text, rights_text, hints_text, cache_text, device_text, normal_text, mem_text, share_text};
-ghost use Rattle.explain_text.specs.Answers.{el_text, kind_text};
+ghost use Rattle.explain_text.specs.Explained.{el_text, kind_text};
 
 use attributes::{Cache, Device, MemType, Share};
 use bitflags::Flags;

@@ -1,5 +1,5 @@
 use Rattle.std.proofs.Common.{rules, [], append-nil, ◌∙◌}
-use Rattle.explain_text.specs.Answers.{access_text}
+use Rattle.explain_text.specs.Explained.{access_text}
 use Rattle.explain_text.proofs.Sinks.{goes_on, same_text}
 use Rattle.explain_text.proofs.answer.access_line.Goals as goal
 

@@ -1,7 +1,7 @@
 use Rattle.std.proofs.Common.{rules, ◌++◌, codes, flat_map, false}
 use Rattle.sysregs.specs.Registers.{asid_of, vmid_of}
 use Rattle.explain_text.specs.Texts.{item_text}
-use Rattle.explain_text.specs.Answers.{access_text, outcome_text}
+use Rattle.explain_text.specs.Explained.{access_text, outcome_text}
 use Rattle.explain_text.proofs.Sinks.{fails_first, goes_on}
 use Rattle.explain_text.proofs.answer.explain.Goals as goal
 
