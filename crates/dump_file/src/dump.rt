@@ -173,3 +173,6 @@ impl Dump {
         word_at(files, &file, &mut self.pages, at)
     }
 }
+
+#[cfg(test)]
+mod tests;
