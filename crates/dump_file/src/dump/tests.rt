@@ -14,6 +14,11 @@ fn content(at: u64) -> u8 {
     (at % 251) as u8
 }
 
+/// The word from a place on.
+fn content_word(at: u64) -> u64 {
+    u64::from_le_bytes([0, 1, 2, 3, 4, 5, 6, 7].map(|k: u64| content(at.wrapping_add(k))))
+}
+
 /// Bytes of a core with these program headers right behind its header.
 fn head(alloc: Global, headers: &[Header]) -> Result<Vec<u8>, AllocError> {
     let mut bytes = Vec::new(alloc);
@@ -262,14 +267,15 @@ fn reads_many(rt: HostRuntime) -> Result<(), Fail> {
         files: files(alloc, bytes)?,
     };
     let mut dump = Dump::of(alloc, &mut many, "core").expect(&rt, "a dump");
-    for page in (0..70u64).chain(0..70).chain(0..70) {
-        let word = [0, 1, 2, 3, 4, 5, 6, 7].map(|k: u64| content(0x40000 + page * 0x1000 + k));
-        let word = Some(u64::from_le_bytes(word));
-        assert_eq!(rt;
-            word_in(&mut dump, &mut many, 8 + page * 0x1000),
-            Ok(word),
-            "{page}"
-        );
+    for _ in 0..3 {
+        for page in 0..70u64 {
+            let word = content_word(0x40000 + page * 0x1000);
+            assert_eq!(rt;
+                word_in(&mut dump, &mut many, 8 + page * 0x1000),
+                Ok(Some(word)),
+                "{page}"
+            );
+        }
     }
     assert_eq!(rt; word_in(&mut dump, &mut many, 0), Ok(Some(0x10102464c457f)));
     Ok(())
@@ -286,7 +292,6 @@ struct Untold {
 }
 
 impl Files for Untold {
-    ghost use Rattle.std.specs.Prelude.{Unit};
     ghost use Rattle.dump_file.specs.Held.{Untold as untold};
 
     ghost holds = { λ _ _. untold };
