@@ -1,5 +1,5 @@
 -- Rows that are computed from the definitions: what small files come to.
-use Rattle.std.proofs.Common.{◌≡◌, ℕ, List, [], ◌∷◌, ◌++◌, Option, Some, None, Ok, Err, refl}
+use Rattle.std.proofs.Common.{◌≡◌, ℕ, List, [], ◌∷◌, ◌++◌, Some, None, Ok, Err, refl}
 use Rattle.byteorder.specs.Endian.{little_bytes}
 use Rattle.dump_file.specs.DumpOf.{dump_of, dump_word}
 use Rattle.dump_file.specs.declared.dump.Segment.{Segment}
