@@ -1,8 +1,7 @@
 -- The segments of a table, one program header after another.
-use Rattle.std.proofs.Common.{◌≡◌, ℕ, suc, ◌+◌, ◌-◌, ◌*◌, ◌<◌, ◌≤◌, List, [], ◌∷◌, ◌++◌, take, drop, Result, Ok, Err, Option, Some, None, if◌then◌else◌, Bool, true, false, nat_lt, refl, sym, ◌∙◌, ap, arith, append_assoc, rules}
+use Rattle.std.proofs.Common.{◌≡◌, ℕ, suc, ◌+◌, ◌-◌, ◌*◌, ◌<◌, ◌≤◌, List, [], ◌∷◌, ◌++◌, take, drop, Result, Ok, Err, Some, None, if◌then◌else◌, Bool, true, false, nat_lt, refl, sym, ◌∙◌, ap, arith, append_assoc}
 use Rattle.std.proofs.Math.Seq.{drop-drop}
 use Rattle.std.proofs.lemmas.Bool.Decides.{nat_tests}
-use Rattle.std.proofs.lemmas.List.{append-nil}
 use Rattle.dump_file.specs.DumpOf.{segment_of, segments_of, is_loaded, with_header, before}
 use Rattle.dump_file.specs.declared.dump.Segment.{Segment}
 use Rattle.dump_file.specs.declared.refusal.DumpRefusal.{DumpRefusal}
@@ -31,7 +30,7 @@ opened size index count table h =
     let place : 56 + 56 * index ≡ 56 * (index + 1) = omega arith in
     ap (λ (n : ℕ). segments_of size index n (drop (56 * index) table)) more
     ∙ ap (λ (t : List ℕ). with_header size index (take 56 (drop (56 * index) table)) (segments_of size (index + 1) (count - (index + 1)) t))
-        (drop-drop 56 (56 * index) table ∙ ap (λ (n : ℕ). drop n table) (omega arith))
+    (drop-drop 56 (56 * index) table ∙ ap (λ (n : ℕ). drop n table) (omega arith))
 
 -- what the reading of a program header says of it
 pub is_read : (b : Bool) (s t : Segment) → Some s ≡ (if b then Some t else None) → (b ≡ true) × (s ≡ t)

@@ -1,5 +1,5 @@
 -- What a look-up and a put leave of kept pages, and parts of a page.
-use Rattle.std.proofs.Common.{◌≡◌, ◌⊎◌, ℕ, ◌+◌, ◌-◌, ◌*◌, ◌/◌, ◌%◌, ◌<◌, ◌≤◌, List, ◌++◌, length, take, drop, min, Vec, Global, Result, Ok, Err, Some, Bool, true, false, nat_eq, Contains, refl, sym, ◌∙◌, ap, inl, inr, subst, arith, take_all}
+use Rattle.std.proofs.Common.{◌≡◌, ℕ, ◌+◌, ◌-◌, ◌*◌, ◌/◌, ◌%◌, ◌<◌, ◌≤◌, List, ◌++◌, length, take, drop, min, Vec, Global, Result, Ok, Err, Some, Bool, true, false, nat_eq, Contains, refl, sym, ◌∙◌, ap, inl, inr, subst, arith, take_all}
 use Rattle.std.specs.Result.{OnOk, OnErr, IfOk}
 use Rattle.std.specs.Map.{lookup}
 use Rattle.std.proofs.Math.Seq.{drop-drop, take-add}
@@ -7,13 +7,10 @@ use Rattle.std.proofs.lemmas.Bool.Decides.{nat_tests}
 use Rattle.std.proofs.lemmas.List.{length-append, drop-take, take-take, take-append-le, take_min, length-drop}
 use Rattle.lru.specs.LruCache.{LruCache, lru_cache, put_entries, promoted}
 use Rattle.lru.proofs.CallerLemmas.{Contains-put_entries, Contains-lookup, Contains-promoted}
-use Rattle.byteorder.specs.Endian.{little_number}
-use Rattle.byteorder.specs.Numbers.{little_from-take}
-use Rattle.bitwords.specs.Causes.{Rose}
 use Rattle.dump_file.specs.Held.{Holding, Untold, Absent, Bytes}
 use Rattle.dump_file.specs.Filled.{IsFilled}
-use Rattle.dump_file.specs.Kept.{KeepsOf, page_of}
-use Rattle.dump_file.specs.Paging.{AreFull, AreAmong, IsAdded, IsPart, IsWordAt, StayOf}
+use Rattle.dump_file.specs.Kept.{page_of}
+use Rattle.dump_file.specs.Paging.{AreFull, AreAmong, IsAdded, IsPart, StayOf}
 
 same_number : (m n : ℕ) → nat_eq m n ≡ true → n ≡ m
 same_number m n h = grind (arith, nat_tests)
@@ -86,11 +83,12 @@ module _ (size : ℕ) (pages : List (ℕ × Vec ℕ Global)) (before now : ℕ) 
     pub part_whole : (held : Holding) (offset at : ℕ) (new : List ℕ) → IsFilled held before now start page n → start + offset ≡ at → offset + length new ≤ n → new ≡ take (length new) (drop offset page) → IsPart held size pages before now at new true
     part_whole Untold offset at new f s k c = λ e. cc
     part_whole Absent offset at new f s k c = tt
-    part_whole (Bytes bytes) offset at new f s k c = λ e h. (refl,
+    part_whole (Bytes bytes) offset at new f s k c = λ e h. (
+      refl,
       c ∙ sym (cut offset (length new) n page k)
-      ∙ ap (λ (x : List ℕ). take (length new) (drop offset x)) f.1
-      ∙ cut offset (length new) n (drop start bytes) k
-      ∙ ap (take (length new)) (drop-drop offset start bytes ∙ ap (λ (m : ℕ). drop m bytes) s),
+          ∙ ap (λ (x : List ℕ). take (length new) (drop offset x)) f.1
+          ∙ cut offset (length new) n (drop start bytes) k
+          ∙ ap (take (length new)) (drop-drop offset start bytes ∙ ap (λ (m : ℕ). drop m bytes) s),
     )
 
     page_is : (bytes : List ℕ) (number : ℕ) → IsFilled (Bytes bytes) before now start page n → size ≡ length bytes → start ≡ 4096 * number → length page ≤ n → n ≤ length page → page ≡ page_of bytes number
@@ -135,17 +133,10 @@ part_joined (Ok came) Untold size pages between before mid now at front first se
 part_joined (Ok came) Absent size pages between before mid now at front first second l b s p q = tt
 part_joined (Ok came) (Bytes bytes) size pages between before mid now at front first second l b s p q = λ e h.
     let one = (p e h).1 in
-    let two = (q e (s e h)).1 in
-    ((q e (s e h)).0,
+    let two = (q e (s e h)).1 in (
+      (q e (s e h)).0,
       ap (λ (x : List ℕ). x ++ second) one
-      ∙ ap (λ (x : List ℕ). take (length first) (drop at bytes) ++ x) (two ∙ ap (take (length second)) (sym (drop-drop (length first) at bytes ∙ ap (λ (n : ℕ). drop (at + n) bytes) l)))
-      ∙ sym (take-add (length first) (length second) (drop at bytes))
-      ∙ ap (λ (n : ℕ). take n (drop at bytes)) (sym (length-append first second)),
+          ∙ ap (λ (x : List ℕ). take (length first) (drop at bytes) ++ x) (two ∙ ap (take (length second)) (sym (drop-drop (length first) at bytes ∙ ap (λ (n : ℕ). drop (at + n) bytes) l)))
+          ∙ sym (take-add (length first) (length second) (drop at bytes))
+          ∙ ap (λ (n : ℕ). take n (drop at bytes)) (sym (length-append first second)),
     )
-
--- the number of eight bytes
-pub word_came : (held : Holding) (size : ℕ) (pages : List (ℕ × Vec ℕ Global)) (before now at : ℕ) (new : List ℕ) (word : ℕ) → length new ≡ 8 → word ≡ little_number 8 new → IsPart held size pages before now at new true → IsWordAt held size pages before now at (Some word)
-word_came Untold size pages before now at new word l w p = λ e. cc
-word_came Absent size pages before now at new word l w p = tt
-word_came (Bytes bytes) size pages before now at new word l w p = λ e h.
-    ap Some (w ∙ ap (little_number 8) ((p e h).1 ∙ ap (λ (n : ℕ). take n (drop at bytes)) l) ∙ little_from-take 0 8 8 (drop at bytes) (omega arith))

@@ -3,3 +3,4 @@ pub mod Collected
 pub mod Openings
 pub mod Keeping
 pub mod Served
+pub mod Worked

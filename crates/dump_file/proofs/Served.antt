@@ -1,5 +1,5 @@
 -- The word of a segment that serves, and what a dump stands for after it.
-use Rattle.std.proofs.Common.{◌≡◌, ℕ, ◌+◌, ◌-◌, List, drop, Vec, Global, Option, Some, None, option_map, Result, Ok, Err, sym, ◌∙◌, ap, inr}
+use Rattle.std.proofs.Common.{◌≡◌, ℕ, List, drop, Vec, Global, Option, Some, option_map, Result, Ok, Err, sym, ◌∙◌, ap, inr}
 use Rattle.std.specs.Result.{IfOk}
 use Rattle.byteorder.specs.Endian.{little_number}
 use Rattle.dump_file.specs.Held.{Holding, Untold, Absent, Bytes}

@@ -1,6 +1,7 @@
 -- What the bytes of a dump stand for: an ELF64 core, little-endian, of an AArch64 machine. The fields and their places
 -- are those of the ELF format; which dumps are refused, with what, and which segment serves is this project's own rule.
-use Rattle.std.specs.Prelude.{◌≡◌, ℕ, zero, suc, ◌+◌, ◌-◌, ◌*◌, List, [], ◌∷◌, length, take, drop, slice_index, Option, Some, None, option_map, Bool, ◌==◌, ◌&&◌, not, nat_le, nat_lt, bytes_eq, if◌then◌else◌, Result, Ok, Err}
+use Rattle.std.specs.Prelude.{ℕ, zero, suc, ◌+◌, ◌-◌, ◌*◌, List, [], ◌∷◌, length, take, drop, slice_index, Option, Some, None}
+use Rattle.std.specs.Prelude.{option_map, Bool, ◌==◌, ◌&&◌, not, nat_le, nat_lt, bytes_eq, if◌then◌else◌, Result, Ok, Err}
 use Rattle.byteorder.specs.Endian.{little_number, little_from}
 use Rattle.dump_file.specs.declared.dump.Segment.{Segment}
 use Rattle.dump_file.specs.declared.refusal.DumpField.TheVariants.{Class, Encoding, Kind, Machine, EntrySize}

@@ -1,5 +1,5 @@
 -- What opening a dump and reading its words come to.
-use Rattle.std.specs.Prelude.{◌≡◌, ◌⊎◌, ℕ, List, Option, Some, None, Result, Ok, Err}
+use Rattle.std.specs.Prelude.{◌≡◌, ◌⊎◌, ℕ, Option, None, Err}
 use Rattle.bitwords.specs.Causes.{Rose}
 use Rattle.dump_file.specs.Held.{Holding, Untold, Absent, Bytes, IsMissingBy}
 use Rattle.dump_file.specs.DumpOf.{dump_of, serving, dump_word}

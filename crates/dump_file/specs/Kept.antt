@@ -1,6 +1,6 @@
 -- What a dump keeps of its file, and which bytes it stands for. How many pages are kept, and of which size, is this
 -- project's own rule.
-use Rattle.std.specs.Prelude.{◌≡◌, ℕ, ◌≤◌, ◌+◌, ◌*◌, List, length, take, drop, Vec, Contains, Ok, All}
+use Rattle.std.specs.Prelude.{◌≡◌, ℕ, ◌*◌, List, length, take, drop, Vec, Contains, Ok}
 use Rattle.std.specs.declared.alloc.Global.{Global}
 use Rattle.dump_file.specs.declared.dump.Segment.{Segment}
 use Rattle.dump_file.specs.DumpOf.{dump_of}

@@ -16,7 +16,8 @@ AreAmong before after = (page : ℕ × Vec ℕ Global) → Contains after page �
 
 -- each page was kept before, or is this one
 abbrev pub IsAdded : (before after : List (ℕ × Vec ℕ Global)) (number : ℕ) (bytes : List ℕ) → Type 0
-IsAdded before after number bytes = (page : ℕ × Vec ℕ Global) → Contains after page → Contains before page ⊎ ((page.0 ≡ number) × (page.1.items ≡ bytes))
+IsAdded before after number bytes =
+    (page : ℕ × Vec ℕ Global) → Contains after page → Contains before page ⊎ ((page.0 ≡ number) × (page.1.items ≡ bytes))
 
 -- a file's bytes from a place on, by pages that are kept of it
 abbrev pub IsKeptPart : (pages : List (ℕ × Vec ℕ Global)) (at : ℕ) (new : List ℕ) → Type 0
@@ -27,7 +28,8 @@ IsKeptPart pages at new = (bytes : List ℕ) → KeepsOf bytes pages → new ≡
 abbrev pub IsPart : (held : Holding) (size : ℕ) (pages : List (ℕ × Vec ℕ Global)) (before now at : ℕ) (new : List ℕ) (came : Bool) → Type 0
 IsPart Untold size pages before now at new came = came ≡ false → Rose before now
 IsPart Absent size pages before now at new came = Unit {0}
-IsPart (Bytes bytes) size pages before now at new came = size ≡ length bytes → KeepsOf bytes pages → (came ≡ true) × (new ≡ take (length new) (drop at bytes))
+IsPart (Bytes bytes) size pages before now at new came =
+    size ≡ length bytes → KeepsOf bytes pages → (came ≡ true) × (new ≡ take (length new) (drop at bytes))
 
 -- the word from a place on, likewise
 abbrev pub IsWordAt : (held : Holding) (size : ℕ) (pages : List (ℕ × Vec ℕ Global)) (before now at : ℕ) (word : Option ℕ) → Type 0

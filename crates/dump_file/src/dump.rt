@@ -131,7 +131,8 @@ impl Dump {
     pub fn of<F: Files>(alloc: Global, files: &mut F, name: &str) -> Result<Dump, DumpError>
         ensures same { F.holds files.new ≡ F.holds files.old }
         ensures dump { IfOk result (λ d. (d.name ≡ name.now) × IsOpened (F.holds files.old name.now) d) }
-        ensures error { IfErr result (IsError (F.holds files.old name.now) (F.missing files.old) (F.missing files.new) (F.faults files.old) (F.faults files.new)) }
+        ensures error { IfErr result (IsError (F.holds files.old name.now)
+            (F.missing files.old) (F.missing files.new) (F.faults files.old) (F.faults files.new)) }
         ensures missing { F.missing files.old ≤ F.missing files.new }
         ensures faults { F.faults files.old ≤ F.faults files.new }
     {
@@ -173,3 +174,6 @@ impl Dump {
         word_at(files, &file, &mut self.pages, at)
     }
 }
+
+#[cfg(test)]
+mod tests;

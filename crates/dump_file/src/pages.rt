@@ -64,7 +64,8 @@ fn read_part<F: Files>(
     requires page { at % 4096 + length into.old ≤ 4096 }
     ensures same { F.holds files.new ≡ F.holds files.old }
     ensures full { AreFull file.now.size pages.new.entries }
-    ensures part { IfOk result (IsPart (F.holds files.old file.now.name.now) file.now.size pages.old.entries (F.missing files.old) (F.missing files.new) at into.new) }
+    ensures part { IfOk result (IsPart (F.holds files.old file.now.name.now) file.now.size pages.old.entries
+        (F.missing files.old) (F.missing files.new) at into.new) }
     ensures stay { StayOf (F.holds files.old file.now.name.now) file.now.size pages.old.entries pages.new.entries }
     ensures missing { F.missing files.old ≤ F.missing files.new }
     ensures cause { HasCause (F.faults files.old) (F.faults files.new) result }
@@ -100,7 +101,8 @@ fn part<F: Files>(
     requires page { at % 4096 + length into.old ≤ 4096 }
     ensures same { F.holds files.new ≡ F.holds files.old }
     ensures full { AreFull file.now.size pages.new.entries }
-    ensures part { IfOk result (IsPart (F.holds files.old file.now.name.now) file.now.size pages.old.entries (F.missing files.old) (F.missing files.new) at into.new) }
+    ensures part { IfOk result (IsPart (F.holds files.old file.now.name.now) file.now.size pages.old.entries
+        (F.missing files.old) (F.missing files.new) at into.new) }
     ensures stay { StayOf (F.holds files.old file.now.name.now) file.now.size pages.old.entries pages.new.entries }
     ensures missing { F.missing files.old ≤ F.missing files.new }
     ensures cause { HasCause (F.faults files.old) (F.faults files.new) result }
@@ -124,7 +126,8 @@ fn bytes_at<F: Files>(
     requires short { length into.old ≤ 4096 }
     ensures same { F.holds files.new ≡ F.holds files.old }
     ensures full { AreFull file.now.size pages.new.entries }
-    ensures part { IfOk result (IsPart (F.holds files.old file.now.name.now) file.now.size pages.old.entries (F.missing files.old) (F.missing files.new) at into.new) }
+    ensures part { IfOk result (IsPart (F.holds files.old file.now.name.now) file.now.size pages.old.entries
+        (F.missing files.old) (F.missing files.new) at into.new) }
     ensures stay { StayOf (F.holds files.old file.now.name.now) file.now.size pages.old.entries pages.new.entries }
     ensures missing { F.missing files.old ≤ F.missing files.new }
     ensures cause { HasCause (F.faults files.old) (F.faults files.new) result }
@@ -151,7 +154,8 @@ pub fn word_at<F: Files>(
     requires inside { at + 8 ≤ file.now.size }
     ensures same { F.holds files.new ≡ F.holds files.old }
     ensures full { AreFull file.now.size pages.new.entries }
-    ensures word { IfOk result (IsWordAt (F.holds files.old file.now.name.now) file.now.size pages.old.entries (F.missing files.old) (F.missing files.new) at) }
+    ensures word { IfOk result (IsWordAt (F.holds files.old file.now.name.now) file.now.size pages.old.entries
+        (F.missing files.old) (F.missing files.new) at) }
     ensures stay { StayOf (F.holds files.old file.now.name.now) file.now.size pages.old.entries pages.new.entries }
     ensures missing { F.missing files.old ≤ F.missing files.new }
     ensures cause { HasCause (F.faults files.old) (F.faults files.new) result }

@@ -1,4 +1,4 @@
-use Rattle.std.proofs.Common.{rules, arith, sym, ◌∙◌, ◌≡◌, ◌≤◌, ◌+◌, ◌-◌, ◌*◌}
+use Rattle.std.proofs.Common.{arith, sym, ◌∙◌, ◌≡◌, ◌≤◌, ◌+◌, ◌-◌, ◌*◌}
 use Rattle.std.proofs.lemmas.List.Elements.{All-push}
 use Rattle.dump_file.specs.declared.dump.Segment.{Segment}
 use Rattle.dump_file.proofs.Collected.{passed, taken, past}

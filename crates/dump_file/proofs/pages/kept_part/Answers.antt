@@ -1,4 +1,4 @@
-use Rattle.std.proofs.Common.{arith, ◌∙◌, ◌≡◌, ◌+◌, ◌-◌, ◌*◌, ◌/◌, length, min, Vec, ℕ, Global}
+use Rattle.std.proofs.Common.{arith, ◌∙◌, ◌≡◌, ◌-◌, ◌*◌, ◌/◌, length, min}
 use Rattle.dump_file.proofs.Keeping.{found, among_promoted, part_of_page}
 use Rattle.dump_file.proofs.pages.kept_part.Goals as goal
 
@@ -11,7 +11,7 @@ copy_part-requires c =
     rw c.as_slice.ensures.value (omega (arith, full))
 
 pub returns-clause-part : goal.returns-clause-part
-returns-clause-part c = λ _ bytes h. 
+returns-clause-part c = λ _ bytes h.
     let there = found _ _ c.in-Some.page.now c.in-Some.ensures.value in
     part_of_page bytes c.args.at _ _ _ (omega arith) (c.as_slice.ensures.value ∙ h _ there) c.copy_part.ensures
 

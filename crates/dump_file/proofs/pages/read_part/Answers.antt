@@ -1,4 +1,4 @@
-use Rattle.std.proofs.Common.{arith, ◌≡◌, ◌+◌, ◌-◌, ◌*◌, ◌/◌, ◌%◌, List, ℕ, length, min, subst, drop, take, ap, ◌∙◌}
+use Rattle.std.proofs.Common.{arith, ◌≡◌, ◌-◌, ◌*◌, ◌/◌, ◌%◌, List, ℕ, length, min, subst, drop, take, ap, ◌∙◌}
 use Rattle.dump_file.specs.Paging.{IsAdded}
 use Rattle.dump_file.proofs.Keeping.{full_added, part_whole, stay_added, written}
 use Rattle.dump_file.proofs.pages.read_part.Goals as goal

@@ -1,4 +1,4 @@
-use Rattle.std.proofs.Common.{◌≡◌, List, ℕ, sym, ◌∙◌, ap, subst}
+use Rattle.std.proofs.Common.{◌≡◌, List, sym, ◌∙◌, ap, subst}
 use Rattle.dump_file.specs.Held.{Holding, Bytes}
 use Rattle.dump_file.specs.DumpOf.{serving}
 use Rattle.dump_file.specs.Kept.{Opened, StandsFor}
