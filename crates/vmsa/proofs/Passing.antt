@@ -34,4 +34,4 @@ dump_passes (Bytes bytes) regs access text t = ap (reason Dump) t.1
 -- command by command
 pub text_passes : (holds : List ℕ → Holding) (a : Asked) (text : List ℕ) → IsTextOf holds a text → PassAll holds (files_of a)
 text_passes holds (Raw a) text t = (image_passes (holds a.image) a text t, tt)
-text_passes holds (Explain a) text t = (registers_pass (holds a.registers) t.0 t.1, dump_passes (holds a.dump) t.0 a.access text t.2, tt)
+text_passes holds (Explain a) text t = (registers_pass (holds a.registers) t.0 t.1, (dump_passes (holds a.dump) t.0 a.access text t.2, tt))

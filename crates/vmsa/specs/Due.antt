@@ -1,7 +1,7 @@
 -- What the code has before anything is written, as what is due.
 use Rattle.std.specs.Prelude.{ℕ, List, Result, Ok, Err}
 use Rattle.walk_spec.specs.Walked.{HasLine}
-use Rattle.explain_text.specs.Answers.{explain_text}
+use Rattle.explain_text.specs.Explained.{explain_text}
 use Rattle.vmsa.specs.Texts.{raw_text}
 use Rattle.vmsa.specs.Answers.{Due}
 use Rattle.vmsa.specs.declared.answer.Answer.{Answer}

@@ -11,7 +11,7 @@ use Rattle.reg_file.specs.RegisterFile.{regs_of}
 use Rattle.dump_file.specs.Held.{Holding, Untold, Absent, Bytes}
 use Rattle.dump_file.specs.DumpOf.{dump_of, dump_word}
 use Rattle.dump_file.specs.declared.dump.Segment.{Segment}
-use Rattle.explain_text.specs.Answers.{explain_text}
+use Rattle.explain_text.specs.Explained.{explain_text}
 use Rattle.commands.specs.Asked.{ExplainWords}
 
 -- the text of the fresh walk over a memory

@@ -24,5 +24,9 @@ dump_memory (Bytes bytes) segments = Some (dump_word bytes segments)
 pub record Keeps {F : Type 0} (holds : F → List ℕ → Holding) (faults missing : F → ℕ) (s t : F) (m n : ℕ) : Type 0 where
   pub held : holds t ≡ holds s
   pub later : faults s ≤ faults t
-  pub missing : missing s ≤ missing t
+  pub ended : missing s ≤ missing t
   pub failed : m < n → Rose (faults s) (faults t)
+
+-- the same of files that are borrowed under a name, which stays
+abbrev pub KeepsLoan : {F N : Type 0} (holds : F → List ℕ → Holding) (faults missing : F → ℕ) (x y : N) (s t : F) (m n : ℕ) → Type 0
+KeepsLoan holds faults missing x y s t m n = (y ≡ x) × Keeps holds faults missing s t m n

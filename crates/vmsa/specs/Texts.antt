@@ -10,7 +10,7 @@ use Rattle.trails.specs.declared.outcome.Outcome.{Outcome}
 use Rattle.trails.specs.declared.outcome.Outcome.TheVariants.{Mapped, Faulted, Absent as IsAbsent, Conflict}
 use Rattle.texts.specs.Texts.{joined_text, hex_text}
 use Rattle.explain_text.specs.Texts.{item_text, fault_text, absent_text}
-use Rattle.explain_text.specs.Answers.{explain_text}
+use Rattle.explain_text.specs.Explained.{explain_text}
 
 -- stage 1 alone: SCTLR_EL1.M is 1, and all registers but TCR_EL1 and TTBR0_EL1 are otherwise 0
 abbrev pub raw_regs : (tcr ttbr0 : ℕ) → Regs

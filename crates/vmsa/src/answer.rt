@@ -6,9 +6,7 @@ ghost use Rattle.walk_spec.specs.Walked.{HasLine};
 ghost use Rattle.vmsa.specs.Texts.{raw_access_text, raw_mapped_text, raw_outcome_text, raw_text};
 ghost use Rattle.vmsa.specs.Due.{answer_text, IsPrintable};
 
-use explain_text::{
-    QuietMemory, Sink, WriteFailed, absent_line, explain, fault_line, item_lines,
-};
+use explain_text::{QuietMemory, Sink, WriteFailed, absent_line, explain, fault_line, item_lines};
 use std::alloc::Global;
 use sysregs::Regs;
 use texts::Line;
@@ -25,7 +23,10 @@ pub struct Walked {
 #[derive(Drop)]
 pub enum Answer {
     /// An EL1 read over an image.
-    Raw { va: u64, walked: Walked },
+    Raw {
+        va: u64,
+        walked: Walked,
+    },
     /// An access over a dump.
     Explain {
         regs: Regs,

@@ -24,6 +24,9 @@ use sysregs::Regs;
 use trails::{Access, Outcome, Trail};
 use translate::translate;
 
+/// Room for a register file, and one byte more, which shows that it is too large.
+const ROOM: usize = MOST_BYTES + 1;
+
 /// The registers of a file that is there, of so many bytes.
 fn registers_in<F: Files>(
     alloc: Global,
@@ -42,10 +45,8 @@ fn registers_in<F: Files>(
     if size > MOST_BYTES as u64 {
         return Err(Status::from(RegRefusal::TooLarge { size }));
     }
-    let Ok(mut bytes) = vec![in alloc; 0u8; MOST_BYTES + 1] else {
-        return Err(Status::NoMemory);
-    };
-    let Ok(count) = fill_from(files, name, 0, bytes.as_mut_slice()) else {
+    let mut bytes = [0u8; ROOM];
+    let Ok(count) = fill_from(files, name, 0, &mut bytes) else {
         return Err(Status::ReadFault);
     };
     match read(alloc, &bytes[..count]) {

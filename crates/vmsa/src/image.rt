@@ -32,21 +32,20 @@ pub struct Image<'a, F> {
 }
 
 impl<'a, F: Files> Supply for Image<'a, F> {
-    ghost use Rattle.std.specs.Prelude.{◌≡◌, refl};
-    ghost use Rattle.vmsa.specs.Supplies.{image_memory, Keeps};
+    ghost use Rattle.vmsa.specs.Supplies.{image_memory, KeepsLoan};
     ghost use Rattle.vmsa.specs.Keeping.{keeps_here as here, keeps_then as then};
 
     ghost memory = { λ s. image_memory (F.holds s.files.now s.name.now) };
 
     ghost faults = { λ s. s.failures };
 
-    ghost keeps = { λ s t. (t.files.ghost_name ≡ s.files.ghost_name)
-        × Keeps F.holds F.faults F.missing s.files.now t.files.now s.failures t.failures };
+    ghost keeps = { λ s t. KeepsLoan F.holds F.faults F.missing s.files.ghost_name t.files.ghost_name
+        s.files.now t.files.now s.failures t.failures };
 
-    ghost keeps_here = { λ s. (refl, here F.holds F.faults F.missing s.files.now s.failures) };
+    ghost keeps_here = { λ s. here F.holds F.faults F.missing s.files.ghost_name s.files.now s.failures };
 
-    ghost keeps_then = { λ s t u h k. (k.0 ∙ h.0,
-        then F.holds F.faults F.missing s.files.now t.files.now u.files.now s.failures t.failures u.failures h.1 k.1) };
+    ghost keeps_then = { λ s t u. then F.holds F.faults F.missing s.files.ghost_name t.files.ghost_name u.files.ghost_name
+        s.files.now t.files.now u.files.now s.failures t.failures u.failures };
 
     fn word(&mut self, pa: u64) -> Option<u64> {
         match word_at(self.files, self.name, pa) {

@@ -139,7 +139,8 @@ fn refused_line<E: Sink>(err: &mut E, why: &Why) -> Result<(), WriteFailed>
 }
 
 /// How the program is called: a line for each command.
-const USAGE: &[u8] = b"usage: vmsa raw IMAGE TCR TTBR0 VA\nusage: vmsa explain REGS DUMP VA EL KIND [pan]\n";
+const USAGE: &[u8] =
+    b"usage: vmsa raw IMAGE TCR TTBR0 VA\nusage: vmsa explain REGS DUMP VA EL KIND [pan]\n";
 
 /// The lines of a status. Done and WriteFault have none.
 pub fn error_line<E: Sink>(err: &mut E, status: &Status) -> Result<(), WriteFailed>
@@ -168,25 +169,38 @@ mod tests {
     /// Statuses with names, and their lines.
     fn named(alloc: Global) -> Result<[(Status, &'static str); 3], Fail> {
         let long = "0123456789abcdef0123456789abcdef0123456789abcdef0123456789abcdefgh";
-        let Ok(odd) = Name::of(alloc, "a b~\u{7f}!") else { return Err(Fail::from(AllocError)); };
-        let Ok(long) = Name::of(alloc, long) else { return Err(Fail::from(AllocError)); };
-        let Ok(key) = Name::of(alloc, "vbar_el1") else { return Err(Fail::from(AllocError)); };
+        let Ok(odd) = Name::of(alloc, "a b~\u{7f}!") else {
+            return Err(Fail::from(AllocError));
+        };
+        let Ok(long) = Name::of(alloc, long) else {
+            return Err(Fail::from(AllocError));
+        };
+        let Ok(key) = Name::of(alloc, "vbar_el1") else {
+            return Err(Fail::from(AllocError));
+        };
         Ok([
             (Status::NoFile { name: odd }, "vmsa: no file a?b~?!\n"),
             (
                 Status::NoFile { name: long },
                 "vmsa: no file 0123456789abcdef0123456789abcdef0123456789abcdef0123456789abcdef\n",
             ),
-            (regs(RegRefusal::Unknown { key }), "vmsa: registers: unknown vbar_el1\n"),
+            (
+                regs(RegRefusal::Unknown { key }),
+                "vmsa: registers: unknown vbar_el1\n",
+            ),
         ])
     }
 
     fn regs(why: RegRefusal) -> Status {
-        Status::Refused { why: Why::Regs { why } }
+        Status::Refused {
+            why: Why::Regs { why },
+        }
     }
 
     fn dump(why: DumpRefusal) -> Status {
-        Status::Refused { why: Why::Dump { why } }
+        Status::Refused {
+            why: Why::Dump { why },
+        }
     }
 
     fn wrong(field: DumpField) -> Status {
@@ -196,7 +210,10 @@ mod tests {
     #[test]
     fn lines(rt: HostRuntime) -> Result<(), Fail> {
         let alloc = rt.alloc();
-        let at = Unsupported { reg: Reg::HcrEl2, field: Field::Fwb };
+        let at = Unsupported {
+            reg: Reg::HcrEl2,
+            field: Field::Fwb,
+        };
         for (status, text) in named(alloc)? {
             let mut err = QuietMemory::new(alloc);
             assert!(rt; error_line(&mut err, &status).is_ok());
@@ -206,21 +223,47 @@ mod tests {
             (Status::Done, ""),
             (Status::ReadFault, "vmsa: read fault\n"),
             (Status::NoMemory, "vmsa: out of memory\n"),
-            (Status::Refused { why: Why::Word { at } }, "vmsa: raw: unsupported HCR_EL2.FWB\n"),
-            (regs(RegRefusal::TooLarge { size: 65537 }), "vmsa: registers: too large\n"),
+            (
+                Status::Refused {
+                    why: Why::Word { at },
+                },
+                "vmsa: raw: unsupported HCR_EL2.FWB\n",
+            ),
+            (
+                regs(RegRefusal::TooLarge { size: 65537 }),
+                "vmsa: registers: too large\n",
+            ),
             (regs(RegRefusal::NotToml), "vmsa: registers: not toml\n"),
-            (regs(RegRefusal::Missing { reg: Reg::MairEl1 }), "vmsa: registers: missing mair_el1\n"),
-            (regs(RegRefusal::BadValue { reg: Reg::TcrEl1 }), "vmsa: registers: bad value tcr_el1\n"),
-            (regs(RegRefusal::Unsupported { at }), "vmsa: registers: unsupported HCR_EL2.FWB\n"),
+            (
+                regs(RegRefusal::Missing { reg: Reg::MairEl1 }),
+                "vmsa: registers: missing mair_el1\n",
+            ),
+            (
+                regs(RegRefusal::BadValue { reg: Reg::TcrEl1 }),
+                "vmsa: registers: bad value tcr_el1\n",
+            ),
+            (
+                regs(RegRefusal::Unsupported { at }),
+                "vmsa: registers: unsupported HCR_EL2.FWB\n",
+            ),
             (dump(DumpRefusal::NotElf), "vmsa: dump: not elf\n"),
             (wrong(DumpField::Class), "vmsa: dump: wrong class\n"),
             (wrong(DumpField::Encoding), "vmsa: dump: wrong encoding\n"),
             (wrong(DumpField::Kind), "vmsa: dump: wrong kind\n"),
             (wrong(DumpField::Machine), "vmsa: dump: wrong machine\n"),
-            (wrong(DumpField::EntrySize), "vmsa: dump: wrong entry size\n"),
+            (
+                wrong(DumpField::EntrySize),
+                "vmsa: dump: wrong entry size\n",
+            ),
             (dump(DumpRefusal::BadTable), "vmsa: dump: bad table\n"),
-            (dump(DumpRefusal::TooMany), "vmsa: dump: too many segments\n"),
-            (dump(DumpRefusal::PastEnd { segment: 4095 }), "vmsa: dump: segment 4095 past end\n"),
+            (
+                dump(DumpRefusal::TooMany),
+                "vmsa: dump: too many segments\n",
+            ),
+            (
+                dump(DumpRefusal::PastEnd { segment: 4095 }),
+                "vmsa: dump: segment 4095 past end\n",
+            ),
         ] {
             let mut err = QuietMemory::new(alloc);
             assert!(rt; error_line(&mut err, &status).is_ok());
