@@ -229,7 +229,7 @@ explains 'two segments that overlap' 0 "$over_tables" '' overlap 0x1000 0x40201a
 truncate -s 4K overlap && cat "$image" >>overlap
 explains 'the first of them serves' 0 "$(first_lines 0x40201abc 0x1000)
 $(head -n 3 <<<"$tables")
-s1 word level 3 at 0x4008 value 0xb70004
+s1 word level 3 at 0x4008 value 0x0
 fault stage 1 level 3 translation fsc 0x07
 " '' overlap 0x1000 0x40201abc
 explains 'an empty file' 4 '' $'vmsa: dump: not elf\n' empty 0 0

@@ -1,5 +1,5 @@
 -- Each command as `clap` sees it: positional arguments, of which the last may be left out where it says so.
-use Rattle.std.specs.Prelude.{ℕ, List, [], ◌∷◌, ◌≡◌, ◌≢◌, Option, Some, None, Bool, true, false, codes, option_map, option_and_then}
+use Rattle.std.specs.Prelude.{ℕ, List, [], ◌≡◌, ◌≢◌, Option, Some, None, Bool, true, false, codes, option_and_then}
 use Rattle.clap.specs.Walk.{Rule, Row, Text, first_of, rows_of}
 use Rattle.clap.specs.Simple.{App, new_app, new_rule, with_rule, on_top, matches_of}
 use Rattle.clap.specs.Faults.{fault_of}

@@ -1,5 +1,5 @@
 -- The text of a walk over a file that did not fail.
-use Rattle.std.proofs.Common.{◌≡◌, ℕ, ◌≤◌, List, Option, None, Ok, refl, arith}
+use Rattle.std.proofs.Common.{ℕ, ◌≤◌, List, None, refl, arith}
 use Rattle.bitwords.specs.Causes.{Rose}
 use Rattle.sysregs.specs.declared.regs.Regs.{Regs}
 use Rattle.trails.specs.declared.item.Item.{Item}

@@ -1,10 +1,8 @@
 -- What is due comes, and what comes was due.
 use Rattle.std.proofs.Common.{◌≡◌, ◌≢◌, ◌⊎◌, ℕ, List, [], ◌∷◌, Option, Some, None, Ok, Err, inl, inr, refl, sym, ap, ◌∙◌, subst}
-use Rattle.dump_file.specs.Held.{Holding, Untold, Absent, Bytes, Reading, ReadFails, IsMissing, IsMissingBy}
+use Rattle.dump_file.specs.Held.{Holding, Untold, Absent, Bytes, Reading, ReadFails, IsMissingBy}
 use Rattle.explain_text.specs.Written.{Writing, WriteFails, Got, GotNothing}
-use Rattle.commands.specs.Asked.{Asked, Raw, Explain}
-use Rattle.vmsa.specs.Raw.{IsRawText}
-use Rattle.vmsa.specs.Explain.{AreRegisters, IsTextOver}
+use Rattle.commands.specs.Asked.{Asked}
 use Rattle.vmsa.specs.Answers.{Form, Named, words_refusal, files_of, IsTextOf, refusal_in, PassesBy, IsRefusedBy, SurelyPassesBy, IsSurelyRefusedBy, Stops, SurelyStops, StopsIn, SurelyStopsIn, AllPass}
 use Rattle.vmsa.specs.Answers.{Due, MayEndBy, MayEnd, SurelyEndsBy, SurelyEnds, IsText, IsAnswerable, IsDue, Tells, Comes, UsageWhere, RefusedWhere, NoFileWhere, ReadFaultWhere, WriteFaultWhere, DoneWhere, Completes, IsComplete}
 use Rattle.vmsa.proofs.Passing.{PassAll, text_passes}

@@ -1,11 +1,10 @@
 -- How a command ends, by the part that ended it.
-use Rattle.std.proofs.Common.{◌≡◌, ℕ, ◌≤◌, List, [], ◌∷◌, Option, Some, None, Result, Ok, Err, inl, inr, refl, sym, subst, arith}
+use Rattle.std.proofs.Common.{◌≡◌, ℕ, ◌≤◌, List, ◌∷◌, Option, Some, None, Result, Ok, Err, inl, inr, refl, sym, subst, arith}
 use Rattle.std.specs.Result.{IsErrAnd}
-use Rattle.bitwords.specs.Causes.{Rose}
 use Rattle.table_reads.proofs.Weaker.{rose_weaker}
 use Rattle.dump_file.specs.Held.{Holding, Untold, Absent, Bytes, Reading, IsMissingBy}
 use Rattle.commands.specs.Asked.{Asked, Raw, Explain}
-use Rattle.vmsa.specs.Answers.{Named, words_refusal, files_of, IsRefusedBy, Stops, MayEndBy, MayEnd, IsDue}
+use Rattle.vmsa.specs.Answers.{Named, words_refusal, IsRefusedBy, Stops, MayEndBy, MayEnd, IsDue}
 use Rattle.vmsa.specs.Due.{due_of}
 use Rattle.vmsa.specs.declared.answer.Answer.{Answer}
 use Rattle.vmsa.specs.declared.status.Why.{Why}

@@ -1,8 +1,6 @@
 -- A command that has a text has files that pass.
-use Rattle.std.proofs.Common.{◌≡◌, ℕ, List, [], ◌∷◌, Option, Some, None, Ok, refl, ap, ◌∙◌}
+use Rattle.std.proofs.Common.{ℕ, List, [], ◌∷◌, refl, ap}
 use Rattle.dump_file.specs.Held.{Holding, Untold, Absent, Bytes}
-use Rattle.reg_file.specs.RegisterFile.{regs_of}
-use Rattle.dump_file.specs.DumpOf.{dump_of}
 use Rattle.sysregs.specs.declared.regs.Regs.{Regs as Registers}
 use Rattle.trails.specs.declared.outcome.Access.{Access}
 use Rattle.commands.specs.Asked.{Asked, Raw, Explain, RawWords}

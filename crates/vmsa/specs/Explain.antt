@@ -12,7 +12,6 @@ use Rattle.dump_file.specs.Held.{Holding, Untold, Absent, Bytes}
 use Rattle.dump_file.specs.DumpOf.{dump_of, dump_word}
 use Rattle.dump_file.specs.declared.dump.Segment.{Segment}
 use Rattle.explain_text.specs.Explained.{explain_text}
-use Rattle.commands.specs.Asked.{ExplainWords}
 
 -- the text of the fresh walk over a memory
 abbrev pub fresh_explain_text : (memory : ℕ → Option ℕ) (regs : Regs) (access : Access) → List ℕ

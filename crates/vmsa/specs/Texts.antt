@@ -1,5 +1,5 @@
 -- What the commands print.
-use Rattle.std.specs.Prelude.{ℕ, ◌≡◌, List, [], ◌∷◌, ◌++◌, None, flat_map, codes, false}
+use Rattle.std.specs.Prelude.{ℕ, List, [], ◌∷◌, ◌++◌, flat_map, codes, false}
 use Rattle.sysregs.specs.declared.regs.Regs.{Regs}
 use Rattle.sysregs.specs.Registers.{zero_regs}
 use Rattle.permissions.specs.declared.bits.El.TheVariants.{El1}
@@ -10,7 +10,6 @@ use Rattle.trails.specs.declared.outcome.Outcome.{Outcome}
 use Rattle.trails.specs.declared.outcome.Outcome.TheVariants.{Mapped, Faulted, Absent as IsAbsent, Conflict}
 use Rattle.texts.specs.Texts.{joined_text, hex_text}
 use Rattle.explain_text.specs.Texts.{item_text, fault_text, absent_text}
-use Rattle.explain_text.specs.Explained.{explain_text}
 
 -- stage 1 alone: SCTLR_EL1.M is 1, and all registers but TCR_EL1 and TTBR0_EL1 are otherwise 0
 abbrev pub raw_regs : (tcr ttbr0 : ℕ) → Regs

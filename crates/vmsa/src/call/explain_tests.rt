@@ -500,20 +500,26 @@ struct Sparse {
 }
 
 impl Sparse {
-    /// The byte at a place of a file, where there is one.
-    fn byte(&self, name: &str, at: u64) -> Option<u8> {
+    /// The size of a file, in bytes.
+    fn size_of(&self, name: &str) -> u64 {
         if name == "r" {
-            return self.registers.get(at as usize).copied();
+            self.registers.len() as u64
+        } else {
+            FAR + 0x5000
+        }
+    }
+
+    /// The byte at a place of a file.
+    fn byte(&self, name: &str, at: u64) -> u8 {
+        if name == "r" {
+            return self.registers.get(at as usize).copied().unwrap_or(0);
         }
         if at < FAR {
-            return Some(self.head.get(at as usize).copied().unwrap_or(0));
+            return self.head.get(at as usize).copied().unwrap_or(0);
         }
         let place = at - FAR;
-        if place >= 0x5000 {
-            return None;
-        }
         let bytes = value_at(&self.words, place / 8 * 8).to_le_bytes();
-        Some(bytes[(place % 8) as usize])
+        bytes[(place % 8) as usize]
     }
 }
 
@@ -529,22 +535,14 @@ impl Files for Sparse {
     ghost reads = { λ _ _ _ _ _. Unit {0} };
 
     fn size(&mut self, name: &str) -> Result<Option<u64>, ReadFailed> {
-        let size = if name == "r" {
-            self.registers.len() as u64
-        } else {
-            FAR + 0x5000
-        };
-        Ok(Some(size))
+        Ok(Some(self.size_of(name)))
     }
 
     fn read_at(&mut self, name: &str, at: u64, into: &mut [u8]) -> Result<usize, ReadFailed> {
-        let mut count = 0usize;
-        for (k, place) in into.iter_mut().enumerate() {
-            let Some(byte) = self.byte(name, at.saturating_add(k as u64)) else {
-                break;
-            };
-            *place = byte;
-            count = k + 1;
+        let left = self.size_of(name).saturating_sub(at);
+        let count = into.len().min(left as usize);
+        for (k, place) in into[..count].iter_mut().enumerate() {
+            *place = self.byte(name, at.wrapping_add(k as u64));
         }
         if count == 0 {
             self.missing = self.missing.saturating_add(1);

@@ -1,10 +1,8 @@
-use Rattle.std.proofs.Common.{◌≡◌, ℕ, List, None, Some, sym, ◌∙◌, ap, subst, refl, map, option_map, string_bytes, codes, length, ◌≤◌, arith}
+use Rattle.std.proofs.Common.{◌≡◌, ℕ, List, None, Some, sym, ◌∙◌, ap, subst, refl, map, string_bytes, length, ◌≤◌, arith}
 use Rattle.std.proofs.lemmas.List.{length-map}
-use Rattle.clap.specs.Walk.{Row, first_of, rows_of}
-use Rattle.clap.specs.Matches.{found_of}
-use Rattle.clap.specs.Simple.{App, app_of, matches_of}
+use Rattle.clap.specs.Simple.{App, app_of}
 use Rattle.commands.specs.Clap.{explain_app, IsMatched}
-use Rattle.commands.proofs.Clap.{plain_words, explain_in, explain_read, explain_refused, explain_simple, explain_free}
+use Rattle.commands.proofs.Clap.{plain_words, explain_in, explain_read, explain_refused}
 use Rattle.commands.proofs.explain.explain_few.Goals as goal
 
 pub returns-in-None : goal.returns-in-None

@@ -1,5 +1,3 @@
-use Rattle.std.proofs.Common.{inl, inr, subst}
-use Rattle.clap.specs.Kinds.{Kinds, HasKind}
 use Rattle.commands.proofs.matched.matched.Goals as goal
 
 pub returns-in-Ok : goal.returns-in-Ok

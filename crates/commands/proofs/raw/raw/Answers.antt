@@ -1,9 +1,7 @@
-use Rattle.std.proofs.Common.{◌≡◌, ℕ, List, None, Some, sym, ◌∙◌, ap, subst, refl, map, option_map, string_bytes, codes}
-use Rattle.clap.specs.Walk.{Row, first_of, rows_of}
-use Rattle.clap.specs.Matches.{found_of}
-use Rattle.clap.specs.Simple.{App, app_of, matches_of}
+use Rattle.std.proofs.Common.{ℕ, List, None, Some, sym, ◌∙◌, ap, subst, refl, map, string_bytes}
+use Rattle.clap.specs.Simple.{App, app_of}
 use Rattle.commands.specs.Clap.{raw_app, number_by, IsMatched}
-use Rattle.commands.proofs.Clap.{plain_words, raw_in, raw_read, raw_refused, raw_simple, raw_free}
+use Rattle.commands.proofs.Clap.{plain_words, raw_in, raw_read, raw_refused}
 use Rattle.commands.proofs.raw.raw.Goals as goal
 
 pub returns-in-None : goal.returns-in-None

@@ -1,5 +1,4 @@
-use Rattle.std.proofs.Common.{rules, arith, take, ◌<◌, length}
-use Rattle.std.proofs.lemmas.Bool.Decides.{nat_tests}
+use Rattle.std.proofs.Common.{rules, take}
 use Rattle.std.proofs.Common.{subst}
 use Rattle.reg_file.specs.RegisterFile.{regs_of}
 use Rattle.reg_file.specs.Given.{Fails}

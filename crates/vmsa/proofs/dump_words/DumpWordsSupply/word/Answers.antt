@@ -1,5 +1,3 @@
-use Rattle.std.proofs.Common.{◌≡◌, ℕ, List, sym, ◌∙◌, ap}
-use Rattle.dump_file.specs.Held.{Holding, Bytes}
 use Rattle.vmsa.proofs.DumpMemory.{still_stands}
 use Rattle.vmsa.proofs.dump_words.DumpWordsSupply.word.Goals as goal
 
