@@ -1,0 +1,7 @@
+pub mod Worked
+pub mod WorkedRows
+pub mod WorkedFresh
+pub mod WorkedMessages
+pub mod WorkedOperands
+pub mod WorkedServices
+pub mod WorkedSets

@@ -1,0 +1,54 @@
+-- The header of a trace, and the shapes of the caches (this project's own rules).
+use Rattle.std.specs.Prelude.{ℕ, Bool, true, false, List}
+use Rattle.trace_lang.specs.declared.header.Size.{Size}
+use Rattle.trace_lang.specs.declared.header.Size.TheVariants.{NoRows, Small, Medium, Large}
+use Rattle.trace_lang.specs.declared.header.Policy.{Policy}
+
+-- how many cores there are, the ranges of memory (start and length in bytes), the size of the caches and their policy
+pub record Header : Type 0 where
+  pub cores : ℕ
+  pub ranges : List (ℕ × ℕ)
+  pub size : Size
+  pub policy : Policy
+
+-- a row is of one of four kinds, and each core has a cache of each: leaves of stage 1 combined with the stage 2 of their
+-- output, tables of stage 1, and leaves and tables of stage 2
+pub data Kind : Type 0 where
+  leaf1 : Kind
+  table1 : Kind
+  leaf2 : Kind
+  table2 : Kind
+
+-- a cache has so many sets of so many rows
+pub record Shape : Type 0 where
+  pub sets : ℕ
+  pub ways : ℕ
+
+abbrev pub shape : (sets ways : ℕ) → Shape
+shape sets ways = record { sets = sets; ways = ways }
+
+abbrev pub medium_shape : (kind : Kind) → Shape
+medium_shape leaf1 = shape 16 4
+medium_shape table1 = shape 4 4
+medium_shape leaf2 = shape 8 4
+medium_shape table2 = shape 4 4
+
+abbrev pub large_shape : (kind : Kind) → Shape
+large_shape leaf1 = shape 64 8
+large_shape table1 = shape 16 4
+large_shape leaf2 = shape 32 4
+large_shape table2 = shape 16 4
+
+-- the shape of a cache; without rows there is none
+abbrev pub shape_of : (size : Size) (kind : Kind) → Shape
+shape_of NoRows kind = shape 0 0
+shape_of Small kind = shape 1 8
+shape_of Medium kind = medium_shape kind
+shape_of Large kind = large_shape kind
+
+-- the caches keep rows
+abbrev pub keeps_rows : (size : Size) → Bool
+keeps_rows NoRows = false
+keeps_rows Small = true
+keeps_rows Medium = true
+keeps_rows Large = true

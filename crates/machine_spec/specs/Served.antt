@@ -1,0 +1,122 @@
+-- How an access is served: by rows where they match, and else by memory and registers (this project's own rules).
+use Rattle.std.specs.Prelude.{ℕ, Bool, true, false, not, ◌&&◌, if◌then◌else◌, List, [], ◌∷◌, ◌++◌, filter, Option, Some, None}
+use Rattle.sysregs.specs.declared.regs.Regs.{Regs}
+use Rattle.sysregs.specs.Registers.{config_of}
+use Rattle.sysregs.specs.Sides.{side_of}
+use Rattle.trails.specs.declared.item.Item.{Item}
+use Rattle.trails.specs.declared.outcome.Access.{Access}
+use Rattle.table_reads.specs.Memory.{Memory}
+use Rattle.walk_spec.specs.Ask.{Ask, done, ask, Fed, ended, lacks}
+use Rattle.walk_spec.specs.Needs.{Need, base1, base2, word}
+use Rattle.walk_spec.specs.Steps.{End}
+use Rattle.walk_spec.specs.Stage1.{untagged}
+use Rattle.walk_spec.specs.BothStages.{Landing, is_refused1, walk}
+use Rattle.walk_spec.specs.Fresh.{given}
+use Rattle.machine_spec.specs.Header.{Kind, leaf1, table1, leaf2, table2}
+use Rattle.machine_spec.specs.Rows.{Row, matches, matches1, matching, deepest}
+use Rattle.machine_spec.specs.Made.{key_of}
+
+-- what is given for a need: an item with those that follow it in a row's trail, and the rows that served; nothing, where
+-- memory lacks the place; or two chains that both match
+pub data Supplied : Type 0 where
+  gives : (item : Item) (rest : List Item) (by : List Row) → Supplied
+  nothing : Supplied
+  both : (one two : List Item) → Supplied
+
+abbrev pub supplied_by : (found : Option Item) → Supplied
+supplied_by None = nothing
+supplied_by (Some i) = gives i [] []
+
+-- a row's chain
+abbrev pub chain_by : (row : Row) (otherwise : Supplied) (trail : List Item) → Supplied
+chain_by r otherwise [] = otherwise
+chain_by r otherwise (i ∷ rest) = gives i rest (r ∷ [])
+
+-- the deepest table of stage 2 begins the chain, and else the register does
+abbrev pub begun2 : (otherwise : Supplied) (table : Option Row) → Supplied
+begun2 otherwise None = otherwise
+begun2 otherwise (Some r) = chain_by r otherwise r.trail
+
+-- one leaf of stage 2 gives its chain, and of several the two that were made first
+abbrev pub chain_of : (otherwise : Supplied) (leaves : List Row) (table : Option Row) → Supplied
+chain_of otherwise [] t = begun2 otherwise t
+chain_of otherwise (r ∷ []) t = chain_by r otherwise r.trail
+chain_of otherwise (r ∷ s ∷ more) t = both r.trail s.trail
+
+-- what an access meets: the registers in force, memory, the live rows of its core, and the number of the step
+pub record Place : Type 0 where
+  pub regs : Regs
+  pub memory : Memory
+  pub rows : List Row
+  pub step : ℕ
+
+-- what memory and registers give now
+abbrev pub fresh_of : (place : Place) (access : Access) (need : Need) → Supplied
+fresh_of p a n = supplied_by (given p.regs (side_of a.va) p.memory p.step n)
+
+-- bases of stage 1 and words are those of now; where stage 2 begins, rows are asked first
+abbrev pub supply : (place : Place) (access : Access) (need : Need) → Supplied
+supply p a base1 = fresh_of p a base1
+supply p a (base2 x) =
+    let k = key_of p.regs in
+    chain_of (fresh_of p a (base2 x)) (matching (matches leaf2 k x) p.rows) (deepest (matches table2 k x) p.rows)
+supply p a (word w) = fresh_of p a (word w)
+
+-- how a service stops: as the walk came out, or with two trails of which one would have to go on
+pub data Stop : Type 0 where
+  came : Fed Need (End Landing) → Stop
+  clash : (one two : List Item) → Stop
+
+-- what was served: the items, how it stopped, and the rows that served, in the order of the trail
+pub record Reply : Type 0 where
+  pub items : List Item
+  pub stop : Stop
+  pub by : List Row
+
+abbrev pub pushed : (item : Item) (rows : List Row) (reply : Reply) → Reply
+pushed i rows r = record { items = i ∷ r.items; stop = r.stop; by = rows ++ r.by }
+
+abbrev pub stopped : (stop : Stop) → Reply
+stopped s = record { items = []; stop = s; by = [] }
+
+abbrev pub goes_on : (need : Need) (supplied : Supplied) (next : Item → List Item → Reply) → Reply
+goes_on n (gives i rest rows) next = pushed i rows (next i rest)
+goes_on n nothing next = stopped (came (lacks n))
+goes_on n (both one two) next = stopped (clash one two)
+
+-- a walk takes the items that it has already, and then what is supplied
+abbrev pub serve : (supply : Need → Supplied) (items : List Item) (walk : Ask Need Item (End Landing)) → Reply
+serve sup items (done e) = stopped (came (ended e))
+serve sup [] (ask n k) = goes_on n (sup n) (λ i rest. serve sup rest (k i))
+serve sup (i ∷ items) (ask n k) = pushed i [] (serve sup items (k i))
+
+-- a walk takes the items of a row's trail up to its end
+abbrev pub taken : (items : List Item) (walk : Ask Need Item (End Landing)) → Reply
+taken items (done e) = stopped (came (ended e))
+taken [] (ask n k) = stopped (came (lacks n))
+taken (i ∷ items) (ask n k) = pushed i [] (taken items (k i))
+
+abbrev pub credited : (row : Row) (reply : Reply) → Reply
+credited r reply = record reply { by = r ∷ reply.by }
+
+-- the deepest table of stage 1 begins the trail
+abbrev pub begun1 : (table : Option Row) (next : List Item → Reply) → Reply
+begun1 None next = next []
+begun1 (Some r) next = credited r (next r.trail)
+
+-- one combined row gives its trail, judged for this access, and of several the two that were made first conflict
+abbrev pub combined : (leaves : List Row) (table : Option Row) (supply : Need → Supplied) (walk : Ask Need Item (End Landing)) → Reply
+combined [] t sup w = begun1 t (λ items. serve sup items w)
+combined (r ∷ []) t sup w = credited r (taken r.trail w)
+combined (r ∷ s ∷ more) t sup w = stopped (clash r.trail s.trail)
+
+-- An access is served. What stage 1 refuses before its tables comes before any row, and without stage 1 no row of it is asked.
+abbrev pub served : (place : Place) (access : Access) → Reply
+served p a =
+    let c = config_of p.regs in
+    let k = key_of p.regs in
+    let x = untagged a.va in
+    let w = walk c true a in
+    if c.m && not (is_refused1 c a)
+    then combined (matching (matches1 leaf1 k x) p.rows) (deepest (matches1 table1 k x) p.rows) (supply p a) w
+    else serve (supply p a) [] w

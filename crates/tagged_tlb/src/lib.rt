@@ -1,0 +1,6 @@
+//! Rows of cached translations: when they were made, and under which registers they serve.
+#![tactic(auto)]
+
+mod row;
+
+pub use row::{Key, Made};

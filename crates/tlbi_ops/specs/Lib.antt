@@ -1,0 +1,4 @@
+pub use Rattle.bitwords.specs.Fields
+pub use Rattle.sysregs.specs.Registers
+pub mod Operands
+pub mod Covers
