@@ -1,0 +1,6 @@
+pub mod Trees
+pub mod Facts
+pub mod Laws
+pub mod Lists
+pub mod Stands
+pub mod Fine

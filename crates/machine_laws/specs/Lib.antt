@@ -1,0 +1,17 @@
+pub use Rattle.walk_spec.specs.Ask
+pub use Rattle.walk_spec.specs.Needs
+pub use Rattle.walk_laws.specs.Shift
+pub use Rattle.machine_spec.specs.Header
+pub use Rattle.machine_spec.specs.Moments
+pub use Rattle.machine_spec.specs.Invalidations
+pub use Rattle.machine_spec.specs.Marks
+pub use Rattle.machine_spec.specs.Uses
+pub use Rattle.machine_spec.specs.Kept
+pub use Rattle.machine_spec.specs.Allowed
+pub use Rattle.machine_spec.specs.Unchanged
+pub use Rattle.machine_spec.specs.Rows
+pub use Rattle.machine_spec.specs.Made
+pub use Rattle.machine_spec.specs.Sets
+pub use Rattle.machine_spec.specs.Served
+pub use Rattle.machine_spec.specs.Machine
+pub mod Headline
