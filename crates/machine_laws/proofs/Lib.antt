@@ -3,4 +3,6 @@ pub mod Facts
 pub mod Laws
 pub mod Lists
 pub mod Stands
+pub mod Equal
+pub mod Found
 pub mod Fine
