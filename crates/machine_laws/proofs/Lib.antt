@@ -6,3 +6,4 @@ pub mod Stands
 pub mod Equal
 pub mod Found
 pub mod Fine
+pub mod Uses
