@@ -4,6 +4,7 @@ pub mod Laws
 pub mod Lists
 pub mod Stands
 pub mod Equal
-pub mod Found
 pub mod Fine
+pub mod Found
 pub mod Uses
+pub mod Begins

@@ -33,7 +33,7 @@ module _ {A : Type 0} (r : Regime) where
   on_needs (done b) n k (x ∷ xs) e = absurd e
   on_needs (ask m l) n k (x ∷ xs) e = rw e.0 (on_needs (l x) n k xs e.1)
 
-marks_nil : {B : Type 0} (r : Regime) (t : Ask Need Item B) → marks r t [] ≡ []
+pub marks_nil : {B : Type 0} (r : Regime) (t : Ask Need Item B) → marks r t [] ≡ []
 marks_nil r (done a) = refl
 marks_nil r (ask n k) = refl
 
