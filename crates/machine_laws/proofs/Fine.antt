@@ -15,6 +15,7 @@ use Rattle.walk_spec.specs.declared.leaf.Leaf2.{Leaf2}
 use Rattle.walk_spec.specs.Ask.{Ask, done, ask, Fed, ended, lacks}
 use Rattle.walk_spec.specs.Needs.{Regime, Need, base1, base2, word, WordNeed}
 use Rattle.walk_spec.specs.Steps.{End, stops, reaches}
+use Rattle.walk_spec.specs.Stage2.{is_refused2}
 use Rattle.walk_spec.specs.Stage1.{untagged}
 use Rattle.walk_spec.specs.BothStages.{Landing, walk}
 use Rattle.walk_spec.specs.Fresh.{fed_outcome}
@@ -74,7 +75,7 @@ FineOf K v r t items (clash one two) =
     (x : ℕ) × (k : Item → Ask Need Item (End Landing)) × IsOn r t items (ask (base2 x) k)
       × ((p : Bool) × (l : Leaf2) × IsOn r (chain r p x) one (done (reaches l)))
       × ((p : Bool) × (l : Leaf2) × IsOn r (chain r p x) two (done (reaches l)))
-      × (last_entry one ≡ last_entry two → ⊥) × K (items ++ one) × K (items ++ two)
+      × (last_entry one ≡ last_entry two → ⊥) × K (items ++ one) × K (items ++ two) × (is_refused2 r.config x ≡ false)
 
 abbrev pub FineBy : View → Regime → Option ℕ → Ask Need Item (End Landing) → List Item → Stop → Type 0
 FineBy v r above t items stop = FineOf (Kept1 v r above t) v r t items stop

@@ -8,3 +8,5 @@ pub mod Fine
 pub mod Found
 pub mod Uses
 pub mod Begins
+pub mod Serve
+pub mod Served

@@ -47,6 +47,9 @@ pub none_of : (ms : List Mark) → AllSecond ms → next_first ms ≡ None
 none_of [] h = refl
 none_of (x ∷ xs) h = cond_off (is_first x) (Some x.item.moment) (next_first xs) h.0 ∙ none_of xs h.1
 
+pub first_here : (m : Mark) (ms : List Mark) → is_first m ≡ true → next_first (m ∷ ms) ≡ Some m.item.moment
+first_here m ms f = cond_on (is_first m) (Some m.item.moment) (next_first ms) f
+
 -- AN ITEM OF STAGE 1 THAT FOLLOWS GIVES A USE
 
 first_some : (b : Bool) (v : ℕ) (xs ys : Option ℕ) → ((u : ℕ) × (xs ≡ Some u) × (ys ≡ Some u)) → (u : ℕ) × (cond b (Some v) xs ≡ Some u) × (cond b (Some v) ys ≡ Some u)
@@ -55,7 +58,7 @@ first_some false v xs ys h = h
 
 next_first_some : (pre : List Mark) (m : Mark) (ms : List Mark) → is_first m ≡ true →
     (u : ℕ) × (next_first (pre ++ m ∷ ms) ≡ Some u) × (next_first (pre ++ m ∷ []) ≡ Some u)
-next_first_some [] m ms f = (m.item.moment, cond_on (is_first m) (Some m.item.moment) (next_first ms) f, cond_on (is_first m) (Some m.item.moment) None f)
+next_first_some [] m ms f = (m.item.moment, first_here m ms f, first_here m [] f)
 next_first_some (x ∷ pre) m ms f = first_some (is_first x) x.item.moment (next_first (pre ++ m ∷ ms)) (next_first (pre ++ m ∷ [])) (next_first_some pre m ms f)
 
 next_second_some : (above : Option ℕ) (pre : List Mark) (m : Mark) (ms : List Mark) →
