@@ -419,3 +419,111 @@ module _ (laws : Laws) (plans : PlansAreFine) (v : View) (w : Core) (a : Access)
         kept_second = kept_whole s is;
       });
     }
+
+    -- what holds of a reply but for its rows that served
+    abbrev OkBy : Reply → Type 0
+    OkBy z = RightBy v a z z.stop × UsedBy v a z z.stop × IsAlone v w.cache.rows a z
+
+    old_alone : (items : List Item) (stop : Stop) (by : List Row) → AllOld (now v) (now_marks items) → IsAlone v w.cache.rows a (record { items = items; stop = stop; by = by })
+    old_alone items stop by old m e k x i = let lt = old_last (now v) (now_marks items) m old e in absurd (omega (arith, lt, k))
+
+    one_ok : (r : Row) → In r leaves → OkBy (credited r (taken r.trail (here v a)))
+    one_ok r i =
+        let t = (leaf_here enabled ok r i).2 in
+        let j = judged_at r t in
+        let b = both_of j.front (came (ended j.end)) (front_fine r i t) (r ∷ []) in
+        subst (λ z. OkBy (credited r z)) (sym (reply_is r t)) (b.0, b.1, old_alone j.front (came (ended j.end)) (r ∷ []) (old_front r t))
+
+    nil_alone : (stop : Stop) (by : List Row) → IsAlone v w.cache.rows a (record { items = []; stop = stop; by = by })
+    nil_alone stop by m e k x i = none_some m (subst (λ ms. last_first ms ≡ Some m) (marks_nil rg (here v a)) e)
+
+    by_leaves : (rs : List Row) → leaves ≡ rs →
+        OkBy (combined rs (deepest (matches1 table1 (key_of (regs_after v.core v.log)) (untagged a.va)) w.cache.rows) sup (here v a))
+    by_leaves [] e =
+        let o = deepest (matches1 table1 (key_of (regs_after v.core v.log)) (untagged a.va)) w.cache.rows in
+        let z : Reply = begun1 o serve_here in
+        let b = both_of z.items z.stop (from_tables enabled ok o refl) z.by in
+        (b.0, b.1, λ m q k x i. none_matches (matches1 leaf1 (key_of (regs_after v.core v.log)) (untagged a.va)) w.cache.rows x e i)
+    by_leaves (r ∷ []) e = one_ok r (subst (In r) (sym e) (inl refl))
+    by_leaves (r ∷ s ∷ more) e =
+        let apart : AllApart (r ∷ s ∷ more) = subst AllApart e (apart_matching (matches1 leaf1 (key_of (regs_after v.core v.log)) (untagged a.va)) w.cache.rows f.apart) in
+        (twice_right r s (apart.0 s (inl refl)) (subst (In r) (sym e) (inl refl)) (subst (In s) (sym e) (inr (inl refl))) [], tt, nil_alone (clash r.trail s.trail) [])
+
+  -- WITHOUT STAGE 1, OR REFUSED BY IT
+
+  plain_ok : ((config_at v).m ≡ true → is_refused1 (config_at v) a ≡ true) → let z = serve_here [] in RightBy v a z z.stop × UsedBy v a z z.stop × IsAlone v w.cache.rows a z
+  plain_ok off =
+      let z = serve_here [] in
+      let b = both_of z.items z.stop from_nothing z.by in
+      (b.0, b.1, λ m e k x i. absurd (second_none (now_marks z.items) m (laws.no_stage1 (config_at v) a z.items off) e))
+
+  -- THE ROWS THAT SERVED ARE LIVE
+
+  found_live : (n : Need) (o : Option Item) → NamesLive w.cache.rows (supplied_by o)
+  found_live n None = tt
+  found_live n (Some i) = λ x m. absurd m
+
+  chain_live : (r : Row) (o : Supplied) (items : List Item) → In r w.cache.rows → NamesLive w.cache.rows o → NamesLive w.cache.rows (chain_by r o items)
+  chain_live r o [] i h = h
+  chain_live r o (y ∷ items) i h = λ x m. elim m [ inl e ↦ subst (λ z. In z w.cache.rows) (sym e) i | inr k ↦ absurd k ]
+
+  begun_live : (o : Supplied) (t : Option Row) → ((r : Row) → t ≡ Some r → In r w.cache.rows) → NamesLive w.cache.rows o → NamesLive w.cache.rows (begun2 o t)
+  begun_live o None h n = n
+  begun_live o (Some r) h n = chain_live r o r.trail (h r refl) n
+
+  chain_of_live : (o : Supplied) (rs : List Row) (t : Option Row) → ((r : Row) → In r rs → In r w.cache.rows) → ((r : Row) → t ≡ Some r → In r w.cache.rows) →
+      NamesLive w.cache.rows o → NamesLive w.cache.rows (chain_of o rs t)
+  chain_of_live o [] t g h n = begun_live o t h n
+  chain_of_live o (r ∷ []) t g h n = chain_live r o r.trail (g r (inl refl)) n
+  chain_of_live o (r ∷ s ∷ more) t g h n = tt
+
+  sup_live : (n : Need) → NamesLive w.cache.rows (sup n)
+  sup_live base1 = found_live base1 (given (regs_after v.core v.log) (side_of a.va) (memory_after v.header v.log) (now v) base1)
+  sup_live (word n) = found_live (word n) (given (regs_after v.core v.log) (side_of a.va) (memory_after v.header v.log) (now v) (word n))
+  sup_live (base2 x) =
+      let k = key_of (regs_after v.core v.log) in
+      chain_of_live (fresh_of (place_of v w.cache.rows) a (base2 x)) (matching (Rattle.machine_spec.specs.Rows.matches leaf2 k x) w.cache.rows) (deepest (Rattle.machine_spec.specs.Rows.matches table2 k x) w.cache.rows)
+      (λ r i. (In-matching (Rattle.machine_spec.specs.Rows.matches leaf2 k x) w.cache.rows r i).0)
+      (λ r e. (In-deepest (Rattle.machine_spec.specs.Rows.matches table2 k x) w.cache.rows r e).0)
+      (found_live (base2 x) (given (regs_after v.core v.log) (side_of a.va) (memory_after v.header v.log) (now v) (base2 x)))
+
+  begun1_live : (t : Option Row) → ((r : Row) → t ≡ Some r → In r w.cache.rows) → (x : Row) → In x (begun1 t serve_here).by → In x w.cache.rows
+  begun1_live None h x m = serve_live sup w.cache.rows sup_live (here v a) [] x m
+  begun1_live (Some r) h x (inl e) = subst (λ z. In z w.cache.rows) (sym e) (h r refl)
+  begun1_live (Some r) h x (inr m) = serve_live sup w.cache.rows sup_live (here v a) r.trail x m
+
+  combined_live : (rs : List Row) (t : Option Row) → ((r : Row) → In r rs → In r w.cache.rows) → ((r : Row) → t ≡ Some r → In r w.cache.rows) →
+      (x : Row) → In x (combined rs t sup (here v a)).by → In x w.cache.rows
+  combined_live [] t g h x m = begun1_live t h x m
+  combined_live (r ∷ []) t g h x (inl e) = subst (λ z. In z w.cache.rows) (sym e) (g r (inl refl))
+  combined_live (r ∷ []) t g h x (inr m) = absurd (taken_none (here v a) r.trail x m)
+  combined_live (r ∷ s ∷ more) t g h x m = absurd m
+
+  -- ALL CASES
+
+  abbrev by_rows : Reply
+  by_rows = combined leaves (deepest (matches1 table1 (key_of (regs_after v.core v.log)) (untagged a.va)) w.cache.rows) sup (here v a)
+
+  served_if : (m refused : Bool) → (config_at v).m ≡ m → is_refused1 (config_at v) a ≡ refused → ServedOk v w.cache.rows a (cond (m && not refused) by_rows (serve_here []))
+  served_if true false e g =
+      let b = by_leaves e g leaves refl in
+      let k1 = matches1 leaf1 (key_of (regs_after v.core v.log)) (untagged a.va) in
+      let k2 = matches1 table1 (key_of (regs_after v.core v.log)) (untagged a.va) in
+      record {
+        right = b.0;
+        used = b.1;
+        alone = b.2;
+        live = combined_live leaves (deepest k2 w.cache.rows) (λ r i. (In-matching k1 w.cache.rows r i).0) (λ r q. (In-deepest k2 w.cache.rows r q).0);
+      }
+  served_if true true e g =
+      let b = plain_ok (λ q. g) in
+      record { right = b.0; used = b.1; alone = b.2; live = serve_live sup w.cache.rows sup_live (here v a) [] }
+  served_if false refused e g =
+      let b = plain_ok (λ q. absurd (both_ways (config_at v).m e q)) in
+      record { right = b.0; used = b.1; alone = b.2; live = serve_live sup w.cache.rows sup_live (here v a) [] }
+
+  pub served_ok : ServedOk v w.cache.rows a (served (place_of v w.cache.rows) a)
+  served_ok = served_if (config_at v).m (is_refused1 (config_at v) a) refl refl
+
+pub serves_well : Laws → PlansAreFine → ServesWell
+serves_well laws plans v w a side f = served_ok laws plans v w a side f
