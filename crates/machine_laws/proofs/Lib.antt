@@ -6,3 +6,4 @@ pub mod Stands
 pub mod Fine
 pub mod Logs
 pub mod Lasting
+pub mod Events
