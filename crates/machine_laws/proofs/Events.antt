@@ -12,7 +12,7 @@ use Rattle.trails.specs.declared.event.Event.{Event}
 use Rattle.trails.specs.declared.event.Event.TheVariants.{Store, Msr, Settle, Isb, Tlbi, Dsb, Deliver, Access as AccessOf, Prefetch}
 use Rattle.trails.specs.declared.step.Step.{Step}
 use Rattle.tlbi_ops.specs.declared.inval.Inval.{Inval}
-use Rattle.tlbi_ops.specs.Operands.{reaches_core}
+use Rattle.tlbi_ops.specs.Operands.{inval_of, reaches_core}
 use Rattle.tlbi_ops.specs.Covers.{covers}
 use Rattle.walk_spec.specs.Ask.{Fed}
 use Rattle.walk_spec.specs.Needs.{Need}
@@ -20,7 +20,7 @@ use Rattle.walk_spec.specs.Steps.{End}
 use Rattle.walk_spec.specs.BothStages.{Landing}
 use Rattle.machine_spec.specs.Header.{Header}
 use Rattle.machine_spec.specs.Moments.{memory_after, Bank, bank_after, banked, regs_after, stored}
-use Rattle.machine_spec.specs.Invalidations.{issued_by, completes}
+use Rattle.machine_spec.specs.Invalidations.{is_at_el1, issued_by, completes}
 use Rattle.machine_spec.specs.Kept.{View, now}
 use Rattle.machine_spec.specs.Rows.{Row}
 use Rattle.machine_spec.specs.Sets.{Cache, filled}
@@ -171,3 +171,111 @@ module _ (v : View) (s : Step) (w : Core) (f : Facts v w) (b : Bank) (re : b ≡
   visited_on makes a side quiet none r ok (came end) e =
       made_on (filled v.header v.core w.cache r.by (made_by (place_of v w.cache.rows) a r (came end))) (makes v w a s r end side none f ok e) quiet none
   visited_on makes a side quiet none r ok (clash one two) e = less_on w (less_same w) quiet none
+
+  accessed_on : ServesWell → MakesWell → (a : Access) → v.side ≡ side_of a.va
+      → ((i : Inval) → completes s.event i ≡ false) → ((i : Inval) → issued_now v s.event ≡ Some i → ⊥)
+      → Facts (longer v s) (with_bank (with_cache w (visited (seat_at v (place_of v w.cache.rows) w.cache) a).cache) b)
+  accessed_on serves makes a side quiet none =
+      let r : Reply = served (place_of v w.cache.rows) a in
+      visited_on makes a side quiet none r (serves v w a side f) r.stop refl
+
+-- an access by a core, whatever the side of the view
+access_on : ServesWell → MakesWell → (v : View) (s : Step) (w : Core) → Facts v w → (b : Bank) → b ≡ bank_after v.core (v.log ++ s ∷ [])
+    → (p : Place) → p ≡ place_of v w.cache.rows → (a : Access) (own : Bool)
+    → ((i : Inval) → completes s.event i ≡ false) → ((i : Inval) → issued_now v s.event ≡ Some i → ⊥)
+    → Facts (longer v s) (with_bank (cond own (with_cache w (visited (seat_at v p w.cache) a).cache) w) b)
+access_on serves makes v s w f b re p e a true quiet none =
+    let u : View = sided v (side_of a.va) in
+    let x : Core = with_bank (with_cache w (visited (seat_at v (place_of v w.cache.rows) w.cache) a).cache) b in
+    let g : Facts (longer u s) x = accessed_on u s w (sided_facts v (side_of a.va) w f) b re serves makes a refl quiet none in
+    subst (λ (q : Place). Facts (longer v s) (with_bank (with_cache w (visited (seat_at v q w.cache) a).cache) b)) (sym e) (sided_facts (longer u s) v.side x g)
+access_on serves makes v s w f b re p e a false quiet none = less_on v s w f b re w (less_same w) quiet none
+
+-- A CORE OF THE MACHINE
+
+-- a function of number and value at one place of a list
+each_from : {X : Type 0} (f : ℕ → X → X) (n : ℕ) (xs : List X) (c : ℕ) (d : X) → c < length xs → get_or (at_each f n xs) c d ≡ f (n + c) (get_or xs c d)
+each_from f n [] c d lt = absurd (omega arith)
+each_from f n (x ∷ xs) zero d lt = ap (λ k. f k x) (omega arith)
+each_from f n (x ∷ xs) (suc c) d lt = each_from f (n + 1) xs c d (omega arith) ∙ ap (λ k. f k (get_or xs c d)) (omega arith)
+
+pub each_at : {X : Type 0} (f : ℕ → X → X) (xs : List X) (c : ℕ) (d : X) → c < length xs → get_or (at_each f 0 xs) c d ≡ f c (get_or xs c d)
+each_at f xs c d lt = each_from f 0 xs c d lt ∙ ap (λ k. f k (get_or xs c d)) (omega arith)
+
+pub each_length : {X : Type 0} (f : ℕ → X → X) (n : ℕ) (xs : List X) → length (at_each f n xs) ≡ length xs
+each_length f n [] = refl
+each_length f n (x ∷ xs) = ap suc (each_length f (n + 1) xs)
+
+abbrev place_with : Regs → (ℕ → Option ℕ) → List Row → ℕ → Place
+place_with regs memory rows step = record { regs = regs; memory = memory; rows = rows; step = step }
+
+module _ (h : Header) (log : List Step) (w : World) (all : AllFacts h log w) where
+  -- what a core meets is what the facts say
+  pub place_is : (c : ℕ) (t : Side) → c < h.cores → (seat_of h w c (core_of w c)).place ≡ place_of (view_of h log c t) (core_of w c).cache.rows
+  place_is c t lt =
+      let rows : List Row = (core_of w c).cache.rows in
+      ap (λ (b : Bank). place_with b.regs w.memory rows w.step) (all.each c t lt).bank_is
+        ∙ ap (λ m. place_with (regs_after c log) m rows w.step) all.memory_is
+        ∙ ap (λ k. place_with (regs_after c log) (memory_after h log) rows k) all.step_is
+
+  bank_on : (c : ℕ) (t : Side) → c < h.cores → (s : Step) → banked c (core_of w c).bank s.event ≡ bank_after c (log ++ s ∷ [])
+  bank_on c t lt s = ap (λ b. banked c b s.event) (all.each c t lt).bank_is ∙ sym (bank-last c log s)
+
+  module _ (serves : ServesWell) (makes : MakesWell) (c : ℕ) (t : Side) (lt : c < h.cores) where
+    advance : (e : Event) → core_named e < h.cores → Facts (longer (view_of h log c t) (step_of h w e)) (moved h w e c (core_of w c))
+    unfolding acted completes issued_by
+    advance (Store core pa value) own =
+        let s : Step = step_of h w (Store core pa value) in
+        let x : Core = core_of w c in
+        less_on (view_of h log c t) s x (all.each c t lt) (banked c x.bank s.event) (bank_on c t lt s) x (less_same x) (λ i. refl) (λ i k. none_some i k)
+    advance (Msr core reg value) own =
+        let s : Step = step_of h w (Msr core reg value) in
+        let x : Core = core_of w c in
+        less_on (view_of h log c t) s x (all.each c t lt) (banked c x.bank s.event) (bank_on c t lt s) x (less_same x) (λ i. refl) (λ i k. none_some i k)
+    advance (Settle core) own =
+        let s : Step = step_of h w (Settle core) in
+        let x : Core = core_of w c in
+        less_on (view_of h log c t) s x (all.each c t lt) (banked c x.bank s.event) (bank_on c t lt s) x (less_same x) (λ i. refl) (λ i k. none_some i k)
+    advance (Isb core) own =
+        let s : Step = step_of h w (Isb core) in
+        let x : Core = core_of w c in
+        less_on (view_of h log c t) s x (all.each c t lt) (banked c x.bank s.event) (bank_on c t lt s) x (less_same x) (λ i. refl) (λ i k. none_some i k)
+    advance (Tlbi core from op shared operand) own =
+        let s : Step = step_of h w (Tlbi core from op shared operand) in
+        let x : Core = core_of w c in
+        let i : Inval = inval_of op shared (is_at_el1 from) operand (regs_in w core) core w.step in
+        issued_on (view_of h log c t) s x (all.each c t lt) (banked c x.bank s.event) (bank_on c t lt s) i (reaches_core i c) refl (λ j. refl)
+          (ap (λ (b : Bank). Some (inval_of op shared (is_at_el1 from) operand b.regs core (length log))) (sym (all.each core t own).bank_is)
+            ∙ ap (λ k. Some (inval_of op shared (is_at_el1 from) operand (regs_in w core) core k)) (sym all.step_is))
+    advance (Dsb core kind) own =
+        let s : Step = step_of h w (Dsb core kind) in
+        let x : Core = core_of w c in
+        finished_on (view_of h log c t) s x (all.each c t lt) (banked c x.bank s.event) (bank_on c t lt s) (λ i k. none_some i k)
+    advance (Deliver core) own =
+        let s : Step = step_of h w (Deliver core) in
+        let x : Core = core_of w c in
+        delivered_on (view_of h log c t) s x (all.each c t lt) (banked c x.bank s.event) (bank_on c t lt s) (core == c) (λ i. refl) (λ i k. none_some i k)
+    advance (AccessOf core a) own =
+        let s : Step = step_of h w (AccessOf core a) in
+        let x : Core = core_of w c in
+        access_on serves makes (view_of h log c t) s x (all.each c t lt) (banked c x.bank s.event) (bank_on c t lt s)
+          (seat_of h w c x).place (place_is c t lt) a (core == c) (λ i. refl) (λ i k. none_some i k)
+    advance (Prefetch core a) own =
+        let s : Step = step_of h w (Prefetch core a) in
+        let x : Core = core_of w c in
+        access_on serves makes (view_of h log c t) s x (all.each c t lt) (banked c x.bank s.event) (bank_on c t lt s)
+          (seat_of h w c x).place (place_is c t lt) a (core == c) (λ i. refl) (λ i k. none_some i k)
+
+    each_on : (e : Event) → core_named e < h.cores → Facts (view_of h (log ++ step_of h w e ∷ []) c t) (core_of (after_event h w e) c)
+    each_on e own =
+        subst (Facts (longer (view_of h log c t) (step_of h w e))) (sym (each_at (moved h w e) w.cores c no_core (omega (arith, all.count)))) (advance e own)
+
+-- every event of a core of the machine keeps the facts
+pub keeps : ServesWell → MakesWell → (h : Header) (log : List Step) (w : World) → AllFacts h log w → (e : Event) → core_named e < h.cores
+    → AllFacts h (log ++ step_of h w e ∷ []) (after_event h w e)
+keeps serves makes h log w all e own = record {
+  step_is = simp length-append (omega (arith, all.step_is));
+  memory_is = ap (λ m. stored m e) all.memory_is ∙ sym (memory-last h log (step_of h w e));
+  count = each_length (moved h w e) 0 w.cores ∙ all.count;
+  each = λ c t lt. each_on h log w all serves makes c t lt e own;
+}
