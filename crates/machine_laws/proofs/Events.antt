@@ -1,8 +1,8 @@
 -- Each event keeps the facts of each core.
-use Rattle.std.proofs.Common.{◌≡◌, ℕ, zero, suc, ◌+◌, ◌<◌, Bool, true, false, not, cond, List, [], ◌∷◌, ◌++◌, length, ◌⊎◌, inl, inr, refl, sym, ap, ◌∙◌, subst, Option, Some, None, arith}
+use Rattle.std.proofs.Common.{◌≡◌, ℕ, zero, suc, ◌+◌, ◌<◌, Bool, true, false, not, cond, List, [], ◌∷◌, ◌++◌, length, inl, inr, refl, sym, ap, ◌∙◌, subst, Option, Some, arith}
 use Rattle.std.specs.Prelude.{filter, fold, get_or, nat_lt, ◌==◌}
 use Rattle.std.proofs.lemmas.List.{length-append}
-use Rattle.std.proofs.lemmas.Bool.{cases_Bool, both_ways, not-true, eqb-true}
+use Rattle.std.proofs.lemmas.Bool.{cases_Bool, both_ways, not-true}
 use Rattle.std.proofs.lemmas.Option.{same_Some}
 use Rattle.sysregs.specs.declared.regs.Regs.{Regs}
 use Rattle.sysregs.specs.declared.regs.Side.{Side}
@@ -14,10 +14,6 @@ use Rattle.trails.specs.declared.step.Step.{Step}
 use Rattle.tlbi_ops.specs.declared.inval.Inval.{Inval}
 use Rattle.tlbi_ops.specs.Operands.{inval_of, reaches_core}
 use Rattle.tlbi_ops.specs.Covers.{covers}
-use Rattle.walk_spec.specs.Ask.{Fed}
-use Rattle.walk_spec.specs.Needs.{Need}
-use Rattle.walk_spec.specs.Steps.{End}
-use Rattle.walk_spec.specs.BothStages.{Landing}
 use Rattle.machine_spec.specs.Header.{Header}
 use Rattle.machine_spec.specs.Moments.{memory_after, Bank, bank_after, banked, regs_after, stored}
 use Rattle.machine_spec.specs.Invalidations.{is_at_el1, issued_by, completes}
@@ -25,12 +21,12 @@ use Rattle.machine_spec.specs.Kept.{View, now}
 use Rattle.machine_spec.specs.Rows.{Row}
 use Rattle.machine_spec.specs.Sets.{Cache, filled}
 use Rattle.machine_spec.specs.Served.{Place, Reply, Stop, came, clash, served}
-use Rattle.machine_spec.specs.Machine.{Core, World, no_core, killed, delivered_by, delivered, most_held, posted, mailed, mailed_by, finished, Seat, made_by, visited_by, visited, seat_of, core_of, regs_in, accessed, acted, moved, at_each, after_event, step_of}
+use Rattle.machine_spec.specs.Machine.{Core, World, no_core, killed, delivered_by, delivered, most_held, posted, mailed, finished, Seat, made_by, visited_by, visited, seat_of, core_of, regs_in, acted, moved, at_each, after_event, step_of}
 use Rattle.machine_laws.specs.Headline.{core_named}
-use Rattle.machine_laws.proofs.Facts.{In, sided, view_of, IsRow, IsApart, AllApart, Facts, AllFacts}
+use Rattle.machine_laws.proofs.Facts.{In, sided, view_of, IsApart, AllApart, Facts, AllFacts}
 use Rattle.machine_laws.proofs.Fine.{place_of, ServedOk, ServesWell, longer, issued_now, MadeOk, MakesWell}
 use Rattle.machine_laws.proofs.Lists.{In-filter, In-from_filter, In-left, In-last, In-push_cases}
-use Rattle.machine_laws.proofs.Logs.{none_some, bank-last, memory-last, inval_by, issued_in}
+use Rattle.machine_laws.proofs.Logs.{none_some, bank-last, memory-last, issued_in}
 use Rattle.machine_laws.proofs.Lasting.{Stays, moves}
 
 -- ROWS THAT STAY TOLD APART
@@ -63,10 +59,12 @@ less_by w [] e = less_same w
 less_by w (i ∷ later) e = record {
   letters = λ j h. subst (In j) (sym e) (inr h);
   rows = λ r h.
-      let p = In-from_filter (λ (x : Row). not (covers i x.tag)) w.cache.rows r h in
-      (p.0, λ j m cov.
-          let m2 : In j (i ∷ later) = subst (In j) e m in
-          elim m2 [ inl q ↦ absurd (covered_not (covers i r.tag) p.1 (subst (λ x. covers x r.tag ≡ true) q cov)) | inr q ↦ q ]);
+      let p = In-from_filter (λ (x : Row). not (covers i x.tag)) w.cache.rows r h in (
+        p.0,
+        λ j m cov.
+            let m2 : In j (i ∷ later) = subst (In j) e m in
+            elim m2 [ inl q ↦ absurd (covered_not (covers i r.tag) p.1 (subst (λ x. covers x r.tag ≡ true) q cov)) | inr q ↦ q ],
+      );
   apart = apart_filter (λ (x : Row). not (covers i x.tag)) w.cache.rows;
 }
 
@@ -215,8 +213,8 @@ module _ (h : Header) (log : List Step) (w : World) (all : AllFacts h log w) whe
   place_is c t lt =
       let rows : List Row = (core_of w c).cache.rows in
       ap (λ (b : Bank). place_with b.regs w.memory rows w.step) (all.each c t lt).bank_is
-        ∙ ap (λ m. place_with (regs_after c log) m rows w.step) all.memory_is
-        ∙ ap (λ k. place_with (regs_after c log) (memory_after h log) rows k) all.step_is
+      ∙ ap (λ m. place_with (regs_after c log) m rows w.step) all.memory_is
+      ∙ ap (λ k. place_with (regs_after c log) (memory_after h log) rows k) all.step_is
 
   bank_on : (c : ℕ) (t : Side) → c < h.cores → (s : Step) → banked c (core_of w c).bank s.event ≡ bank_after c (log ++ s ∷ [])
   bank_on c t lt s = ap (λ b. banked c b s.event) (all.each c t lt).bank_is ∙ sym (bank-last c log s)
@@ -245,8 +243,8 @@ module _ (h : Header) (log : List Step) (w : World) (all : AllFacts h log w) whe
         let x : Core = core_of w c in
         let i : Inval = inval_of op shared (is_at_el1 from) operand (regs_in w core) core w.step in
         issued_on (view_of h log c t) s x (all.each c t lt) (banked c x.bank s.event) (bank_on c t lt s) i (reaches_core i c) refl (λ j. refl)
-          (ap (λ (b : Bank). Some (inval_of op shared (is_at_el1 from) operand b.regs core (length log))) (sym (all.each core t own).bank_is)
-            ∙ ap (λ k. Some (inval_of op shared (is_at_el1 from) operand (regs_in w core) core k)) (sym all.step_is))
+        (ap (λ (b : Bank). Some (inval_of op shared (is_at_el1 from) operand b.regs core (length log))) (sym (all.each core t own).bank_is)
+        ∙ ap (λ k. Some (inval_of op shared (is_at_el1 from) operand (regs_in w core) core k)) (sym all.step_is))
     advance (Dsb core kind) own =
         let s : Step = step_of h w (Dsb core kind) in
         let x : Core = core_of w c in
@@ -259,12 +257,12 @@ module _ (h : Header) (log : List Step) (w : World) (all : AllFacts h log w) whe
         let s : Step = step_of h w (AccessOf core a) in
         let x : Core = core_of w c in
         access_on serves makes (view_of h log c t) s x (all.each c t lt) (banked c x.bank s.event) (bank_on c t lt s)
-          (seat_of h w c x).place (place_is c t lt) a (core == c) (λ i. refl) (λ i k. none_some i k)
+        (seat_of h w c x).place (place_is c t lt) a (core == c) (λ i. refl) (λ i k. none_some i k)
     advance (Prefetch core a) own =
         let s : Step = step_of h w (Prefetch core a) in
         let x : Core = core_of w c in
         access_on serves makes (view_of h log c t) s x (all.each c t lt) (banked c x.bank s.event) (bank_on c t lt s)
-          (seat_of h w c x).place (place_is c t lt) a (core == c) (λ i. refl) (λ i k. none_some i k)
+        (seat_of h w c x).place (place_is c t lt) a (core == c) (λ i. refl) (λ i k. none_some i k)
 
     each_on : (e : Event) → core_named e < h.cores → Facts (view_of h (log ++ step_of h w e ∷ []) c t) (core_of (after_event h w e) c)
     each_on e own =

@@ -1,10 +1,8 @@
 -- Facts of a core in a longer log: one step of a core, whatever it does, keeps them.
-use Rattle.std.proofs.Common.{◌≡◌, ℕ, ◌+◌, ◌<◌, ◌≤◌, Bool, true, false, List, [], ◌∷◌, ◌++◌, length, take, ◌⊎◌, inl, inr, refl, sym, ap, ◌∙◌, subst, Option, Some, None, arith}
-use Rattle.std.specs.Prelude.{slice_get}
-use Rattle.std.proofs.lemmas.List.{take-append-le, length-append}
+use Rattle.std.proofs.Common.{◌≡◌, ℕ, ◌<◌, ◌≤◌, true, false, List, [], ◌∷◌, ◌++◌, length, ◌⊎◌, inl, inr, sym, ap, ◌∙◌, subst, Option, Some, None, arith}
+use Rattle.std.proofs.lemmas.List.{length-append}
 use Rattle.std.proofs.lemmas.Bool.{cases_lt, both_ways}
 use Rattle.std.proofs.lemmas.Option.{same_Some}
-use Rattle.sysregs.specs.declared.regs.Regs.{Regs}
 use Rattle.sysregs.specs.declared.regs.Config.{Config}
 use Rattle.sysregs.specs.declared.regs.Side.{Side}
 use Rattle.sysregs.specs.Registers.{config_of, asid_of, vmid_of}
@@ -16,8 +14,8 @@ use Rattle.tlbi_ops.specs.Operands.{reaches_core}
 use Rattle.tlbi_ops.specs.Covers.{covers}
 use Rattle.walk_spec.specs.Needs.{regime_of}
 use Rattle.walk_spec.specs.BothStages.{walk}
-use Rattle.machine_spec.specs.Header.{Header, Kind, leaf1, table1, leaf2, table2}
-use Rattle.machine_spec.specs.Moments.{memory_after, bank_after, regs_at}
+use Rattle.machine_spec.specs.Header.{Kind, leaf1, table1, leaf2, table2}
+use Rattle.machine_spec.specs.Moments.{bank_after}
 use Rattle.machine_spec.specs.Invalidations.{event_at, inval_at, completes, IsComplete}
 use Rattle.machine_spec.specs.Marks.{Mark, marks, tag_by}
 use Rattle.machine_spec.specs.Uses.{use_of, above_of, AllUsed}
@@ -38,27 +36,55 @@ pub row_map : (P Q : Side → Mark → Option ℕ → Type 0) → ((s : Side) (m
 row_map P Q f r leaf1 h = λ a s.
     let g = h a s in
     record {
-      landing = g.landing; on = g.on; class_is = g.class_is; global_is = g.global_is;
+      landing = g.landing;
+      on = g.on;
+      class_is = g.class_is;
+      global_is = g.global_is;
       stored = all_map (P (side_of a.va)) (Q (side_of a.va)) (f (side_of a.va)) None (marks (regime_for r.key.config a) (walk r.key.config false a) r.trail) g.stored;
     }
-row_map P Q f r table1 h = (h.0, λ a s.
-    let g = h.1 a s in
-    record {
-      plan = g.plan; on = g.on; sound = g.sound; late = g.late; front = g.front; last = g.last; is = g.is; first = g.first; word = g.word; not_leaf = g.not_leaf;
-      stored = all_map (P (side_of a.va)) (Q (side_of a.va)) (f (side_of a.va)) None (g.front ++ g.last ∷ []) g.stored;
-    })
-row_map P Q f r leaf2 h = (h.0, h.1, λ s p x y.
-    let g = h.2 s p x y in
-    record {
-      leaf = g.leaf; on = g.on; class_is = g.class_is;
-      stored = all_map (P s) (Q s) (f s) None (marks (regime_of r.key.config s) (chain (regime_of r.key.config s) p x) r.trail) g.stored;
-    })
-row_map P Q f r table2 h = (h.0, h.1, λ s p x y.
-    let g = h.2 s p x y in
-    record {
-      need = g.need; go = g.go; words = g.words; on = g.on;
-      stored = all_map (P s) (Q s) (f s) None (marks (regime_of r.key.config s) (chain (regime_of r.key.config s) p x) r.trail) g.stored;
-    })
+row_map P Q f r table1 h = (
+  h.0,
+  λ a s.
+      let g = h.1 a s in
+      record {
+        plan = g.plan;
+        on = g.on;
+        sound = g.sound;
+        late = g.late;
+        front = g.front;
+        last = g.last;
+        is = g.is;
+        first = g.first;
+        word = g.word;
+        not_leaf = g.not_leaf;
+        stored = all_map (P (side_of a.va)) (Q (side_of a.va)) (f (side_of a.va)) None (g.front ++ g.last ∷ []) g.stored;
+      },
+)
+row_map P Q f r leaf2 h = (
+  h.0,
+  h.1,
+  λ s p x y.
+      let g = h.2 s p x y in
+      record {
+        leaf = g.leaf;
+        on = g.on;
+        class_is = g.class_is;
+        stored = all_map (P s) (Q s) (f s) None (marks (regime_of r.key.config s) (chain (regime_of r.key.config s) p x) r.trail) g.stored;
+      },
+)
+row_map P Q f r table2 h = (
+  h.0,
+  h.1,
+  λ s p x y.
+      let g = h.2 s p x y in
+      record {
+        need = g.need;
+        go = g.go;
+        words = g.words;
+        on = g.on;
+        stored = all_map (P s) (Q s) (f s) None (marks (regime_of r.key.config s) (chain (regime_of r.key.config s) p x) r.trail) g.stored;
+      },
+)
 
 -- no message that covers a row is gone
 abbrev pub Stays : List Inval → List Inval → Row → Type 0
@@ -82,7 +108,11 @@ module _ (v : View) (s : Step) where
 
   complete_on : (use_ : ℕ) (i : Inval) → use_ ≤ now v → IsComplete (v.log ++ s ∷ []) use_ i → IsComplete v.log use_ i
   complete_on use_ i h d = record {
-    step = d.step; event = d.event; later = d.later; earlier = d.earlier; ends = d.ends;
+    step = d.step;
+    event = d.event;
+    later = d.later;
+    earlier = d.earlier;
+    ends = d.ends;
     is = sym (event-old v.log s d.step (omega (arith, d.earlier))) ∙ d.is;
   }
 

@@ -7,3 +7,4 @@ pub mod Fine
 pub mod Logs
 pub mod Lasting
 pub mod Events
+pub mod Theorem

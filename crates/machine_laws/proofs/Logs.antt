@@ -1,8 +1,8 @@
 -- What a log means after one more step.
-use Rattle.std.proofs.Common.{◌≡◌, ℕ, zero, suc, ◌<◌, ◌≤◌, List, [], ◌∷◌, ◌++◌, length, map, take, refl, sym, ap, ◌∙◌, subst, Some, Option, None, arith}
+use Rattle.std.proofs.Common.{◌≡◌, ℕ, zero, suc, ◌<◌, ◌≤◌, List, [], ◌∷◌, ◌++◌, length, map, take, refl, sym, ap, ◌∙◌, Some, Option, None, arith}
 use Rattle.std.specs.Prelude.{slice_get}
 use Rattle.std.specs.Option.{option_and_then}
-use Rattle.std.proofs.lemmas.List.{map-append, length-map, take-append-le, length-append, take_at}
+use Rattle.std.proofs.lemmas.List.{map-append, length-map, take-append-le, take_at}
 use Rattle.std.proofs.lemmas.List.Sums.{fold_push}
 use Rattle.std.proofs.lemmas.Option.{slice_get_within, option_and_then_some, same_Some}
 use Rattle.sysregs.specs.declared.regs.Regs.{Regs}
@@ -59,12 +59,12 @@ inval_by log e = issued_by (λ c. regs_after c log) (length log) e
 pub inval-old : (log : List Step) (s : Step) (k : ℕ) → k < length log → inval_at (log ++ s ∷ []) k ≡ inval_at log k
 inval-old log s k h =
     ap (option_and_then (issued_by (λ c. regs_after c (take k (log ++ s ∷ []))) k)) (event-old log s k h)
-      ∙ ap (λ (v : List Step). option_and_then (issued_by (λ c. regs_after c v) k) (event_at log k)) (take-append-le k log (s ∷ []) (omega arith))
+    ∙ ap (λ (v : List Step). option_and_then (issued_by (λ c. regs_after c v) k) (event_at log k)) (take-append-le k log (s ∷ []) (omega arith))
 
 pub inval-last : (log : List Step) (s : Step) → inval_at (log ++ s ∷ []) (length log) ≡ inval_by log s.event
 inval-last log s =
     ap (option_and_then (issued_by (λ c. regs_after c (take (length log) (log ++ s ∷ []))) (length log))) (event-last log s)
-      ∙ ap (λ (v : List Step). issued_by (λ c. regs_after c v) (length log) s.event) (take_at log (s ∷ []) (length log) refl)
+    ∙ ap (λ (v : List Step). issued_by (λ c. regs_after c v) (length log) s.event) (take_at log (s ∷ []) (length log) refl)
 
 pub inval-within : (log : List Step) (k : ℕ) (i : Inval) → inval_at log k ≡ Some i → k < length log
 inval-within log k i h = option_and_then_some (issued_by (λ c. regs_at log c k) k) (event_at log k) i h (λ e at is. event-within log k e at)
