@@ -10,3 +10,7 @@ pub mod Uses
 pub mod Begins
 pub mod Serve
 pub mod Served
+pub mod Logs
+pub mod Lasting
+pub mod Events
+pub mod Theorem

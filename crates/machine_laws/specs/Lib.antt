@@ -15,3 +15,4 @@ pub use Rattle.machine_spec.specs.Sets
 pub use Rattle.machine_spec.specs.Served
 pub use Rattle.machine_spec.specs.Machine
 pub mod Headline
+pub mod Rules
