@@ -2,14 +2,7 @@
 use Rattle.std.specs.Prelude.{ℕ, Bool, true, false, List}
 use Rattle.trace_lang.specs.declared.header.Size.{Size}
 use Rattle.trace_lang.specs.declared.header.Size.TheVariants.{NoRows, Small, Medium, Large}
-use Rattle.trace_lang.specs.declared.header.Policy.{Policy}
-
--- how many cores there are, the ranges of memory (start and length in bytes), the size of the caches and their policy
-pub record Header : Type 0 where
-  pub cores : ℕ
-  pub ranges : List (ℕ × ℕ)
-  pub size : Size
-  pub policy : Policy
+pub use Rattle.trace_lang.specs.Traces.{Header}
 
 -- a row is of one of four kinds, and each core has a cache of each: leaves of stage 1 combined with the stage 2 of their
 -- output, tables of stage 1, and leaves and tables of stage 2

@@ -1,6 +1,8 @@
-//! The header of a trace: how large the caches of translations are, and which row leaves a full set.
+//! The trace language: the events of a machine's cores as lines of words, read with the first refusal, and written.
 #![tactic(auto)]
 
 mod header;
+mod refusals;
 
 pub use header::{Policy, Size};
+pub use refusals::{LineRefusal, Phase, TraceError, TraceRefusal};

@@ -1,0 +1,10 @@
+pub use Rattle.sysregs.specs.Registers
+pub use Rattle.sysregs.specs.Names
+pub use Rattle.sysregs.specs.Refused
+pub use Rattle.texts.specs.Numbers
+pub use Rattle.texts.specs.Texts
+pub mod Traces
+pub mod Words
+pub mod Events
+pub mod Lines
+pub mod Canonical
