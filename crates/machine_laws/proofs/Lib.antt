@@ -4,3 +4,5 @@ pub mod Laws
 pub mod Lists
 pub mod Stands
 pub mod Fine
+pub mod Fronts
+pub mod Longer
