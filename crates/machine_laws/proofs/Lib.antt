@@ -6,3 +6,4 @@ pub mod Stands
 pub mod Fine
 pub mod Fronts
 pub mod Longer
+pub mod Making
