@@ -7,3 +7,4 @@ pub mod Fine
 pub mod Fronts
 pub mod Longer
 pub mod Making
+pub mod Combined
