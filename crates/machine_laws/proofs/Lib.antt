@@ -8,3 +8,4 @@ pub mod Fronts
 pub mod Longer
 pub mod Making
 pub mod Combined
+pub mod Added
