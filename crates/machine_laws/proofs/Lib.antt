@@ -9,3 +9,4 @@ pub mod Longer
 pub mod Making
 pub mod Combined
 pub mod Added
+pub mod Makes
