@@ -1,9 +1,10 @@
 -- The row of a stage 1 leaf with the stage 2 of its output has its fact behind the step, and is the one of its kind.
-use Rattle.std.proofs.Common.{◌≡◌, ℕ, ◌+◌, ◌/◌, ◌^◌, Bool, true, false, not, ◌&&◌, ◌||◌, cond, List, [], ◌∷◌, ◌++◌, ◌⊎◌, inl, inr, refl, sym, ap, ◌∙◌, subst, Option, Some, None}
+use Rattle.std.proofs.Common.{◌≡◌, ℕ, ◌+◌, ◌/◌, ◌^◌, Bool, true, false, not, ◌&&◌, ◌||◌, cond, List, [], ◌∷◌, ◌++◌, ◌⊎◌, inl, inr, refl, sym, ap, ◌∙◌, subst, Option, Some, None, arith}
 use Rattle.std.proofs.lemmas.Bool.{eqb-true, eq-eqb, both_ways, and_parts}
 use Rattle.std.proofs.lemmas.Option.{same_Some}
 use Rattle.sysregs.specs.declared.regs.Regs.{Regs}
 use Rattle.sysregs.specs.declared.regs.Side.{Side}
+use Rattle.sysregs.specs.declared.regs.Config.{Config}
 use Rattle.sysregs.specs.Registers.{asid_of, vmid_of}
 use Rattle.sysregs.specs.Sides.{side_of}
 use Rattle.fault_codes.specs.declared.fault.Stage.{Stage}
@@ -16,10 +17,13 @@ use Rattle.tlbi_ops.specs.Covers.{is_stage1}
 use Rattle.tagged_tlb.specs.declared.row.Key.{Key}
 use Rattle.tagged_tlb.specs.declared.row.Made.{Made}
 use Rattle.walk_spec.specs.Ask.{Ask, done, ask, Fed, ended, lacks}
-use Rattle.walk_spec.specs.Needs.{Regime, Need, base1, base2, word}
+use Rattle.walk_spec.specs.Needs.{Regime, Need, base1, base2, word, fits}
 use Rattle.walk_spec.specs.Steps.{End, stops, reaches}
 use Rattle.walk_spec.specs.Stage1.{untagged}
-use Rattle.walk_spec.specs.BothStages.{Landing}
+use Rattle.walk_spec.specs.BothStages.{Landing, walk}
+use Rattle.walk_laws.proofs.Stepping.{takes_ends}
+use Rattle.walk_laws.proofs.Landings.{walk_in_step}
+use Rattle.walk_laws.proofs.Shifts.{of_fields, same_side}
 use Rattle.machine_spec.specs.Header.{Kind, leaf1, table1, leaf2, table2}
 use Rattle.machine_spec.specs.Moments.{regs_after}
 use Rattle.machine_spec.specs.Marks.{Part, nothing, table, leaf, Mark, mark, marks, is_first, is_table, is_leaf, is_global, is_leaf1 as is_mark_leaf1, has_asid, tag_by}
@@ -29,7 +33,8 @@ use Rattle.machine_spec.specs.Rows.{Row, holds}
 use Rattle.machine_spec.specs.Made.{Maker, key_of, key_for, made_in, is_read_now, or_mark, last_first, rows_of, leaf_row, leaf_rows, combined_rows, numbered, rows_made, chain_with}
 use Rattle.machine_laws.proofs.Trees.{IsOn, AllSecond}
 use Rattle.machine_laws.proofs.Facts.{In, sided, regime_for, IsStored, IsRow}
-use Rattle.machine_laws.proofs.Laws.{Laws}
+use Rattle.machine_laws.proofs.Laws.{FirstLeaf, Laws}
+use Rattle.machine_laws.proofs.Stands.{on_ends}
 use Rattle.machine_laws.proofs.Fine.{Good, config_at, here, longer, issued_now}
 use Rattle.machine_laws.proofs.Fronts.{whole_leaf}
 use Rattle.machine_laws.proofs.Longer.{both_same}
@@ -101,6 +106,15 @@ leaf_case (leaf false b) first l h = refl
 own_leaf : (m : Mark) → is_leaf m.part ≡ true → has_asid m ≡ true → is_global m.part ≡ false
 own_leaf m l h = leaf_case m.part (is_first m) l h
 
+-- an access of the piece of a landing is of its half of the addresses
+leaf_side : (c : Config) (a b : Access) (trail : List Item) (l : Landing) (ms : List Mark) → c.m ≡ true → FirstLeaf c trail ms l.class b → untagged b.va / 2 ^ l.class ≡ untagged a.va / 2 ^ l.class → side_of b.va ≡ side_of a.va
+leaf_side c a b trail l ms m t near =
+    let r : Regime = regime_for c b in
+    let d = walk_in_step r (of_fields c (side_of b.va)) b b m refl trail t.landing (takes_ends (fits r) (walk c false b) trail (reaches t.landing) (on_ends r (walk c false b) (reaches t.landing) trail t.on)) in
+    let n = d.most in
+    let e = t.class_is in
+    same_side b.va a.va l.class (omega (arith, n, e)) near
+
 -- THE ROW
 
 module _ (laws : Laws) (v : View) (s : Step) (none : (i : Inval) → issued_now v s.event ≡ Some i → ⊥) (inbox : List Inval) (a : Access) (side : v.side ≡ side_of a.va) where
@@ -132,7 +146,7 @@ module _ (laws : Laws) (v : View) (s : Step) (none : (i : Inval) → issued_now 
       let base : m.base ≡ false = word_at d.pre m d.out (subst LeavesAreWords d.is (leaves_words R (here v a) trail)) lf in
       let near = eqb-true (untagged b.va / 2 ^ l.class) (untagged a.va / 2 ^ l.class) suits.held in
       let t = laws.first_leaf (config_at v) a b trail l suits.on suits.accepted on near in
-      let e : side_of b.va ≡ v.side = laws.leaf_side (config_at v) a b trail l suits.on suits.accepted on near ∙ sym side in
+      let e : side_of b.va ≡ v.side = leaf_side (config_at v) a b trail l (marks R (here v a) trail) suits.on t near ∙ sym side in
       let stored : AllUsed (IsStored (sided (longer v s) (side_of b.va)) inbox r) None (d.pre ++ m ∷ d.out) =
           whole_leaf (Good v) (IsStored (sided (longer v s) (side_of b.va)) inbox r) (λ x u. closed laws v s none inbox (side_of b.va) r refl refl x u (both_same v.side (side_of b.va) x e)) None d.pre m d.out first lf d.second
           (last laws v s none inbox (side_of b.va) r refl refl m (both_same v.side (side_of b.va) m e) at base refl (λ n. (refl, own_leaf m lf n)) held) used2 in

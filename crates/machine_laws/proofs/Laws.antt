@@ -2,7 +2,6 @@
 use Rattle.std.proofs.Common.{◌≡◌, ℕ, ◌/◌, ◌^◌, Bool, true, false, List, [], ◌∷◌, ◌++◌, ◌⊎◌, Option, Some, None}
 use Rattle.sysregs.specs.declared.regs.Config.{Config}
 use Rattle.sysregs.specs.declared.regs.Side.{Side}
-use Rattle.sysregs.specs.Sides.{side_of}
 use Rattle.fault_codes.specs.declared.fault.Fault.{Fault}
 use Rattle.trails.specs.declared.item.Item.{Item}
 use Rattle.trails.specs.declared.outcome.Access.{Access}
@@ -88,17 +87,9 @@ pub record Laws : Type 0 where
   pub first_table : (c : Config) (a b : Access) (trail : List Item) (u : Ask Need Item (End Landing)) (pre : List Mark) (m : Mark) →
     c.m ≡ true → is_refused1 c b ≡ false → IsOn (regime_for c a) (walk c true a) trail u → marks (regime_for c a) (walk c true a) trail ≡ pre ++ m ∷ [] →
     is_first m ≡ true → m.part ≡ table true → holds m.region (untagged b.va) ≡ true → FirstTable c trail (pre ++ m ∷ []) b
-  -- such a table's region lies in one half of the addresses
-  pub table_side : (c : Config) (a b : Access) (trail : List Item) (u : Ask Need Item (End Landing)) (pre : List Mark) (m : Mark) →
-    c.m ≡ true → is_refused1 c b ≡ false → IsOn (regime_for c a) (walk c true a) trail u → marks (regime_for c a) (walk c true a) trail ≡ pre ++ m ∷ [] →
-    is_first m ≡ true → m.part ≡ table true → holds m.region (untagged b.va) ≡ true → side_of b.va ≡ side_of a.va
   pub first_leaf : (c : Config) (a b : Access) (trail : List Item) (l : Landing) →
     c.m ≡ true → is_refused1 c b ≡ false → IsOn (regime_for c a) (walk c true a) trail (done (reaches l)) →
     untagged b.va / 2 ^ l.class ≡ untagged a.va / 2 ^ l.class → FirstLeaf c trail (marks (regime_for c a) (walk c true a) trail) l.class b
-  -- such a piece lies in one half of the addresses
-  pub leaf_side : (c : Config) (a b : Access) (trail : List Item) (l : Landing) →
-    c.m ≡ true → is_refused1 c b ≡ false → IsOn (regime_for c a) (walk c true a) trail (done (reaches l)) →
-    untagged b.va / 2 ^ l.class ≡ untagged a.va / 2 ^ l.class → side_of b.va ≡ side_of a.va
   -- a trail that leads to a translation ends in a word
   pub mapped_last : (c : Config) (j : Bool) (a : Access) (trail : List Item) (l : Landing) → IsOn (regime_for c a) (walk c j a) trail (done (reaches l)) →
     LastIs IsWord (marks (regime_for c a) (walk c j a) trail)

@@ -1,5 +1,5 @@
 -- Every row that is made of a word has its fact behind the step.
-use Rattle.std.proofs.Common.{◌≡◌, ℕ, ◌≤◌, Bool, true, false, cond, List, [], ◌∷◌, ◌++◌, length, take, ◌⊎◌, inl, inr, refl, sym, ap, ◌∙◌, subst, append_assoc, Option, Some, None, arith}
+use Rattle.std.proofs.Common.{◌≡◌, ℕ, zero, suc, ◌≤◌, ◌/◌, ◌^◌, Bool, true, false, cond, List, [], ◌∷◌, ◌++◌, length, take, ◌⊎◌, inl, inr, refl, sym, ap, ◌∙◌, subst, append_assoc, Option, Some, None, arith}
 use Rattle.std.specs.Prelude.{Result, Ok, Err}
 use Rattle.std.proofs.lemmas.List.{length-append, take_all}
 use Rattle.std.proofs.lemmas.Bool.{eqb-true, both_ways}
@@ -10,22 +10,40 @@ use Rattle.sysregs.specs.Registers.{config_of, asid_of, vmid_of}
 use Rattle.sysregs.specs.Sides.{side_of}
 use Rattle.fault_codes.specs.declared.fault.Stage.{Stage}
 use Rattle.fault_codes.specs.declared.fault.Stage.TheVariants.{S1, S2}
+use Rattle.fault_codes.specs.declared.fault.Class.TheVariants.{Translation, AddressSize, Permission}
+use Rattle.fault_codes.specs.declared.fault.Fault.{Fault}
+use Rattle.geometry.specs.Tables.{class_of, most_left}
+use Rattle.permissions.specs.Rights.{no_bits}
+use Rattle.descriptors.specs.declared.kinds.Kind1.{Kind1}
+use Rattle.descriptors.specs.declared.kinds.Kind1.TheVariants.{Invalid, Table, Leaf}
+use Rattle.descriptors.specs.Meaning.{means1_of}
+use Rattle.table_reads.specs.declared.step.Step.{Step as TableStep}
+use Rattle.table_reads.specs.declared.step.Step.TheVariants.{Down, Reached, Stopped}
+use Rattle.table_reads.specs.Places.{is_too_large}
 use Rattle.trails.specs.declared.item.Item.{Item}
 use Rattle.trails.specs.declared.outcome.Access.{Access}
 use Rattle.trails.specs.declared.step.Step.{Step}
 use Rattle.tlbi_ops.specs.declared.inval.Inval.{Inval}
 use Rattle.tlbi_ops.specs.Covers.{is_stage1}
 use Rattle.tagged_tlb.specs.declared.row.Key.{Key}
+use Rattle.walk_spec.specs.declared.entry.Table1.{Table1}
+use Rattle.walk_spec.specs.declared.entry.Entry1.{Entry1}
+use Rattle.walk_spec.specs.declared.leaf.Leaf1.{Leaf1}
 use Rattle.walk_spec.specs.declared.leaf.Leaf2.{Leaf2}
-use Rattle.walk_spec.specs.Ask.{Ask, done, ask, after}
-use Rattle.walk_spec.specs.Needs.{Regime, regime_of, Need, base1, base2, word, fits}
-use Rattle.walk_spec.specs.Steps.{End, stops, reaches}
-use Rattle.walk_spec.specs.Stage2.{is_refused2, walk2_behind}
-use Rattle.walk_spec.specs.Stage1.{asked2, untagged}
-use Rattle.walk_spec.specs.BothStages.{Landing}
+use Rattle.walk_spec.specs.Ask.{Ask, done, ask, after, go_on, finer}
+use Rattle.walk_spec.specs.Needs.{Regime, regime_of, Need, base1, base2, word, fits, sizes_of, mapping1, mapping_of, class_by, region_of}
+use Rattle.walk_spec.specs.Steps.{End, stops, reaches, step_then}
+use Rattle.walk_spec.specs.Stage2.{is_refused2, walk2_behind, walk2}
+use Rattle.walk_spec.specs.Stage1.{Asked, asked2, untagged, fault1, step1, entry1, walk1_from, read1, is_readable, read1_by, word_of, stage1_from}
+use Rattle.walk_spec.specs.BothStages.{Landing, landed, judged2, stage2_behind, is_refused1, stage1_behind, stage1_on, stage1_off, stage1, walk_by, asked, walk}
+use Rattle.walk_laws.proofs.Stepping.{Asks}
+use Rattle.walk_laws.proofs.Places.{class_up}
+use Rattle.walk_laws.proofs.Stage1.{IsStage2, asks_stage2}
+use Rattle.walk_laws.proofs.Sound.{sound1}
+use Rattle.walk_laws.proofs.Shifts.{of_fields, same_side}
 use Rattle.machine_spec.specs.Header.{Kind, leaf1, table1, leaf2, table2}
 use Rattle.machine_spec.specs.Moments.{regs_after}
-use Rattle.machine_spec.specs.Marks.{Part, nothing, table, leaf, Mark, mark, marks, is_first, is_table, is_leaf, is_global, has_asid, tag_by}
+use Rattle.machine_spec.specs.Marks.{Part, nothing, table, leaf, part1, part_of, Mark, mark, marks, is_first, is_table, is_leaf, is_global, has_asid, tag_by}
 use Rattle.machine_spec.specs.Uses.{AllUsed}
 use Rattle.machine_spec.specs.Kept.{View, now, regs_when, IsHeld, IsKeptItem}
 use Rattle.machine_spec.specs.Rows.{Row}
@@ -60,6 +78,141 @@ second_asid m f h = absurd (both_ways (has_asid m) (rw f refl) h)
 marks_nil : {B : Type 0} (r : Regime) (t : Ask Need Item B) → marks r t [] ≡ []
 marks_nil r (done a) = refl
 marks_nil r (ask n k) = refl
+
+-- ONE HALF OF THE ADDRESSES
+
+-- a question of stage 1 is for this address, with no more than so many levels left
+abbrev IsFor : ℕ → ℕ → Need → Type 0
+IsFor k x base1 = Unit {0}
+IsFor k x (base2 y) = Unit {0}
+IsFor k x (word w) = is_stage1 w.stage ≡ true → (w.left ≤ k) × (w.address ≡ x)
+
+for_second : (k x : ℕ) (n : Need) → IsStage2 n → IsFor k x n
+for_second k x base1 h = absurd h
+for_second k x (base2 y) h = tt
+for_second k x (word w) h = λ f. absurd (both_ways (is_stage1 w.stage) (ap is_stage1 h) f)
+
+module _ (P : Need → Type 0) where
+  asks_after : {A B : Type 0} (t : Ask Need Item A) (f : A → Ask Need Item B) → Asks P t → ((e : A) → Asks P (f e)) → Asks P (after t f)
+  asks_after (done e) f h g = g e
+  asks_after (ask n k) f h g = (h.0, λ i. asks_after (k i) f (h.1 i) g)
+
+  asks_map : {A : Type 0} (Q : Need → Type 0) → ((n : Need) → Q n → P n) → (t : Ask Need Item A) → Asks Q t → Asks P t
+  asks_map Q f (done e) h = tt
+  asks_map Q f (ask n k) h = (f n h.0, λ i. asks_map Q f (k i) (h.1 i))
+
+  asks_if : {A : Type 0} (b : Bool) (t u : Ask Need Item A) → Asks P t → Asks P u → Asks P (cond b t u)
+  asks_if true t u h g = h
+  asks_if false t u h g = g
+
+  asks_go : {X A : Type 0} (stop : X → A) (next : Item → Ask Need Item A) (found : Result Item X) → ((i : Item) → Asks P (next i)) → Asks P (go_on stop next found)
+  asks_go stop next (Ok i) h = h i
+  asks_go stop next (Err x) h = tt
+
+-- the walk of an access asks stage 1 for its own address, from the start level down
+module _ (q : Asked) where
+  abbrev For : Need → Type 0
+  For = IsFor q.regime.stage1.start (untagged q.access.va)
+
+  for_walk2 : (p : Bool) (x : ℕ) → Asks For (walk2 (asked2 q.regime p x))
+  for_walk2 p x = asks_map For IsStage2 (for_second q.regime.stage1.start (untagged q.access.va)) (walk2 (asked2 q.regime p x)) (asks_stage2 q.regime p x)
+
+  for_read : (left : ℕ) (t : Table1) (place : ℕ) → left ≤ q.regime.stage1.start → Asks For (read1 (entry1 q left t) place)
+  for_read left t place l = (λ f. (l, refl), λ i. tt)
+
+  for_read_by : (left : ℕ) (t : Table1) (e : End Leaf2) → left ≤ q.regime.stage1.start → Asks For (read1_by q.regime.config (entry1 q left t) e)
+  for_read_by left t (stops f) l = tt
+  for_read_by left t (reaches m) l =
+      asks_if For (is_readable q.regime.config m) (read1 (entry1 q left t) m.pa) (done (Err record { stage = S2; level = m.level; class = Permission; s1ptw = true })) (for_read left t m.pa l) tt
+
+  for_word : (left : ℕ) (t : Table1) → left ≤ q.regime.stage1.start → Asks For (word_of q.regime (entry1 q left t))
+  for_word left t l =
+      let e = entry1 q left t in
+      asks_if For q.regime.config.vm (after (walk2 (asked2 q.regime true e.place)) (read1_by q.regime.config e)) (read1 e e.place)
+        (asks_after For (walk2 (asked2 q.regime true e.place)) (read1_by q.regime.config e) (for_walk2 true e.place) (λ d. for_read_by left t d l)) (for_read left t e.place l)
+
+  for_step : (below : Table1 → Ask Entry1 Item (End Leaf1)) (s : TableStep Leaf1 Table1) → ((t : Table1) → Asks For (finer stops (word_of q.regime) (below t))) → Asks For (finer stops (word_of q.regime) (step_then below s))
+  for_step below (Down t) h = h t
+  for_step below (Reached l) h = tt
+  for_step below (Stopped f) h = tt
+
+  for_from : (left : ℕ) (t : Table1) → left ≤ q.regime.stage1.start → Asks For (stage1_from q left t)
+  for_from zero t l =
+      let below : Table1 → Ask Entry1 Item (End Leaf1) = λ t. done (stops (fault1 Translation 0)) in
+      asks_after For (word_of q.regime (entry1 q 0 t)) (go_on stops (λ i. finer stops (word_of q.regime) (step_then below (step1 q (entry1 q 0 t) i.pa i.value)))) (for_word 0 t l)
+      (λ d. asks_go For stops (λ i. finer stops (word_of q.regime) (step_then below (step1 q (entry1 q 0 t) i.pa i.value))) d (λ i. for_step below (step1 q (entry1 q 0 t) i.pa i.value) (λ t. tt)))
+  for_from (suc left) t l =
+      asks_after For (word_of q.regime (entry1 q (suc left) t)) (go_on stops (λ i. finer stops (word_of q.regime) (step_then (walk1_from q left) (step1 q (entry1 q (suc left) t) i.pa i.value)))) (for_word (suc left) t l)
+      (λ d. asks_go For stops (λ i. finer stops (word_of q.regime) (step_then (walk1_from q left) (step1 q (entry1 q (suc left) t) i.pa i.value))) d
+        (λ i. for_step (walk1_from q left) (step1 q (entry1 q (suc left) t) i.pa i.value) (λ t. for_from left t (omega (arith, l)))))
+
+  for_behind : (base : ℕ) → Asks For (stage1_behind q base)
+  for_behind base =
+      asks_if For (is_too_large q.regime.stage1 base) (done (stops (fault1 AddressSize most_left))) (stage1_from q q.regime.stage1.start record { address = base; bits = no_bits })
+        tt (for_from q.regime.stage1.start record { address = base; bits = no_bits } (omega arith))
+
+  for_stage1 : Asks For (stage1 q)
+  for_stage1 =
+      asks_if For q.regime.config.m (stage1_on q) (stage1_off q)
+        (asks_if For (is_refused1 q.regime.config q.access) (done (stops (fault1 Translation most_left))) (ask base1 (λ i. stage1_behind q i.value)) tt (tt, λ i. for_behind i.value)) tt
+
+  for_output : (e : End Leaf1) → Asks For (stage2_behind q e)
+  for_output (stops f) = tt
+  for_output (reaches l) =
+      asks_if For q.regime.config.vm (after (walk2 (asked2 q.regime false l.out)) (λ e. done (judged2 q.judged q.access l e))) (done (reaches (landed l)))
+        (asks_after For (walk2 (asked2 q.regime false l.out)) (λ e. done (judged2 q.judged q.access l e)) (for_walk2 false l.out) (λ e. tt)) tt
+
+  for_walk : Asks For (walk_by q)
+  for_walk = asks_after For (stage1 q) (stage2_behind q) for_stage1 for_output
+
+-- a table of stage 1 has a small region around the address
+abbrev IsNearTable : Regime → ℕ → Mark → Type 0
+IsNearTable r x m = is_first m ≡ true → (b : Bool) → m.part ≡ table b → (m.region.class ≤ class_of r.stage1.granule r.stage1.start) × (m.region.start ≡ x / 2 ^ m.region.class)
+
+table_class : (r : Regime) (kind : Kind1) (left pa : ℕ) (b : Bool) → part1 r kind ≡ table b → left ≤ r.stage1.start → class_by (mapping1 kind) r.stage1 left pa ≤ class_of r.stage1.granule r.stage1.start
+table_class r Invalid left pa b h l = absurd cc
+table_class r (Table address bits) left pa b h l = class_up r.stage1.granule left r.stage1.start l
+table_class r (Leaf out attr_index bits sh af global contiguous) left pa b h l = absurd cc
+
+near_word : (r : Regime) (st : Stage) (left value pa : ℕ) (b : Bool) → is_stage1 st ≡ true → part_of r st left value ≡ table b → left ≤ r.stage1.start → class_by (mapping_of r st left value) (sizes_of r st) left pa ≤ class_of r.stage1.granule r.stage1.start
+near_word r S1 left value pa b f h l = table_class r (means1_of r.config r.side left value) left pa b h l
+near_word r S2 left value pa b f h l = absurd cc
+
+near_mark : (r : Regime) (x : ℕ) (n : Need) (i : Item) → IsFor r.stage1.start x n → IsNearTable r x (mark r n i)
+unfolding mark
+near_mark r x base1 i h = λ f b e. absurd cc
+near_mark r x (base2 y) i h = λ f b e. absurd cc
+near_mark r x (word w) i h = λ f b e. (near_word r w.stage w.left i.value i.pa b f e (h f).0, ap (λ z. z / 2 ^ (region_of r w i).class) (h f).1)
+
+abbrev AllNear : Regime → ℕ → List Mark → Type 0
+AllNear r x [] = Unit {0}
+AllNear r x (m ∷ ms) = IsNearTable r x m × AllNear r x ms
+
+near_marks : {A : Type 0} (r : Regime) (x : ℕ) (t : Ask Need Item A) (items : List Item) → Asks (IsFor r.stage1.start x) t → AllNear r x (marks r t items)
+near_marks r x (done e) items h = tt
+near_marks r x (ask n k) [] h = tt
+near_marks r x (ask n k) (i ∷ items) h = (near_mark r x n i h.0, near_marks r x (k i) items (h.1 i))
+
+near_last : (r : Regime) (x : ℕ) (pre : List Mark) (m : Mark) → AllNear r x (pre ++ m ∷ []) → IsNearTable r x m
+near_last r x [] m h = h.0
+near_last r x (y ∷ pre) m h = near_last r x pre m h.1
+
+-- the last mark of a walk's trail, where it is a table of stage 1
+near_table : (c : Config) (a : Access) (trail : List Item) (pre : List Mark) (m : Mark) → marks (regime_for c a) (walk c true a) trail ≡ pre ++ m ∷ [] → IsNearTable (regime_for c a) (untagged a.va) m
+near_table c a trail pre m e =
+    near_last (regime_for c a) (untagged a.va) pre m (subst (AllNear (regime_for c a) (untagged a.va)) e (near_marks (regime_for c a) (untagged a.va) (walk c true a) trail (for_walk (asked c true a))))
+
+-- so two accesses that meet the same table are of one half
+table_side : (c : Config) (a b : Access) (trail : List Item) (pre : List Mark) (m : Mark) → is_refused1 c b ≡ false → marks (regime_for c a) (walk c true a) trail ≡ pre ++ m ∷ []
+    → marks (regime_for c b) (walk c true b) trail ≡ pre ++ m ∷ [] → is_first m ≡ true → m.part ≡ table true → side_of b.va ≡ side_of a.va
+table_side c a b trail pre m ref is same first part =
+    let p = near_table c a trail pre m is first true part in
+    let q = near_table c b trail pre m same first true part in
+    let s = sound1 (regime_for c b) b (of_fields c (side_of b.va)) refl ref in
+    let i = s.input in
+    let e = s.entries in
+    let l = q.0 in
+    same_side b.va a.va m.region.class (omega (arith, l, e, i)) (sym q.1 ∙ p.1)
 
 -- THE ROWS OF ONE WORD
 
@@ -156,7 +309,7 @@ module _ (laws : Laws) (v : View) (s : Step) (none : (i : Inval) → issued_now 
         let r : Row = row_with (key_of regs) m table1 tr in
         (refl, λ b suits.
           let t = laws.first_table (config_at v) a b tr u ws m suits.on suits.accepted on is first part suits.held in
-          let e : side_of b.va ≡ v.side = laws.table_side (config_at v) a b tr u ws m suits.on suits.accepted on is first part suits.held ∙ sym side in
+          let e : side_of b.va ≡ v.side = table_side (config_at v) a b tr ws m suits.accepted is t.same first part ∙ sym side in
           record { plan = t.plan; on = t.on; sound = t.sound; late = t.late; front = ws; last = m; is = t.same; first = first; word = base; not_leaf = ap is_leaf part;
             stored = front_first (Good v) (Then (side_of b.va) r) (λ x u. closed (side_of b.va) r refl refl x u (both_same v.side (side_of b.va) x e)) None ws m rest first
               (last (side_of b.va) r refl refl m (both_same v.side (side_of b.va) m e) at base refl (λ n. (refl, refl)) held) used })
@@ -310,6 +463,8 @@ module _ (laws : Laws) (v : View) (s : Step) (none : (i : Inval) → issued_now 
     rows_plan (own n k) sound whole part xs w on h u = rows_own n k sound.0 (λ i. rows_plan (k i) (sound.2 i)) whole part xs w on h u
     rows_plan (via p x next k) sound whole part [] w on h u = λ r i. absurd i
     rows_plan (via p x next k) sound whole part (y ∷ ys) w on h u =
+        let okay : (e : End Leaf2) (n : Need) → next e ≡ Ok n → (is_need1 n ≡ true) × (needs_base n ≡ false) = assumption sound in
+        let more : (i : Item) → IsSound R (k i) = assumption sound in
         let go : End Leaf2 → Walk = λ e. joined (next e) (λ i. flat R (k i)) in
         let begun : Item → Ask Need Item (End Leaf2) = λ i. walk2_behind (asked2 R p x) i.value in
         let m : Mark = mark R (base2 x) y in
@@ -318,7 +473,7 @@ module _ (laws : Laws) (v : View) (s : Step) (none : (i : Inval) → issued_now 
         let eq : marks R (chain R p x) (y ∷ []) ++ rest ≡ m ∷ rest = ap (λ z. m ∷ (z ++ rest)) (marks_nil R (begun y)) in
         rows_more (base2 x) y false true whole part rest refl refl
         (none_at (whole ++ y ∷ []) (y ∷ []) (base2 x) y refl)
-        (rows_chain p x sound.0 go w (λ e w2 p2 x2 on2 h2 u2. rows_rest (next e) k (λ n q. (sound.2 e n q).0) (λ i. rows_plan (k i) (sound.3 i)) w2 p2 x2 w on2 h2 u2)
+        (rows_chain p x sound.0 go w (λ e w2 p2 x2 on2 h2 u2. rows_rest (next e) k (λ n q. (okay e n q).0) (λ i. rows_plan (k i) (more i)) w2 p2 x2 w on2 h2 u2)
         (begun y) (whole ++ y ∷ []) (y ∷ []) ys d.0 (laws.behind_words R p x y.value) (h.0, refl)
         (on_append R (here v a) (flat R (via p x next k)) (after (begun y) go) whole (y ∷ []) on (h.0, refl)) h.1
         (uses_on whole (base2 x) (λ i. after (begun i) go) y ys on u) (subst (AllUsed (Good v) d.0) (sym eq) d.1))
