@@ -1,8 +1,8 @@
 -- Rows that come, leave and move: each row behind a step is one before or one that was made, and rows stay told apart.
-use Rattle.std.proofs.Common.{◌≡◌, ℕ, zero, suc, ◌+◌, ◌/◌, ◌^◌, Bool, true, false, not, ◌&&◌, ◌||◌, cond, List, [], ◌∷◌, ◌++◌, length, ◌⊎◌, inl, inr, refl, sym, ap, ◌∙◌, subst, Option, Some, None}
+use Rattle.std.proofs.Common.{◌≡◌, ℕ, zero, suc, ◌+◌, Bool, true, false, not, ◌&&◌, ◌||◌, cond, List, [], ◌∷◌, ◌++◌, length, ◌⊎◌, inl, inr, refl, sym, ap, ◌∙◌, subst}
 use Rattle.std.specs.Prelude.{◌==◌, nat_le, fold, filter}
 use Rattle.std.specs.List.{list_any}
-use Rattle.std.proofs.lemmas.Bool.{eq-eqb, both_ways, and_from, or_parts, not-true, cases_Bool}
+use Rattle.std.proofs.lemmas.Bool.{eq-eqb, both_ways, or_parts, not-true}
 use Rattle.std.proofs.lemmas.Option.{same_Some}
 use Rattle.sysregs.specs.declared.regs.Regs.{Regs}
 use Rattle.sysregs.specs.declared.regs.Config.{Config}
@@ -11,11 +11,11 @@ use Rattle.trace_lang.specs.declared.header.Policy.{Policy}
 use Rattle.trace_lang.specs.declared.header.Policy.TheVariants.{Lru, Fifo, Random}
 use Rattle.tagged_tlb.specs.declared.row.Key.{Key}
 use Rattle.walk_spec.specs.Needs.{Region}
-use Rattle.machine_spec.specs.Header.{Header, Shape, shape_of, keeps_rows, Kind, leaf1, table1, leaf2, table2}
+use Rattle.machine_spec.specs.Header.{Header, shape_of, Kind, leaf1, table1, leaf2, table2}
 use Rattle.machine_spec.specs.Marks.{Mark, is_global}
-use Rattle.machine_spec.specs.Rows.{Row, same_bool, same_numbers, same_granules, same_low, same_high, same_rest, same_fields, same_kind, same_region, holds, matches, matches1}
+use Rattle.machine_spec.specs.Rows.{Row, same_bool, same_numbers, same_granules, same_low, same_high, same_rest, same_fields, same_kind, same_region, holds, matches1}
 use Rattle.machine_spec.specs.Made.{Maker, key_of}
-use Rattle.machine_spec.specs.Sets.{Cache, victim, without, same_set, same_key, placed, added, is_row, to_end, touched, filled}
+use Rattle.machine_spec.specs.Sets.{Cache, victim, without, same_set, same_key, added, is_row, to_end, touched}
 use Rattle.machine_laws.proofs.Facts.{In, IsApart, IsApart1, IsApart2, AllApart}
 use Rattle.machine_laws.proofs.Lists.{In-from_filter, In-push_cases}
 use Rattle.machine_laws.proofs.Combined.{IsMade1}
@@ -51,8 +51,18 @@ high_self : (c : Config) → same_high c c ≡ true
 high_self c = rw (same_bool_self c.epd1, same_bool_self c.tbi1, same_bool_self c.tbid1, same_bool_self c.e0pd1, same_bool_self c.hpd1) refl
 
 rest_self : (c : Config) → same_rest c c ≡ true
-rest_self c = rw (same_bool_self c.m, same_bool_self c.i, same_bool_self c.wxn, same_bool_self c.epan, same_bool_self c.ha1, same_bool_self c.hd1,
-    same_bool_self c.vm, same_bool_self c.ptw, same_bool_self c.ha2, same_bool_self c.hd2) refl
+rest_self c = rw (
+  same_bool_self c.m,
+  same_bool_self c.i,
+  same_bool_self c.wxn,
+  same_bool_self c.epan,
+  same_bool_self c.ha1,
+  same_bool_self c.hd1,
+  same_bool_self c.vm,
+  same_bool_self c.ptw,
+  same_bool_self c.ha2,
+  same_bool_self c.hd2,
+) refl
 
 pub same_fields_self : (c : Config) → same_fields c c ≡ true
 unfolding same_fields
@@ -132,8 +142,8 @@ module _ (olds : List Row) (apart : AllApart olds) where
   apart_end : (rows : List Row) (r : Row) → Within rows → In r olds → AllApart rows → AllApart (to_end rows r)
   apart_end rows r w i a =
       apart_push (filter (λ y. not (is_row r y)) rows) r (λ x h.
-        let p = In-from_filter (λ y. not (is_row r y)) rows x h in
-        apart_two olds x r apart (w x p.0) i (λ e. both_ways (is_row r r) (subst (λ z. is_row r z ≡ false) e (not-true (is_row r x) p.1)) (is_row_self r)))
+      let p = In-from_filter (λ y. not (is_row r y)) rows x h in
+      apart_two olds x r apart (w x p.0) i (λ e. both_ways (is_row r r) (subst (λ z. is_row r z ≡ false) e (not-true (is_row r x) p.1)) (is_row_self r)))
       (apart_filter (λ y. not (is_row r y)) rows a)
 
   within_ends : (served rows : List Row) → Within served → Within rows → Within (fold to_end rows served)
@@ -228,7 +238,7 @@ module _ (h : Header) (c : ℕ) where
         let iy = sub y (inl refl) in
         apart_added ys (added h c l y) (λ x i. sub x (inr i)) (known l y iy k)
         (apart_one (list_any (same_key y) l.rows) (is_full l y) l (same_set (shape_of h.size y.kind) y) (place_in l y) y refl
-          (λ x i n. (other_key y x (keyed_new y iy) (keyed x (k x i)) n, one_apart y iy x (k x i) n)) a)
+        (λ x i n. (other_key y x (keyed_new y iy) (keyed x (k x i)) n, one_apart y iy x (k x i) n)) a)
 
 -- COMBINED ROWS
 

@@ -1,11 +1,10 @@
 -- The row of a stage 1 leaf with the stage 2 of its output has its fact behind the step, and is the one of its kind.
-use Rattle.std.proofs.Common.{◌≡◌, ℕ, ◌+◌, ◌/◌, ◌^◌, Bool, true, false, not, ◌&&◌, ◌||◌, cond, List, [], ◌∷◌, ◌++◌, ◌⊎◌, inl, inr, refl, sym, ap, ◌∙◌, subst, Option, Some, None, arith}
-use Rattle.std.proofs.lemmas.Bool.{eqb-true, eq-eqb, both_ways, and_parts}
+use Rattle.std.proofs.Common.{◌≡◌, ℕ, ◌+◌, ◌/◌, ◌^◌, Bool, true, false, not, ◌&&◌, ◌||◌, cond, List, [], ◌∷◌, ◌++◌, inl, inr, refl, sym, ap, ◌∙◌, subst, Option, Some, None, arith}
+use Rattle.std.proofs.lemmas.Bool.{eqb-true, and_parts}
 use Rattle.std.proofs.lemmas.Option.{same_Some}
 use Rattle.sysregs.specs.declared.regs.Regs.{Regs}
-use Rattle.sysregs.specs.declared.regs.Side.{Side}
 use Rattle.sysregs.specs.declared.regs.Config.{Config}
-use Rattle.sysregs.specs.Registers.{asid_of, vmid_of}
+use Rattle.sysregs.specs.Registers.{vmid_of}
 use Rattle.sysregs.specs.Sides.{side_of}
 use Rattle.fault_codes.specs.declared.fault.Stage.{Stage}
 use Rattle.fault_codes.specs.declared.fault.Stage.TheVariants.{S1, S2}
@@ -29,7 +28,7 @@ use Rattle.machine_spec.specs.Moments.{regs_after}
 use Rattle.machine_spec.specs.Marks.{Part, nothing, table, leaf, Mark, mark, marks, is_first, is_table, is_leaf, is_global, is_leaf1 as is_mark_leaf1, has_asid, tag_by}
 use Rattle.machine_spec.specs.Uses.{AllUsed}
 use Rattle.machine_spec.specs.Kept.{View, now, IsHeld}
-use Rattle.machine_spec.specs.Rows.{Row, holds}
+use Rattle.machine_spec.specs.Rows.{Row}
 use Rattle.machine_spec.specs.Made.{Maker, key_of, key_for, made_in, is_read_now, or_mark, last_first, rows_of, leaf_row, leaf_rows, combined_rows, numbered, rows_made, chain_with}
 use Rattle.machine_laws.proofs.Trees.{IsOn, AllSecond}
 use Rattle.machine_laws.proofs.Facts.{In, sided, regime_for, IsStored, IsRow}
@@ -129,8 +128,13 @@ module _ (laws : Laws) (v : View) (s : Step) (none : (i : Inval) → issued_now 
 
   abbrev row_with : Key → ℕ → Mark → List Item → Row
   row_with key class m trail = record {
-    kind = leaf1; key = key; global = is_global m.part; region = record { class = class; start = untagged a.va / 2 ^ class };
-    made = made_in (now v) 0; tag = tag_by regs m; trail = trail
+    kind = leaf1;
+    key = key;
+    global = is_global m.part;
+    region = record { class = class; start = untagged a.va / 2 ^ class };
+    made = made_in (now v) 0;
+    tag = tag_by regs m;
+    trail = trail;
   }
 
   abbrev AllGood : List Item → Type 0
@@ -148,8 +152,8 @@ module _ (laws : Laws) (v : View) (s : Step) (none : (i : Inval) → issued_now 
       let t = laws.first_leaf (config_at v) a b trail l suits.on suits.accepted on near in
       let e : side_of b.va ≡ v.side = leaf_side (config_at v) a b trail l (marks R (here v a) trail) suits.on t near ∙ sym side in
       let stored : AllUsed (IsStored (sided (longer v s) (side_of b.va)) inbox r) None (d.pre ++ m ∷ d.out) =
-          whole_leaf (Good v) (IsStored (sided (longer v s) (side_of b.va)) inbox r) (λ x u. closed laws v s none inbox (side_of b.va) r refl refl x u (both_same v.side (side_of b.va) x e)) None d.pre m d.out first lf d.second
-          (last laws v s none inbox (side_of b.va) r refl refl m (both_same v.side (side_of b.va) m e) at base refl (λ n. (refl, own_leaf m lf n)) held) used2 in
+      whole_leaf (Good v) (IsStored (sided (longer v s) (side_of b.va)) inbox r) (λ x u. closed laws v s none inbox (side_of b.va) r refl refl x u (both_same v.side (side_of b.va) x e)) None d.pre m d.out first lf d.second
+      (last laws v s none inbox (side_of b.va) r refl refl m (both_same v.side (side_of b.va) m e) at base refl (λ n. (refl, own_leaf m lf n)) held) used2 in
       record {
         landing = t.landing;
         on = t.on;

@@ -1,5 +1,5 @@
 -- What a log means behind one more step that issues no invalidation.
-use Rattle.std.proofs.Common.{◌≡◌, ℕ, zero, suc, ◌<◌, ◌≤◌, Bool, true, false, List, [], ◌∷◌, ◌++◌, length, map, take, refl, sym, ap, ◌∙◌, subst, Some, Option, None, arith}
+use Rattle.std.proofs.Common.{◌≡◌, ℕ, zero, suc, ◌<◌, ◌≤◌, true, false, List, [], ◌∷◌, ◌++◌, length, map, take, refl, sym, ap, ◌∙◌, subst, Some, Option, None, arith}
 use Rattle.std.specs.Prelude.{slice_get}
 use Rattle.std.specs.Option.{option_and_then}
 use Rattle.std.proofs.lemmas.List.{map-append, length-map, take-append-le, length-append, take_at}
@@ -51,12 +51,12 @@ regs_now log s c k h = ap (regs_after c) (take_at log (s ∷ []) k (sym h))
 inval_old : (log : List Step) (s : Step) (k : ℕ) → k < length log → inval_at (log ++ s ∷ []) k ≡ inval_at log k
 inval_old log s k h =
     ap (option_and_then (issued_by (λ c. regs_at (log ++ s ∷ []) c k) k)) (event_old log s k h)
-      ∙ ap (λ (v : List Step). option_and_then (issued_by (λ c. regs_after c v) k) (event_at log k)) (take-append-le k log (s ∷ []) (omega arith))
+    ∙ ap (λ (v : List Step). option_and_then (issued_by (λ c. regs_after c v) k) (event_at log k)) (take-append-le k log (s ∷ []) (omega arith))
 
 inval_last : (log : List Step) (s : Step) → inval_at (log ++ s ∷ []) (length log) ≡ issued_by (λ c. regs_after c log) (length log) s.event
 inval_last log s =
     ap (option_and_then (issued_by (λ c. regs_at (log ++ s ∷ []) c (length log)) (length log))) (event_last log s)
-      ∙ ap (λ (v : List Step). issued_by (λ c. regs_after c v) (length log) s.event) (take_at log (s ∷ []) (length log) refl)
+    ∙ ap (λ (v : List Step). issued_by (λ c. regs_after c v) (length log) s.event) (take_at log (s ∷ []) (length log) refl)
 
 inval_within : (log : List Step) (k : ℕ) (i : Inval) → inval_at log k ≡ Some i → k < length log
 inval_within log k i h = option_and_then_some (issued_by (λ c. regs_at log c k) k) (event_at log k) i h (λ e at is. event_within log k e at)

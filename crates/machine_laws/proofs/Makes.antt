@@ -1,6 +1,6 @@
 -- Every reply makes rows well: the rows behind the step have their facts, and are told apart.
-use Rattle.std.proofs.Common.{◌≡◌, ℕ, Bool, true, false, cond, List, [], ◌∷◌, ◌++◌, ◌/◌, ◌^◌, ◌⊎◌, inl, inr, refl, sym, ap, ◌∙◌, subst, Option, Some, None}
-use Rattle.std.specs.Prelude.{◌==◌, fold}
+use Rattle.std.proofs.Common.{◌≡◌, ℕ, Bool, true, false, cond, List, [], ◌∷◌, ◌++◌, ◌/◌, ◌^◌, ◌⊎◌, inl, inr, refl, sym, ◌∙◌, subst, Option, Some, None}
+use Rattle.std.specs.Prelude.{fold}
 use Rattle.std.proofs.lemmas.Bool.{eq-eqb}
 use Rattle.sysregs.specs.declared.regs.Side.{Side}
 use Rattle.sysregs.specs.Sides.{side_of}
@@ -8,28 +8,28 @@ use Rattle.trails.specs.declared.outcome.Access.{Access}
 use Rattle.trails.specs.declared.step.Step.{Step}
 use Rattle.tlbi_ops.specs.declared.inval.Inval.{Inval}
 use Rattle.tagged_tlb.specs.declared.row.Made.{Made}
-use Rattle.walk_spec.specs.Ask.{Ask, done, ask, Fed, ended, lacks}
+use Rattle.walk_spec.specs.Ask.{done, ask, Fed, ended, lacks}
 use Rattle.walk_spec.specs.Needs.{Need, Region, regime_of}
 use Rattle.walk_spec.specs.Steps.{End}
 use Rattle.walk_spec.specs.Stage1.{untagged}
 use Rattle.walk_spec.specs.BothStages.{Landing, walk}
-use Rattle.machine_spec.specs.Header.{Header, Kind, leaf1, table1, leaf2, table2, keeps_rows}
+use Rattle.machine_spec.specs.Header.{Kind, leaf1, table1, leaf2, table2, keeps_rows}
 use Rattle.machine_spec.specs.Moments.{regs_after}
 use Rattle.machine_spec.specs.Marks.{Mark, marks}
 use Rattle.machine_spec.specs.Uses.{use_of, above_of, AllUsed}
 use Rattle.machine_spec.specs.Kept.{View, now}
 use Rattle.machine_spec.specs.Rows.{Row, holds}
 use Rattle.machine_spec.specs.Made.{Maker, rows_of, combined_rows, rows_made}
-use Rattle.machine_spec.specs.Sets.{Cache, added, touched, filled}
-use Rattle.machine_spec.specs.Served.{Stop, came, Reply}
+use Rattle.machine_spec.specs.Sets.{added, touched}
+use Rattle.machine_spec.specs.Served.{came, Reply}
 use Rattle.machine_spec.specs.Machine.{Core}
 use Rattle.machine_laws.proofs.Trees.{chain}
-use Rattle.machine_laws.proofs.Facts.{In, sided, regime_for, IsStored, IsRowBy, IsRow, IsApart1, AllApart, Facts}
+use Rattle.machine_laws.proofs.Facts.{In, sided, regime_for, IsStored, IsRowBy, IsRow, IsApart1, Facts}
 use Rattle.machine_laws.proofs.Laws.{Laws}
 use Rattle.machine_laws.proofs.Lists.{In-append}
-use Rattle.machine_laws.proofs.Fine.{config_at, here, IsUsed, UsedBy, ServedOk, longer, issued_now, MadeOk, MakesWell}
+use Rattle.machine_laws.proofs.Fine.{config_at, here, UsedBy, ServedOk, longer, issued_now, MadeOk, MakesWell}
 use Rattle.machine_laws.proofs.Making.{rows_of_words}
-use Rattle.machine_laws.proofs.Combined.{combined_row, IsMade1, end_class, renumbered, numbered_cases, made_one}
+use Rattle.machine_laws.proofs.Combined.{combined_row, end_class, renumbered, numbered_cases, made_one}
 use Rattle.machine_laws.proofs.Added.{IsKeyed, In-all_added, apart_added, within_touched, apart_touched, other_asid, made_same}
 
 -- NUMBERS
@@ -45,18 +45,45 @@ stored_numbered v inbox r d m (Some u) f = f
 numbered_by : (P Q : Side → Mark → Option ℕ → Type 0) → ((s : Side) (m : Mark) (o : Option ℕ) → P s m o → Q s m o) → (r : Row) (d : Made) (k : Kind) → IsRowBy P r k → IsRowBy Q (renumbered r d) k
 numbered_by P Q f r d leaf1 h = λ a s.
     let g = h a (record { held = s.held; on = s.on; accepted = s.accepted }) in
-    record { landing = g.landing; on = g.on; class_is = g.class_is; global_is = g.global_is;
-      stored = used_map (P (side_of a.va)) (Q (side_of a.va)) (f (side_of a.va)) None (marks (regime_for r.key.config a) (walk r.key.config false a) r.trail) g.stored }
-numbered_by P Q f r d table1 h = (h.0, λ a s.
-    let g = h.1 a (record { held = s.held; on = s.on; accepted = s.accepted }) in
-    record { plan = g.plan; on = g.on; sound = g.sound; late = g.late; front = g.front; last = g.last; is = g.is; first = g.first; word = g.word; not_leaf = g.not_leaf;
-      stored = used_map (P (side_of a.va)) (Q (side_of a.va)) (f (side_of a.va)) None (g.front ++ g.last ∷ []) g.stored })
-numbered_by P Q f r d leaf2 h = (h.0, h.1, λ s p x i.
-    let g = h.2 s p x i in
-    record { leaf = g.leaf; on = g.on; class_is = g.class_is; stored = used_map (P s) (Q s) (f s) None (marks (regime_of r.key.config s) (chain (regime_of r.key.config s) p x) r.trail) g.stored })
-numbered_by P Q f r d table2 h = (h.0, h.1, λ s p x i.
-    let g = h.2 s p x i in
-    record { need = g.need; go = g.go; words = g.words; on = g.on; stored = used_map (P s) (Q s) (f s) None (marks (regime_of r.key.config s) (chain (regime_of r.key.config s) p x) r.trail) g.stored })
+    record {
+      landing = g.landing;
+      on = g.on;
+      class_is = g.class_is;
+      global_is = g.global_is;
+      stored = used_map (P (side_of a.va)) (Q (side_of a.va)) (f (side_of a.va)) None (marks (regime_for r.key.config a) (walk r.key.config false a) r.trail) g.stored;
+    }
+numbered_by P Q f r d table1 h = (
+  h.0,
+  λ a s.
+      let g = h.1 a (record { held = s.held; on = s.on; accepted = s.accepted }) in
+      record {
+        plan = g.plan;
+        on = g.on;
+        sound = g.sound;
+        late = g.late;
+        front = g.front;
+        last = g.last;
+        is = g.is;
+        first = g.first;
+        word = g.word;
+        not_leaf = g.not_leaf;
+        stored = used_map (P (side_of a.va)) (Q (side_of a.va)) (f (side_of a.va)) None (g.front ++ g.last ∷ []) g.stored;
+      },
+)
+numbered_by P Q f r d leaf2 h = (
+  h.0,
+  h.1,
+  λ s p x i.
+      let g = h.2 s p x i in
+      record { leaf = g.leaf; on = g.on; class_is = g.class_is; stored = used_map (P s) (Q s) (f s) None (marks (regime_of r.key.config s) (chain (regime_of r.key.config s) p x) r.trail) g.stored },
+)
+numbered_by P Q f r d table2 h = (
+  h.0,
+  h.1,
+  λ s p x i.
+      let g = h.2 s p x i in
+      record { need = g.need; go = g.go; words = g.words; on = g.on; stored = used_map (P s) (Q s) (f s) None (marks (regime_of r.key.config s) (chain (regime_of r.key.config s) p x) r.trail) g.stored },
+)
 
 -- a row's fact doesn't look at its number
 row_numbered : (v : View) (inbox : List Inval) (r : Row) (d : Made) → IsRow v inbox r → IsRow v inbox (renumbered r d)
@@ -91,7 +118,7 @@ module _ (laws : Laws) (v : View) (w : Core) (a : Access) (s : Step) (r : Reply)
   have_facts end u x i =
       let c = numbered_cases 0 (rows_of maker [] [] met ++ combined_rows maker (untagged a.va) r.items met end) x i in
       subst Then (sym c.2.1) (row_numbered (longer v s) w.inbox c.0 c.2.0
-        (before_numbers end u c.0 (In-append (rows_of maker [] [] met) (combined_rows maker (untagged a.va) r.items met end) c.0 c.1)))
+      (before_numbers end u c.0 (In-append (rows_of maker [] [] met) (combined_rows maker (untagged a.va) r.items met end) c.0 c.1)))
 
   -- no combined row before the step serves the same as one that was made
   alone : (end : Fed Need (End Landing)) (y : Row) → In y (news end) → y.kind ≡ leaf1 → (x : Row) → In x w.cache.rows → IsApart1 x y
@@ -102,7 +129,7 @@ module _ (laws : Laws) (v : View) (w : Core) (a : Access) (s : Step) (r : Reply)
       other_asid (regs_after v.core v.log) (untagged a.va) x y (ok.alone d.mark_of d.last_is d.read x ix) d.key_is held
 
   filled_well : (b : Bool) (end : Fed Need (End Landing)) → UsedBy v a r (came end) →
-    MadeOk v s w (cond b (fold (added v.header v.core) (record w.cache { rows = touched v.header.policy w.cache.rows r.by }) (news end)) w.cache)
+      MadeOk v s w (cond b (fold (added v.header v.core) (record w.cache { rows = touched v.header.policy w.cache.rows r.by }) (news end)) w.cache)
   filled_well false end u = record { rows = λ x i. inl i; apart = f.apart }
   filled_well true end u =
       let served = within_touched w.cache.rows f.apart v.header.policy r.by ok.live in
@@ -112,8 +139,8 @@ module _ (laws : Laws) (v : View) (w : Core) (a : Access) (s : Step) (r : Reply)
           | inr m ↦ inr (have_facts end u x m)
         ];
         apart = apart_added v.header v.core w.cache.rows (news end) (λ x i. keyed_of v w.inbox x (f.rows x i)) (λ x i. keyed_of (longer v s) w.inbox x (have_facts end u x i)) (alone end)
-          (λ x y ix iy lx ly. made_same maker (end_class end) (untagged a.va) met y x (ly ∙ sym lx) (made_one maker (untagged a.va) r.items met end y iy ly) (made_one maker (untagged a.va) r.items met end x ix lx))
-          (news end) (record w.cache { rows = touched v.header.policy w.cache.rows r.by }) (λ x i. i) (λ x i. inl (served x i)) (apart_touched w.cache.rows f.apart v.header.policy r.by ok.live);
+            (λ x y ix iy lx ly. made_same maker (end_class end) (untagged a.va) met y x (ly ∙ sym lx) (made_one maker (untagged a.va) r.items met end y iy ly) (made_one maker (untagged a.va) r.items met end x ix lx))
+            (news end) (record w.cache { rows = touched v.header.policy w.cache.rows r.by }) (λ x i. i) (λ x i. inl (served x i)) (apart_touched w.cache.rows f.apart v.header.policy r.by ok.live);
       }
 
 pub makes_well : Laws → MakesWell

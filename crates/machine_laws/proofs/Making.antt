@@ -1,5 +1,5 @@
 -- Every row that is made of a word has its fact behind the step.
-use Rattle.std.proofs.Common.{◌≡◌, ℕ, zero, suc, ◌≤◌, ◌/◌, ◌^◌, Bool, true, false, cond, List, [], ◌∷◌, ◌++◌, length, take, ◌⊎◌, inl, inr, refl, sym, ap, ◌∙◌, subst, append_assoc, Option, Some, None, arith}
+use Rattle.std.proofs.Common.{◌≡◌, ℕ, zero, suc, ◌≤◌, ◌/◌, ◌^◌, Bool, true, false, cond, List, [], ◌∷◌, ◌++◌, length, ◌⊎◌, inl, inr, refl, sym, ap, ◌∙◌, subst, append_assoc, Option, Some, None, arith}
 use Rattle.std.specs.Prelude.{Result, Ok, Err}
 use Rattle.std.proofs.lemmas.List.{length-append, take_all}
 use Rattle.std.proofs.lemmas.Bool.{eqb-true, both_ways}
@@ -11,7 +11,6 @@ use Rattle.sysregs.specs.Sides.{side_of}
 use Rattle.fault_codes.specs.declared.fault.Stage.{Stage}
 use Rattle.fault_codes.specs.declared.fault.Stage.TheVariants.{S1, S2}
 use Rattle.fault_codes.specs.declared.fault.Class.TheVariants.{Translation, AddressSize, Permission}
-use Rattle.fault_codes.specs.declared.fault.Fault.{Fault}
 use Rattle.geometry.specs.Tables.{class_of, most_left}
 use Rattle.permissions.specs.Rights.{no_bits}
 use Rattle.descriptors.specs.declared.kinds.Kind1.{Kind1}
@@ -31,7 +30,7 @@ use Rattle.walk_spec.specs.declared.entry.Entry1.{Entry1}
 use Rattle.walk_spec.specs.declared.leaf.Leaf1.{Leaf1}
 use Rattle.walk_spec.specs.declared.leaf.Leaf2.{Leaf2}
 use Rattle.walk_spec.specs.Ask.{Ask, done, ask, after, go_on, finer}
-use Rattle.walk_spec.specs.Needs.{Regime, regime_of, Need, base1, base2, word, fits, sizes_of, mapping1, mapping_of, class_by, region_of}
+use Rattle.walk_spec.specs.Needs.{Regime, Need, base1, base2, word, fits, sizes_of, mapping1, mapping_of, class_by, region_of}
 use Rattle.walk_spec.specs.Steps.{End, stops, reaches, step_then}
 use Rattle.walk_spec.specs.Stage2.{is_refused2, walk2_behind, walk2}
 use Rattle.walk_spec.specs.Stage1.{Asked, asked2, untagged, fault1, step1, entry1, walk1_from, read1, is_readable, read1_by, word_of, stage1_from}
@@ -41,15 +40,15 @@ use Rattle.walk_laws.proofs.Places.{class_up}
 use Rattle.walk_laws.proofs.Stage1.{IsStage2, asks_stage2}
 use Rattle.walk_laws.proofs.Sound.{sound1}
 use Rattle.walk_laws.proofs.Shifts.{of_fields, same_side}
-use Rattle.machine_spec.specs.Header.{Kind, leaf1, table1, leaf2, table2}
+use Rattle.machine_spec.specs.Header.{Kind, table1, leaf2, table2}
 use Rattle.machine_spec.specs.Moments.{regs_after}
-use Rattle.machine_spec.specs.Marks.{Part, nothing, table, leaf, part1, part_of, Mark, mark, marks, is_first, is_table, is_leaf, is_global, has_asid, tag_by}
+use Rattle.machine_spec.specs.Marks.{Part, nothing, table, leaf, part1, part_of, Mark, mark, marks, is_first, is_leaf, has_asid, tag_by}
 use Rattle.machine_spec.specs.Uses.{AllUsed}
 use Rattle.machine_spec.specs.Kept.{View, now, regs_when, IsHeld, IsKeptItem}
 use Rattle.machine_spec.specs.Rows.{Row}
 use Rattle.machine_spec.specs.Made.{Maker, key_of, key_for, made_in, row_of, only_if, rows_by, is_read_now, chain_with, rows_of}
 use Rattle.machine_laws.proofs.Trees.{IsOn, is_need1, needs_base, chain, Plan, fin, own, via, joined, flat, IsSound, IsWords, AllSecond}
-use Rattle.machine_laws.proofs.Facts.{In, sided, regime_for, IsLast, IsStored, IsRow}
+use Rattle.machine_laws.proofs.Facts.{In, sided, regime_for, IsStored, IsRow}
 use Rattle.machine_laws.proofs.Laws.{Laws}
 use Rattle.machine_laws.proofs.Lists.{In-append}
 use Rattle.machine_laws.proofs.Stands.{on_append, marks_append, mark_first, mark_base, mark_item, words_second, second_marks}
@@ -129,7 +128,7 @@ module _ (q : Asked) where
   for_word left t l =
       let e = entry1 q left t in
       asks_if For q.regime.config.vm (after (walk2 (asked2 q.regime true e.place)) (read1_by q.regime.config e)) (read1 e e.place)
-        (asks_after For (walk2 (asked2 q.regime true e.place)) (read1_by q.regime.config e) (for_walk2 true e.place) (λ d. for_read_by left t d l)) (for_read left t e.place l)
+      (asks_after For (walk2 (asked2 q.regime true e.place)) (read1_by q.regime.config e) (for_walk2 true e.place) (λ d. for_read_by left t d l)) (for_read left t e.place l)
 
   for_step : (below : Table1 → Ask Entry1 Item (End Leaf1)) (s : TableStep Leaf1 Table1) → ((t : Table1) → Asks For (finer stops (word_of q.regime) (below t))) → Asks For (finer stops (word_of q.regime) (step_then below s))
   for_step below (Down t) h = h t
@@ -144,23 +143,23 @@ module _ (q : Asked) where
   for_from (suc left) t l =
       asks_after For (word_of q.regime (entry1 q (suc left) t)) (go_on stops (λ i. finer stops (word_of q.regime) (step_then (walk1_from q left) (step1 q (entry1 q (suc left) t) i.pa i.value)))) (for_word (suc left) t l)
       (λ d. asks_go For stops (λ i. finer stops (word_of q.regime) (step_then (walk1_from q left) (step1 q (entry1 q (suc left) t) i.pa i.value))) d
-        (λ i. for_step (walk1_from q left) (step1 q (entry1 q (suc left) t) i.pa i.value) (λ t. for_from left t (omega (arith, l)))))
+      (λ i. for_step (walk1_from q left) (step1 q (entry1 q (suc left) t) i.pa i.value) (λ t. for_from left t (omega (arith, l)))))
 
   for_behind : (base : ℕ) → Asks For (stage1_behind q base)
   for_behind base =
       asks_if For (is_too_large q.regime.stage1 base) (done (stops (fault1 AddressSize most_left))) (stage1_from q q.regime.stage1.start record { address = base; bits = no_bits })
-        tt (for_from q.regime.stage1.start record { address = base; bits = no_bits } (omega arith))
+      tt (for_from q.regime.stage1.start record { address = base; bits = no_bits } (omega arith))
 
   for_stage1 : Asks For (stage1 q)
   for_stage1 =
       asks_if For q.regime.config.m (stage1_on q) (stage1_off q)
-        (asks_if For (is_refused1 q.regime.config q.access) (done (stops (fault1 Translation most_left))) (ask base1 (λ i. stage1_behind q i.value)) tt (tt, λ i. for_behind i.value)) tt
+      (asks_if For (is_refused1 q.regime.config q.access) (done (stops (fault1 Translation most_left))) (ask base1 (λ i. stage1_behind q i.value)) tt (tt, λ i. for_behind i.value)) tt
 
   for_output : (e : End Leaf1) → Asks For (stage2_behind q e)
   for_output (stops f) = tt
   for_output (reaches l) =
       asks_if For q.regime.config.vm (after (walk2 (asked2 q.regime false l.out)) (λ e. done (judged2 q.judged q.access l e))) (done (reaches (landed l)))
-        (asks_after For (walk2 (asked2 q.regime false l.out)) (λ e. done (judged2 q.judged q.access l e)) (for_walk2 false l.out) (λ e. tt)) tt
+      (asks_after For (walk2 (asked2 q.regime false l.out)) (λ e. done (judged2 q.judged q.access l e)) (for_walk2 false l.out) (λ e. tt)) tt
 
   for_walk : Asks For (walk_by q)
   for_walk = asks_after For (stage1 q) (stage2_behind q) for_stage1 for_output
@@ -174,7 +173,8 @@ table_class r Invalid left pa b h l = absurd cc
 table_class r (Table address bits) left pa b h l = class_up r.stage1.granule left r.stage1.start l
 table_class r (Leaf out attr_index bits sh af global contiguous) left pa b h l = absurd cc
 
-near_word : (r : Regime) (st : Stage) (left value pa : ℕ) (b : Bool) → is_stage1 st ≡ true → part_of r st left value ≡ table b → left ≤ r.stage1.start → class_by (mapping_of r st left value) (sizes_of r st) left pa ≤ class_of r.stage1.granule r.stage1.start
+near_word : (r : Regime) (st : Stage) (left value pa : ℕ) (b : Bool) → is_stage1 st ≡ true → part_of r st left value ≡ table b → left ≤ r.stage1.start
+    → class_by (mapping_of r st left value) (sizes_of r st) left pa ≤ class_of r.stage1.granule r.stage1.start
 near_word r S1 left value pa b f h l = table_class r (means1_of r.config r.side left value) left pa b h l
 near_word r S2 left value pa b f h l = absurd cc
 
@@ -227,7 +227,7 @@ only_case false x r h = absurd h
 abbrev IsOneOf : Maker → Mark → List Item → List Item → Stage → Part → Row → Type 0
 IsOneOf k m whole part st p r =
     ((st ≡ S1) × (p ≡ table true) × (r ≡ row_of k m table1 whole))
-      ⊎ (((st ≡ S2) × (p ≡ table true) × (r ≡ row_of k m table2 part)) ⊎ ((st ≡ S2) × ((g : Bool) × (p ≡ leaf g true)) × (r ≡ row_of k m leaf2 part)))
+    ⊎ (((st ≡ S2) × (p ≡ table true) × (r ≡ row_of k m table2 part)) ⊎ ((st ≡ S2) × ((g : Bool) × (p ≡ leaf g true)) × (r ≡ row_of k m leaf2 part)))
 
 row_cases : (k : Maker) (m : Mark) (whole part : List Item) (st : Stage) (p : Part) (r : Row) → In r (rows_by k m whole part st p) → IsOneOf k m whole part st p r
 row_cases k m whole part S1 nothing r h = absurd h
@@ -306,13 +306,26 @@ module _ (laws : Laws) (v : View) (s : Step) (none : (i : Inval) → issued_now 
     table1_row : (tr : List Item) (u : Ask Need Item (End Landing)) (ws : List Mark) (m : Mark) (rest : List Mark) → IsOn R (here v a) tr u → marks R (here v a) tr ≡ ws ++ m ∷ []
         → m.item.moment ≡ now v → is_first m ≡ true → m.part ≡ table true → m.base ≡ false → HeldNow m → AllUsed (Good v) None (ws ++ m ∷ rest) → IsRow (longer v s) inbox (row_with (key_of regs) m table1 tr)
     table1_row tr u ws m rest on is at first part base held used =
-        let r : Row = row_with (key_of regs) m table1 tr in
-        (refl, λ b suits.
-          let t = laws.first_table (config_at v) a b tr u ws m suits.on suits.accepted on is first part suits.held in
-          let e : side_of b.va ≡ v.side = table_side (config_at v) a b tr ws m suits.accepted is t.same first part ∙ sym side in
-          record { plan = t.plan; on = t.on; sound = t.sound; late = t.late; front = ws; last = m; is = t.same; first = first; word = base; not_leaf = ap is_leaf part;
-            stored = front_first (Good v) (Then (side_of b.va) r) (λ x u. closed (side_of b.va) r refl refl x u (both_same v.side (side_of b.va) x e)) None ws m rest first
-              (last (side_of b.va) r refl refl m (both_same v.side (side_of b.va) m e) at base refl (λ n. (refl, refl)) held) used })
+        let r : Row = row_with (key_of regs) m table1 tr in (
+          refl,
+          λ b suits.
+              let t = laws.first_table (config_at v) a b tr u ws m suits.on suits.accepted on is first part suits.held in
+              let e : side_of b.va ≡ v.side = table_side (config_at v) a b tr ws m suits.accepted is t.same first part ∙ sym side in
+              record {
+                plan = t.plan;
+                on = t.on;
+                sound = t.sound;
+                late = t.late;
+                front = ws;
+                last = m;
+                is = t.same;
+                first = first;
+                word = base;
+                not_leaf = ap is_leaf part;
+                stored = front_first (Good v) (Then (side_of b.va) r) (λ x u. closed (side_of b.va) r refl refl x u (both_same v.side (side_of b.va) x e)) None ws m rest first
+                    (last (side_of b.va) r refl refl m (both_same v.side (side_of b.va) m e) at base refl (λ n. (refl, refl)) held) used;
+              },
+        )
 
     module _ (p : Bool) (x : ℕ) (ref : is_refused2 (config_at v) x ≡ false) (part : List Item) (u : Ask Need Item (End Leaf2)) (pm : List Mark) (m : Mark) (rest : List Mark) (above : Option ℕ)
         (on : IsOn R (chain R p x) part u) (is : marks R (chain R p x) part ≡ pm ++ m ∷ []) (sec : AllSecond pm)
@@ -324,14 +337,22 @@ module _ (laws : Laws) (v : View) (s : Step) (none : (i : Inval) → issued_now 
           (last t r refl refl m (both_second v.side t m first) at base refl (λ n. second_asid m first n) held) used
 
       leaf2_row : (g : Bool) → m.part ≡ leaf g true → IsRow (longer v s) inbox (row_with key2 m leaf2 part)
-      leaf2_row g lf = (refl, refl, λ t q y holds.
-          let l = laws.chain_leaf (config_at v) (side_of a.va) t p q x y part u pm m g ref on is lf holds in
-          record { leaf = l.leaf_at; on = l.on; class_is = l.class_is; stored = subst (AllUsed (Then t (row_with key2 m leaf2 part)) None) (sym l.same) (stored2 leaf2 t) })
+      leaf2_row g lf = (
+        refl,
+        refl,
+        λ t q y holds.
+            let l = laws.chain_leaf (config_at v) (side_of a.va) t p q x y part u pm m g ref on is lf holds in
+            record { leaf = l.leaf_at; on = l.on; class_is = l.class_is; stored = subst (AllUsed (Then t (row_with key2 m leaf2 part)) None) (sym l.same) (stored2 leaf2 t) },
+      )
 
       table2_row : m.part ≡ table true → IsRow (longer v s) inbox (row_with key2 m table2 part)
-      table2_row tab = (refl, refl, λ t q y holds.
-          let l = laws.chain_table (config_at v) (side_of a.va) t p q x y part u pm m ref on is tab holds in
-          record { need = l.need; go = l.go; words = l.words; on = l.on; stored = subst (AllUsed (Then t (row_with key2 m table2 part)) None) (sym l.same) (stored2 table2 t) })
+      table2_row tab = (
+        refl,
+        refl,
+        λ t q y holds.
+            let l = laws.chain_table (config_at v) (side_of a.va) t p q x y part u pm m ref on is tab holds in
+            record { need = l.need; go = l.go; words = l.words; on = l.on; stored = subst (AllUsed (Then t (row_with key2 m table2 part)) None) (sym l.same) (stored2 table2 t) },
+      )
 
     -- THE ROWS OF A TRAIL
 
@@ -351,7 +372,7 @@ module _ (laws : Laws) (v : View) (s : Step) (none : (i : Inval) → issued_now 
     uses_on : (whole : List Item) (n : Need) (k : Item → Walk) (y : Item) (ys : List Item) → IsOn R (here v a) whole (ask n k) → Uses1 whole (ask n k) (y ∷ ys) → Uses1 (whole ++ y ∷ []) (k y) ys
     uses_on whole n k y ys on h =
         let e = ap (λ x. x ++ marks R (k y) ys) (marks_append R (here v a) (ask n k) whole (y ∷ []) on) ∙ append_assoc (marks R (here v a) whole) (mark R n y ∷ marks R (k y) []) (marks R (k y) ys)
-                ∙ ap (λ x. marks R (here v a) whole ++ mark R n y ∷ (x ++ marks R (k y) ys)) (marks_nil R (k y)) in
+        ∙ ap (λ x. marks R (here v a) whole ++ mark R n y ∷ (x ++ marks R (k y) ys)) (marks_nil R (k y)) in
         subst (AllUsed (Good v) None) (sym e) h
 
     stage_first : (m : Mark) (b : Bool) (st : Stage) → m.stage ≡ st → is_first m ≡ b → is_stage1 st ≡ b
@@ -422,7 +443,7 @@ module _ (laws : Laws) (v : View) (s : Step) (none : (i : Inval) → issued_now 
           let pm : List Mark = marks R (chain R p x) part in
           let rest : List Mark = marks R (after (k y) go) ys in
           let eq : marks R (chain R p x) (part ++ y ∷ []) ++ rest ≡ pm ++ mark R n y ∷ rest =
-              ap (λ z. z ++ rest) (marks_append R (chain R p x) (ask n k) part (y ∷ []) q ∙ ap (λ z. pm ++ mark R n y ∷ z) (marks_nil R (k y))) ∙ append_assoc pm (mark R n y ∷ []) rest in
+          ap (λ z. z ++ rest) (marks_append R (chain R p x) (ask n k) part (y ∷ []) q ∙ ap (λ z. pm ++ mark R n y ∷ z) (marks_nil R (k y))) ∙ append_assoc pm (mark R n y ∷ []) rest in
           rows_more n y false false whole part rest words.0 words.1
           (second_item p x ref (whole ++ y ∷ []) part n k y rest above words.0 q h.0 u2)
           (rows_chain (k y) (whole ++ y ∷ []) (part ++ y ∷ []) ys above (words.2 y) (on_append R (chain R p x) (ask n k) (k y) part (y ∷ []) q (h.0, refl))
@@ -484,5 +505,5 @@ module _ (laws : Laws) (v : View) (s : Step) (none : (i : Inval) → issued_now 
         let p : Plan = laws.plan (config_at v) true a in
         let e : flat R p ≡ here v a = laws.plan_is (config_at v) true a in
         let go : IsOn R (flat R p) trail u → AllUsed (Good v) None (marks R (flat R p) trail) → All (rows_of maker [] [] (marks R (flat R p) trail)) = λ on2 used2.
-            rows_plan p (laws.sound (config_at v) true a) [] [] trail u e on2 (subst (λ z. AllUsed (Good v) None (z ++ marks R (flat R p) trail)) (sym (marks_nil R (here v a))) used2) in
+        rows_plan p (laws.sound (config_at v) true a) [] [] trail u e on2 (subst (λ z. AllUsed (Good v) None (z ++ marks R (flat R p) trail)) (sym (marks_nil R (here v a))) used2) in
         subst (λ t. IsOn R t trail u → AllUsed (Good v) None (marks R t trail) → All (rows_of maker [] [] (marks R t trail))) e go on used
