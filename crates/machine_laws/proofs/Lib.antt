@@ -14,3 +14,9 @@ pub mod Logs
 pub mod Lasting
 pub mod Events
 pub mod Theorem
+pub mod Fronts
+pub mod Longer
+pub mod Making
+pub mod Combined
+pub mod Added
+pub mod Makes
