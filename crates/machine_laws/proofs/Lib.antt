@@ -14,3 +14,4 @@ pub mod Logs
 pub mod Lasting
 pub mod Events
 pub mod Theorem
+pub mod Sets
