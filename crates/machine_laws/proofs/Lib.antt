@@ -15,3 +15,4 @@ pub mod Lasting
 pub mod Events
 pub mod Theorem
 pub mod Sets
+pub mod Rules
