@@ -15,4 +15,6 @@ pub mod Lasting
 pub mod Events
 pub mod Theorem
 pub mod Sets
-pub mod Rules
+pub mod Quiet
+pub mod Own
+pub mod Outlived

@@ -1,9 +1,10 @@
--- What a step leaves as it was, what a barrier empties, and that a row serves only under its own fields and VMID.
+-- A row serves only under its own register fields and VMID.
 use Rattle.std.proofs.Common.{◌≡◌, ℕ, suc, ◌<◌, Bool, true, false, not, cond, List, [], ◌∷◌, ◌++◌, length, inl, inr, refl, sym, ap, ◌∙◌, subst, arith, Option, Some, None}
 use Rattle.std.specs.Prelude.{filter, get_or, All, ◌==◌, ◌&&◌, ◌||◌}
 use Rattle.std.proofs.lemmas.Bool.{and_from, and_parts, cases_Bool, both_ways, eqb-true, not-true}
 use Rattle.std.proofs.lemmas.List.Elements.{All-nil, All-cons, All-head, All-tail, filter_passes, All-weaker}
 use Rattle.sysregs.specs.Registers.{config_of, vmid_of}
+use Rattle.sysregs.specs.Sides.{side_of}
 use Rattle.trails.specs.declared.item.Item.{Item}
 use Rattle.trails.specs.declared.outcome.Access.{Access}
 use Rattle.trails.specs.declared.event.Event.{Event}
@@ -32,67 +33,6 @@ use Rattle.machine_laws.proofs.Facts.{In}
 use Rattle.machine_laws.proofs.Lists.{In-filter, In-from_filter}
 use Rattle.machine_laws.proofs.Equal.{fields_same}
 use Rattle.machine_laws.proofs.Found.{In-matching, In-deepest, NamesLive, serve_live, taken_none}
-
--- WHAT STAYS AS IT WAS
-
-pub quiet_events_keep_rows : QuietEventsKeepRows
-unfolding acted
-quiet_events_keep_rows h w (Store core pa value) q c v = (refl, refl)
-quiet_events_keep_rows h w (Msr core reg value) q c v = (refl, refl)
-quiet_events_keep_rows h w (Settle core) q c v = (refl, refl)
-quiet_events_keep_rows h w (Isb core) q c v = (refl, refl)
-quiet_events_keep_rows h w (Tlbi core from op shared operand) q c v = absurd q
-quiet_events_keep_rows h w (Dsb core kind) q c v = absurd q
-quiet_events_keep_rows h w (Deliver core) q c v = absurd q
-quiet_events_keep_rows h w (AccessOf core access) q c v = absurd q
-quiet_events_keep_rows h w (Prefetch core access) q c v = absurd q
-
--- rows move by a service under lru alone
-pub none_touched : (policy : Policy) (rows : List Row) → touched policy rows [] ≡ rows
-none_touched Lru rows = refl
-none_touched Fifo rows = refl
-none_touched (Random start) rows = refl
-
-none_moved : (policy : Policy) → (policy ≡ Lru → ⊥) → (rows served : List Row) → touched policy rows served ≡ rows
-none_moved Lru other rows served = absurd (other refl)
-none_moved Fifo other rows served = refl
-none_moved (Random start) other rows served = refl
-
-with_rows : (l : Cache) (rows : List Row) → rows ≡ l.rows → (b : Bool) → cond b (record l { rows = rows }) l ≡ l
-with_rows l rows e true = ap (λ (rs : List Row). record { rows = rs; evictions = l.evictions }) e
-with_rows l rows e false = refl
-
-pub no_rows_made_changes_none : NoRowsMadeChangesNone
-no_rows_made_changes_none h c l = (
-  with_rows l (touched h.policy l.rows []) (none_touched h.policy l.rows) (keeps_rows h.size),
-  λ served other. with_rows l (touched h.policy l.rows served) (none_moved h.policy other l.rows served) (keeps_rows h.size))
-
--- a test that all pass leaves all
-pub all_pass : {X : Type 0} (p : X → Bool) (xs : List X) → All (λ x. p x ≡ true) xs → filter p xs ≡ xs
-all_pass p [] all = refl
-all_pass p (x ∷ xs) all = rw (All-head (λ y. p y ≡ true) x xs all) (ap (λ ys. x ∷ ys) (all_pass p xs (All-tail (λ y. p y ≡ true) x xs all)))
-
-pub nothing_covered_changes_nothing : NothingCoveredChangesNothing
-nothing_covered_changes_nothing l i all =
-    ap (λ (rs : List Row). record { rows = rs; evictions = l.evictions })
-    (all_pass (λ (r : Row). not (covers i r.tag)) l.rows
-      (All-weaker (λ (r : Row). covers i r.tag ≡ false) (λ (r : Row). not (covers i r.tag) ≡ true) (λ r e. ap not e) l.rows all))
-
--- WHAT A BARRIER EMPTIES
-
-other_issuer : (a b : Bool) → not (a && (true || b)) ≡ true → a ≡ false
-other_issuer true b h = sym h
-other_issuer false b h = refl
-
-pub barrier_empties_inboxes : BarrierEmptiesInboxes
-unfolding acted completes
-barrier_empties_inboxes h w core c v =
-    All-weaker (λ (i : Inval). not (completes (Dsb core Ish) i) ≡ true) (λ (i : Inval). (core == i.issuer) ≡ false)
-    (λ i e. other_issuer (core == i.issuer) (not i.broadcast) e)
-    (filter (λ (i : Inval). not (completes (Dsb core Ish) i)) v.inbox)
-    (filter_passes (λ (i : Inval). not (completes (Dsb core Ish) i)) v.inbox)
-
--- WHICH ROWS SERVE
 
 -- the register fields and the VMID are those of a key
 abbrev pub is_own : Key → Row → Bool
@@ -154,7 +94,7 @@ module _ (p : Place) (a : Access) where
       In-filter (is_own k) p.rows r m.0 (own_if kind k x r (and_parts (matches kind k x r) (r.global || (r.key.asid == k.asid)) m.1).0)
 
   fresh_named : (n : Need) → NamesLive own_rows (fresh_of p a n)
-  fresh_named n = supplied_none own_rows (given p.regs (Rattle.sysregs.specs.Sides.side_of a.va) p.memory p.step n)
+  fresh_named n = supplied_none own_rows (given p.regs (side_of a.va) p.memory p.step n)
 
   supply_named : (n : Need) → NamesLive own_rows (supply p a n)
   supply_named base1 = fresh_named base1
