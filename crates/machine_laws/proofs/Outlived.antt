@@ -1,8 +1,8 @@
 -- Behind a broadcast VMALLS12E1 and the barrier of its issuer no core has a row of its VMID that was made before it.
 use Rattle.std.proofs.Common.{◌≡◌, ℕ, ◌+◌, ◌<◌, ◌⊎◌, Bool, true, false, not, cond, List, [], ◌∷◌, ◌++◌, length, inl, inr, refl, sym, ap, ◌∙◌, subst, arith, Option, Some, None}
-use Rattle.std.specs.Prelude.{filter, fold, nat_lt, All, get_or, replicate, ◌==◌, ◌&&◌, ◌||◌}
+use Rattle.std.specs.Prelude.{filter, fold, nat_lt, All, ◌==◌, ◌&&◌}
 use Rattle.std.proofs.lemmas.Bool.{both_ways, cases_Bool, eq-eqb, not-true}
-use Rattle.std.proofs.lemmas.List.{length-append, length-replicate, get_or-replicate}
+use Rattle.std.proofs.lemmas.List.{length-replicate, get_or-replicate}
 use Rattle.std.proofs.lemmas.List.Sums.{fold_push, fold-append}
 use Rattle.sysregs.specs.declared.regs.Regs.{Regs}
 use Rattle.sysregs.specs.declared.regs.Op.TheVariants.{Vmalls12e1}
@@ -24,22 +24,21 @@ use Rattle.walk_spec.specs.Needs.{Need, regime_of}
 use Rattle.walk_spec.specs.Steps.{End, stops, reaches}
 use Rattle.walk_spec.specs.Stage1.{untagged}
 use Rattle.walk_spec.specs.BothStages.{Landing, walk}
-use Rattle.machine_spec.specs.Header.{Header, Kind, leaf1, table1, leaf2, table2}
-use Rattle.machine_spec.specs.Invalidations.{is_at_el1, issued_by, completes}
+use Rattle.machine_spec.specs.Header.{Header, Kind, table1, leaf2, table2}
+use Rattle.machine_spec.specs.Invalidations.{issued_by, completes}
 use Rattle.machine_spec.specs.Marks.{Part, nothing, table, leaf, Mark, marks, is_leaf1 as is_mark_leaf1}
 use Rattle.machine_spec.specs.Rows.{Row}
 use Rattle.machine_spec.specs.Made.{Maker, key_of, key_for, only_if, row_of, rows_by, is_read_now, chain_with, rows_of, last_first, leaf_row, leaf_rows, combined_rows, numbered, rows_made}
-use Rattle.machine_spec.specs.Sets.{Cache, filled}
+use Rattle.machine_spec.specs.Sets.{Cache}
 use Rattle.machine_spec.specs.Served.{Place, Reply, Stop, came, clash, served}
-use Rattle.machine_spec.specs.Machine.{Core, World, no_core, killed, delivered_by, delivered, most_held, posted, mailed, mailed_by, finished, Seat, made_by, visited_by, visited, seat_of, core_of, regs_in, accessed, acted, moved, at_each, after_event, opened, world_after}
-use Rattle.machine_laws.specs.Headline.{AreOfCores}
+use Rattle.machine_spec.specs.Machine.{Core, World, no_core, killed, delivered_by, delivered, most_held, posted, mailed, mailed_by, finished, Seat, made_by, visited_by, seat_of, core_of, regs_in, accessed, acted, moved, after_event, opened, world_after}
 use Rattle.machine_laws.specs.Rules.{NoRowOutlivesItsVmid}
 use Rattle.machine_laws.proofs.Facts.{In}
 use Rattle.machine_laws.proofs.Lists.{In-filter, In-from_filter, In-left, In-last, In-append}
 use Rattle.machine_laws.proofs.Events.{each_at, each_length}
 use Rattle.machine_laws.proofs.Sets.{In-filled}
 use Rattle.machine_laws.proofs.Quiet.{barrier_empties_inboxes}
-use Rattle.machine_laws.proofs.Own.{is_own, own_rows, served_own, all_of_in, in_of_all}
+use Rattle.machine_laws.proofs.Own.{is_own, served_own, all_of_in, in_of_all}
 
 -- THE ROWS THAT A STEP MAKES
 
@@ -153,10 +152,12 @@ delivered_come : (n : ℕ) (v : Core) (inbox : List Inval) → v.inbox ≡ inbox
 delivered_come n v [] e = same_come n v
 delivered_come n v (i ∷ later) e = λ r h.
     let p = In-from_filter (λ (x : Row). not (covers i x.tag)) v.cache.rows r h in
-    inl (p.0,
-        λ j m cov.
-            let m2 : In j (i ∷ later) = subst (In j) e m in
-            elim m2 [ inl q ↦ absurd (covered_not (covers i r.tag) p.1 (subst (λ x. covers x r.tag ≡ true) q cov)) | inr q ↦ q ])
+    inl (
+      p.0,
+      λ j m cov.
+          let m2 : In j (i ∷ later) = subst (In j) e m in
+          elim m2 [ inl q ↦ absurd (covered_not (covers i r.tag) p.1 (subst (λ x. covers x r.tag ≡ true) q cov)) | inr q ↦ q ],
+    )
 
 posted_come : (n : ℕ) (v u : Core) (i : Inval) → AllCome n v u → AllCome n v (posted u i)
 posted_come n v u i h r m = elim (h r m) [
@@ -187,10 +188,13 @@ rows_left (j ∷ js) l r h =
 finished_come : (n : ℕ) (v : Core) (e : Event) → AllCome n v (finished v e)
 finished_come n v e r h =
     let p = rows_left (filter (completes e) v.inbox) v.cache r h in
-    inl (p.0, λ i m cov. elim (cases_Bool (completes e i)) [
-      | inl t ↦ absurd (p.1 i (In-filter (completes e) v.inbox i m t) cov)
-      | inr t ↦ In-filter (λ i. not (completes e i)) v.inbox i m (ap not t)
-    ])
+    inl (
+      p.0,
+      λ i m cov. elim (cases_Bool (completes e i)) [
+        | inl t ↦ absurd (p.1 i (In-filter (completes e) v.inbox i m t) cov)
+        | inr t ↦ In-filter (λ i. not (completes e i)) v.inbox i m (ap not t)
+      ],
+    )
 
 delivered_if : (n : ℕ) (v : Core) (own : Bool) → AllCome n v (cond own (delivered v) v)
 delivered_if n v true = delivered_come n v v.inbox refl
@@ -250,11 +254,12 @@ record IsTagged (h : Header) (w : World) : Type 0 where
   count : length w.cores ≡ h.cores
   tags : (c : ℕ) → c < h.cores → (r : Row) → In r (core_of w c).cache.rows → r.tag.vmid ≡ r.key.vmid
 
--- a machine behind a step that issued an invalidation: at a core that hasn't done it yet it is in the inbox, and each row of
--- the VMID at another core was made behind that step
+-- a machine behind a step that issued an invalidation: where a core still has a row of the VMID that was made before that
+-- step, or in it, the invalidation is in its inbox
 record IsBehind (h : Header) (w : World) (step vmid : ℕ) (i : Inval) : Type 0 where
   past : step < w.step
-  rows : (c : ℕ) → c < h.cores → (r : Row) → In r (core_of w c).cache.rows → r.key.vmid ≡ vmid → In i (core_of w c).inbox ⊎ (step < r.made.step)
+  rows : (c : ℕ) → c < h.cores → (r : Row) → In r (core_of w c).cache.rows → r.key.vmid ≡ vmid
+      → In i (core_of w c).inbox ⊎ (step < r.made.step)
 
 module _ (h : Header) where
   moved_at : (w : World) → length w.cores ≡ h.cores → (e : Event) (c : ℕ) → c < h.cores
@@ -312,7 +317,9 @@ module _ (h : Header) where
       → IsBehind h (after_event h w (issue core)) w.step (vmid_of (regs_in w core)) (whole (regs_in w core) core w.step)
   behind_issue w count core = record {
     past = omega arith;
-    rows = λ c lt r m same. inl (subst (λ (v : Core). In (whole (regs_in w core) core w.step) v.inbox) (sym (moved_at w count (issue core) c lt)) (comes_in w core c (core_of w c)));
+    rows = λ c lt r m same.
+        let i : Inval = whole (regs_in w core) core w.step in
+        inl (subst (λ (v : Core). In i v.inbox) (sym (moved_at w count (issue core) c lt)) (comes_in w core c (core_of w c)));
   }
 
   -- behind the barrier it is in no inbox
@@ -321,8 +328,9 @@ module _ (h : Header) where
   gone w count regs core step c lt m =
       let i : Inval = whole regs core step in
       let at : In i (moved h w (Dsb core Ish) c (core_of w c)).inbox = subst (λ (v : Core). In i v.inbox) (moved_at w count (Dsb core Ish) c lt) m in
+      let empty = barrier_empties_inboxes h w core c (core_of w c) in
       both_ways (core == i.issuer)
-      (in_of_all (λ (j : Inval). (core == j.issuer) ≡ false) (moved h w (Dsb core Ish) c (core_of w c)).inbox (barrier_empties_inboxes h w core c (core_of w c)) i at)
+      (in_of_all (λ (j : Inval). (core == j.issuer) ≡ false) (moved h w (Dsb core Ish) c (core_of w c)).inbox empty i at)
       (issuer_is regs core step)
 
   world_is : (before between : List Event) (core : ℕ) → world_after h (before ++ issue core ∷ (between ++ Dsb core Ish ∷ []))
@@ -347,7 +355,7 @@ module _ (h : Header) where
         let t2 = tagged_on first t (issue core) in
         let t3 : IsTagged h w = subst (IsTagged h) (sym e) (tagged_from between (after_event h first (issue core)) t2) in
         let b3 : IsBehind h w first.step vmid_then i = subst (λ u. IsBehind h u first.step vmid_then i) (sym e)
-            (behind_from first.step vmid_then i cover between (after_event h first (issue core)) t2 (behind_issue first t.count core)) in
+        (behind_from first.step vmid_then i cover between (after_event h first (issue core)) t2 (behind_issue first t.count core)) in
         elim ((behind_on first.step vmid_then i cover w t3 b3 (Dsb core Ish)).rows c lt r m same) [
           | inl k ↦ absurd (gone w t3.count (regs_in first core) core first.step c lt k)
           | inr late ↦ omega (arith, late, steps_from before (opened h))
@@ -356,8 +364,9 @@ module _ (h : Header) where
 -- Behind a broadcast VMALLS12E1 and a later DSB ISH of its issuer no core has a row of its VMID that was made before it.
 pub no_row_outlives_its_vmid : NoRowOutlivesItsVmid
 no_row_outlives_its_vmid h before between core own c lt =
+    let before_dsb : World = fold (after_event h) (after_event h (world_after h before) (issue core)) between in
     subst (λ (w : World). All (λ r. r.key.vmid ≡ vmid_of (regs_in (world_after h before) core) → length before < r.made.step) (core_of w c).cache.rows)
     (sym (world_is h before between core))
     (all_of_in (λ (r : Row). r.key.vmid ≡ vmid_of (regs_in (world_after h before) core) → length before < r.made.step)
-      (core_of (after_event h (fold (after_event h) (after_event h (world_after h before) (issue core)) between) (Dsb core Ish)) c).cache.rows
-      (λ r m same. late_rows h before between core c lt (fold (after_event h) (after_event h (world_after h before) (issue core)) between) refl r m same))
+    (core_of (after_event h before_dsb (Dsb core Ish)) c).cache.rows
+    (λ r m same. late_rows h before between core c lt before_dsb refl r m same))

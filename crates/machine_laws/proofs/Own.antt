@@ -1,34 +1,24 @@
 -- A row serves only under its own register fields and VMID.
-use Rattle.std.proofs.Common.{◌≡◌, ℕ, suc, ◌<◌, Bool, true, false, not, cond, List, [], ◌∷◌, ◌++◌, length, inl, inr, refl, sym, ap, ◌∙◌, subst, arith, Option, Some, None}
-use Rattle.std.specs.Prelude.{filter, get_or, All, ◌==◌, ◌&&◌, ◌||◌}
-use Rattle.std.proofs.lemmas.Bool.{and_from, and_parts, cases_Bool, both_ways, eqb-true, not-true}
-use Rattle.std.proofs.lemmas.List.Elements.{All-nil, All-cons, All-head, All-tail, filter_passes, All-weaker}
+use Rattle.std.proofs.Common.{◌≡◌, ℕ, Bool, true, false, not, cond, List, [], ◌∷◌, inl, inr, refl, sym, subst, Option, Some, None}
+use Rattle.std.specs.Prelude.{filter, All, ◌==◌, ◌&&◌, ◌||◌}
+use Rattle.std.proofs.lemmas.Bool.{and_from, and_parts, eqb-true}
+use Rattle.std.proofs.lemmas.List.Elements.{All-nil, All-cons, All-head, All-tail}
 use Rattle.sysregs.specs.Registers.{config_of, vmid_of}
 use Rattle.sysregs.specs.Sides.{side_of}
 use Rattle.trails.specs.declared.item.Item.{Item}
 use Rattle.trails.specs.declared.outcome.Access.{Access}
-use Rattle.trails.specs.declared.event.Event.{Event}
-use Rattle.trails.specs.declared.event.Event.TheVariants.{Store, Msr, Settle, Isb, Tlbi, Dsb, Deliver, Access as AccessOf, Prefetch}
-use Rattle.trails.specs.declared.event.Barrier.TheVariants.{Ish}
-use Rattle.trace_lang.specs.declared.header.Policy.{Policy}
-use Rattle.trace_lang.specs.declared.header.Policy.TheVariants.{Lru, Fifo, Random}
 use Rattle.tagged_tlb.specs.declared.row.Key.{Key}
-use Rattle.tlbi_ops.specs.declared.inval.Inval.{Inval}
-use Rattle.tlbi_ops.specs.Covers.{covers}
-use Rattle.walk_spec.specs.Ask.{Ask, done, ask}
+use Rattle.walk_spec.specs.Ask.{Ask}
 use Rattle.walk_spec.specs.Needs.{Need, base1, base2, word}
 use Rattle.walk_spec.specs.Steps.{End}
 use Rattle.walk_spec.specs.Stage1.{untagged}
 use Rattle.walk_spec.specs.BothStages.{Landing, is_refused1, walk}
 use Rattle.walk_spec.specs.Fresh.{given}
-use Rattle.machine_spec.specs.Header.{Header, Kind, leaf1, table1, leaf2, table2, keeps_rows}
-use Rattle.machine_spec.specs.Invalidations.{completes}
+use Rattle.machine_spec.specs.Header.{Kind, leaf1, table1, leaf2, table2}
 use Rattle.machine_spec.specs.Rows.{Row, same_fields, same_kind, holds, matches, matches1, matching, deepest}
 use Rattle.machine_spec.specs.Made.{key_of}
-use Rattle.machine_spec.specs.Sets.{Cache, touched, filled}
-use Rattle.machine_spec.specs.Served.{Place, Supplied, supplied_by, chain_by, begun2, chain_of, fresh_of, supply, Reply, serve, taken, begun1, combined, served}
-use Rattle.machine_spec.specs.Machine.{Core, World, killed, finished, acted, moved}
-use Rattle.machine_laws.specs.Rules.{IsQuiet, QuietEventsKeepRows, NoRowsMadeChangesNone, NothingCoveredChangesNothing, BarrierEmptiesInboxes, RowsServeTheirOwn}
+use Rattle.machine_spec.specs.Served.{Place, Supplied, supplied_by, chain_by, begun2, chain_of, fresh_of, supply, serve, begun1, combined, served}
+use Rattle.machine_laws.specs.Rules.{RowsServeTheirOwn}
 use Rattle.machine_laws.proofs.Facts.{In}
 use Rattle.machine_laws.proofs.Lists.{In-filter, In-from_filter}
 use Rattle.machine_laws.proofs.Equal.{fields_same}
@@ -116,20 +106,24 @@ module _ (p : Place) (a : Access) where
   combined_own w (r ∷ []) t hl ht x (inr m) = absurd (taken_none w r.trail x m)
   combined_own w (r ∷ s ∷ more) t hl ht x m = absurd m
 
-  served_if : (on : Bool) (x : Row)
-      → In x (cond on
-          (combined (matching (matches1 leaf1 (key_of p.regs) (untagged a.va)) p.rows) (deepest (matches1 table1 (key_of p.regs) (untagged a.va)) p.rows) (supply p a) (walk (config_of p.regs) true a))
-          (serve (supply p a) [] (walk (config_of p.regs) true a))).by
-      → In x own_rows
-  served_if true x m =
-      combined_own (walk (config_of p.regs) true a) (matching (matches1 leaf1 (key_of p.regs) (untagged a.va)) p.rows)
-      (deepest (matches1 table1 (key_of p.regs) (untagged a.va)) p.rows) (matched1_own leaf1 (untagged a.va)) (deepest1_own table1 (untagged a.va)) x m
-  served_if false x m = serve_live (supply p a) own_rows supply_named (walk (config_of p.regs) true a) [] x m
+  abbrev its_walk : Ask Need Item (End Landing)
+  its_walk = walk (config_of p.regs) true a
+
+  abbrev leaves : List Row
+  leaves = matching (matches1 leaf1 (key_of p.regs) (untagged a.va)) p.rows
+
+  abbrev the_table : Option Row
+  the_table = deepest (matches1 table1 (key_of p.regs) (untagged a.va)) p.rows
+
+  served_if : (on : Bool) (x : Row) → In x (cond on (combined leaves the_table (supply p a) its_walk) (serve (supply p a) [] its_walk)).by → In x own_rows
+  served_if true x m = combined_own its_walk leaves the_table (matched1_own leaf1 (untagged a.va)) (deepest1_own table1 (untagged a.va)) x m
+  served_if false x m = serve_live (supply p a) own_rows supply_named its_walk [] x m
 
   -- a row that served is live, and of the register fields and the VMID
   pub served_own : (x : Row) → In x (served p a).by → In x own_rows
   served_own x m = served_if ((config_of p.regs).m && not (is_refused1 (config_of p.regs) a)) x m
 
+-- `All` by membership, and back
 pub all_of_in : {X : Type 0} (P : X → Type 0) (xs : List X) → ((x : X) → In x xs → P x) → All P xs
 all_of_in P [] h = All-nil P
 all_of_in P (x ∷ xs) h = All-cons P x xs (h x (inl refl)) (all_of_in P xs (λ y i. h y (inr i)))
@@ -143,7 +137,7 @@ pub rows_serve_their_own : RowsServeTheirOwn
 rows_serve_their_own p a =
     all_of_in (λ (r : Row). (r.key.config ≡ config_of p.regs) × (r.key.vmid ≡ vmid_of p.regs)) (served p a).by
     (λ r i.
-      let k : Key = key_of p.regs in
-      let own = (In-from_filter (is_own k) p.rows r (served_own p a r i)).1 in
-      let parts = and_parts (r.key.vmid == k.vmid) (same_fields r.key.config k.config) own in
-      (fields_same r.key.config k.config parts.1, eqb-true r.key.vmid k.vmid parts.0))
+    let k : Key = key_of p.regs in
+    let own = (In-from_filter (is_own k) p.rows r (served_own p a r i)).1 in
+    let parts = and_parts (r.key.vmid == k.vmid) (same_fields r.key.config k.config) own in
+    (fields_same r.key.config k.config parts.1, eqb-true r.key.vmid k.vmid parts.0))

@@ -1,38 +1,19 @@
 -- What a step leaves as it was, and what a barrier empties.
-use Rattle.std.proofs.Common.{◌≡◌, ℕ, suc, ◌<◌, Bool, true, false, not, cond, List, [], ◌∷◌, ◌++◌, length, inl, inr, refl, sym, ap, ◌∙◌, subst, arith, Option, Some, None}
-use Rattle.std.specs.Prelude.{filter, get_or, All, ◌==◌, ◌&&◌, ◌||◌}
-use Rattle.std.proofs.lemmas.Bool.{and_from, and_parts, cases_Bool, both_ways, eqb-true, not-true}
-use Rattle.std.proofs.lemmas.List.Elements.{All-nil, All-cons, All-head, All-tail, filter_passes, All-weaker}
-use Rattle.sysregs.specs.Registers.{config_of, vmid_of}
-use Rattle.sysregs.specs.Sides.{side_of}
-use Rattle.trails.specs.declared.item.Item.{Item}
-use Rattle.trails.specs.declared.outcome.Access.{Access}
-use Rattle.trails.specs.declared.event.Event.{Event}
+use Rattle.std.proofs.Common.{◌≡◌, Bool, true, false, not, cond, List, [], ◌∷◌, refl, sym, ap}
+use Rattle.std.specs.Prelude.{filter, All, ◌==◌, ◌&&◌, ◌||◌}
+use Rattle.std.proofs.lemmas.List.Elements.{All-head, All-tail, filter_passes, All-weaker}
 use Rattle.trails.specs.declared.event.Event.TheVariants.{Store, Msr, Settle, Isb, Tlbi, Dsb, Deliver, Access as AccessOf, Prefetch}
 use Rattle.trails.specs.declared.event.Barrier.TheVariants.{Ish}
 use Rattle.trace_lang.specs.declared.header.Policy.{Policy}
 use Rattle.trace_lang.specs.declared.header.Policy.TheVariants.{Lru, Fifo, Random}
-use Rattle.tagged_tlb.specs.declared.row.Key.{Key}
 use Rattle.tlbi_ops.specs.declared.inval.Inval.{Inval}
 use Rattle.tlbi_ops.specs.Covers.{covers}
-use Rattle.walk_spec.specs.Ask.{Ask, done, ask}
-use Rattle.walk_spec.specs.Needs.{Need, base1, base2, word}
-use Rattle.walk_spec.specs.Steps.{End}
-use Rattle.walk_spec.specs.Stage1.{untagged}
-use Rattle.walk_spec.specs.BothStages.{Landing, is_refused1, walk}
-use Rattle.walk_spec.specs.Fresh.{given}
-use Rattle.machine_spec.specs.Header.{Header, Kind, leaf1, table1, leaf2, table2, keeps_rows}
+use Rattle.machine_spec.specs.Header.{keeps_rows}
 use Rattle.machine_spec.specs.Invalidations.{completes}
-use Rattle.machine_spec.specs.Rows.{Row, same_fields, same_kind, holds, matches, matches1, matching, deepest}
-use Rattle.machine_spec.specs.Made.{key_of}
-use Rattle.machine_spec.specs.Sets.{Cache, touched, filled}
-use Rattle.machine_spec.specs.Served.{Place, Supplied, supplied_by, chain_by, begun2, chain_of, fresh_of, supply, Reply, serve, taken, begun1, combined, served}
-use Rattle.machine_spec.specs.Machine.{Core, World, killed, finished, acted, moved}
-use Rattle.machine_laws.specs.Rules.{IsQuiet, QuietEventsKeepRows, NoRowsMadeChangesNone, NothingCoveredChangesNothing, BarrierEmptiesInboxes, RowsServeTheirOwn}
-use Rattle.machine_laws.proofs.Facts.{In}
-use Rattle.machine_laws.proofs.Lists.{In-filter, In-from_filter}
-use Rattle.machine_laws.proofs.Equal.{fields_same}
-use Rattle.machine_laws.proofs.Found.{In-matching, In-deepest, NamesLive, serve_live, taken_none}
+use Rattle.machine_spec.specs.Rows.{Row}
+use Rattle.machine_spec.specs.Sets.{Cache, touched}
+use Rattle.machine_spec.specs.Machine.{acted}
+use Rattle.machine_laws.specs.Rules.{QuietEventsKeepRows, NoRowsMadeChangesNone, NothingCoveredChangesNothing, BarrierEmptiesInboxes}
 
 -- WHAT STAYS AS IT WAS
 
@@ -66,7 +47,8 @@ with_rows l rows e false = refl
 pub no_rows_made_changes_none : NoRowsMadeChangesNone
 no_rows_made_changes_none h c l = (
   with_rows l (touched h.policy l.rows []) (none_touched h.policy l.rows) (keeps_rows h.size),
-  λ served other. with_rows l (touched h.policy l.rows served) (none_moved h.policy other l.rows served) (keeps_rows h.size))
+  λ served other. with_rows l (touched h.policy l.rows served) (none_moved h.policy other l.rows served) (keeps_rows h.size),
+)
 
 -- a test that all pass leaves all
 pub all_pass : {X : Type 0} (p : X → Bool) (xs : List X) → All (λ x. p x ≡ true) xs → filter p xs ≡ xs
@@ -77,7 +59,7 @@ pub nothing_covered_changes_nothing : NothingCoveredChangesNothing
 nothing_covered_changes_nothing l i all =
     ap (λ (rs : List Row). record { rows = rs; evictions = l.evictions })
     (all_pass (λ (r : Row). not (covers i r.tag)) l.rows
-      (All-weaker (λ (r : Row). covers i r.tag ≡ false) (λ (r : Row). not (covers i r.tag) ≡ true) (λ r e. ap not e) l.rows all))
+    (All-weaker (λ (r : Row). covers i r.tag ≡ false) (λ (r : Row). not (covers i r.tag) ≡ true) (λ r e. ap not e) l.rows all))
 
 -- WHAT A BARRIER EMPTIES
 

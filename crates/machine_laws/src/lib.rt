@@ -3,4 +3,8 @@
 
 mod rules;
 
-pub use rules::{barrier_empties_inboxes, full_sets_lose_one, no_row_outlives_its_vmid, no_rows_made_changes_none, nothing_covered_changes_nothing, quiet_events_keep_rows, rows_serve_their_own};
+pub use rules::{
+    barrier_empties_inboxes, full_sets_lose_one, no_row_outlives_its_vmid,
+    no_rows_made_changes_none, nothing_covered_changes_nothing, quiet_events_keep_rows,
+    rows_serve_their_own,
+};

@@ -1,4 +1,5 @@
-ghost use Rattle.machine_laws.specs.Rules.{QuietEventsKeepRows, NoRowsMadeChangesNone, NothingCoveredChangesNothing, BarrierEmptiesInboxes, NoRowOutlivesItsVmid, RowsServeTheirOwn, FullSetsLoseOne};
+ghost use Rattle.machine_laws.specs.Rules.{QuietEventsKeepRows, NoRowsMadeChangesNone, NothingCoveredChangesNothing, BarrierEmptiesInboxes};
+ghost use Rattle.machine_laws.specs.Rules.{NoRowOutlivesItsVmid, RowsServeTheirOwn, FullSetsLoseOne};
 
 /// Stores, register writes and ISB leave the inbox and the rows of every core.
 pub fn quiet_events_keep_rows()
