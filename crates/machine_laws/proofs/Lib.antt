@@ -20,3 +20,7 @@ pub mod Making
 pub mod Combined
 pub mod Added
 pub mod Makes
+pub mod Sets
+pub mod Quiet
+pub mod Own
+pub mod Outlived

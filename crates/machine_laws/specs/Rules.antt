@@ -39,7 +39,7 @@ QuietEventsKeepRows =
     (h : Header) (w : World) (e : Event) → IsQuiet e → (c : ℕ) (v : Core) →
     ((moved h w e c v).inbox ≡ v.inbox) × ((moved h w e c v).cache ≡ v.cache)
 
--- A step that serves by no row and makes none changes no row; one that makes none keeps each row that it had.
+-- A step that serves by no row and makes none changes no row, and unless the policy is lru one that makes none doesn't either.
 abbrev pub NoRowsMadeChangesNone : Type 0
 NoRowsMadeChangesNone =
     (h : Header) (c : ℕ) (l : Cache) →
@@ -68,8 +68,9 @@ RowsServeTheirOwn = (p : Place) (a : Access) → All (λ r. (r.key.config ≡ co
 
 -- A full set loses the row that the policy names and gets the new one, and a set that isn't full loses none.
 pub record SetLoses (h : Header) (c : ℕ) (s : Shape) (l : Cache) (r : Row) : Type 0 where
-  pub full : nat_le s.ways (length (filter (same_set s r) l.rows)) ≡ true → same_set s r r ≡ true →
+  pub full : nat_le s.ways (length (filter (same_set s r) l.rows)) ≡ true →
     filter (same_set s r) (placed h c s l r).rows ≡ remove (filter (same_set s r) l.rows) (victim h.policy c l.evictions s.ways) ++ r ∷ []
+  pub one : 0 < s.ways → victim h.policy c l.evictions s.ways < s.ways
   pub room : nat_le s.ways (length (filter (same_set s r) l.rows)) ≡ false → (placed h c s l r).rows ≡ l.rows ++ r ∷ []
   pub others : (test : Row → Bool) → ((x : Row) → test x ≡ true → same_set s r x ≡ false) → filter test (placed h c s l r).rows ≡ filter test l.rows
 

@@ -1,2 +1,10 @@
 //! Laws of the machine's definitions: every step of every run is allowed. Each law stands on a function that does nothing.
 #![tactic(auto)]
+
+mod rules;
+
+pub use rules::{
+    barrier_empties_inboxes, full_sets_lose_one, no_row_outlives_its_vmid,
+    no_rows_made_changes_none, nothing_covered_changes_nothing, quiet_events_keep_rows,
+    rows_serve_their_own,
+};

@@ -1,0 +1,187 @@
+-- What a full set loses when a row is made, and which rows a step leaves.
+use Rattle.std.proofs.Common.{◌≡◌, ℕ, zero, suc, ◌+◌, ◌<◌, ◌/◌, ◌^◌, arith, Bool, true, false, cond, List, [], ◌∷◌, ◌++◌, length, ◌⊎◌, inl, inr, refl, sym, ap, ◌∙◌, subst, append-nil}
+use Rattle.std.specs.Prelude.{filter, fold, nat_le, not, ◌==◌, ◌%◌}
+use Rattle.std.specs.List.{remove, list_any}
+use Rattle.std.proofs.lemmas.Bool.{and_from, both_ways, cases_Bool, eq-eqb}
+use Rattle.std.proofs.lemmas.List.Elements.{filter-append}
+use Rattle.trace_lang.specs.declared.header.Policy.{Policy}
+use Rattle.trace_lang.specs.declared.header.Policy.TheVariants.{Lru, Fifo, Random}
+use Rattle.machine_spec.specs.Header.{Header, Kind, leaf1, table1, leaf2, table2, Shape, shape_of, keeps_rows}
+use Rattle.machine_spec.specs.Rows.{Row, same_kind}
+use Rattle.machine_spec.specs.Sets.{Cache, drawn, victim, without, same_set, same_key, placed, added, is_row, to_end, touched, filled}
+use Rattle.machine_laws.specs.Rules.{SetLoses, FullSetsLoseOne}
+use Rattle.machine_laws.proofs.Facts.{In}
+use Rattle.machine_laws.proofs.Lists.{In-from_filter, In-push_cases}
+
+-- A LIST WITHOUT ONE OF THOSE THAT PASS
+
+first : {X : Type 0} (p : X → Bool) (x : X) (xs : List X) (b : Bool) → p x ≡ b → filter p (without p xs zero) ≡ remove (filter p xs) zero
+    → filter p (cond b xs (x ∷ without p xs zero)) ≡ remove (cond b (x ∷ filter p xs) (filter p xs)) zero
+first p x xs true e rest = refl
+first p x xs false e rest = rw e rest
+
+later : {X : Type 0} (p : X → Bool) (x : X) (xs : List X) (n : ℕ) (b : Bool) → p x ≡ b → filter p (without p xs n) ≡ remove (filter p xs) n
+    → filter p (without p xs (suc n)) ≡ remove (filter p xs) (suc n)
+    → filter p (cond b (x ∷ without p xs n) (x ∷ without p xs (suc n))) ≡ remove (cond b (x ∷ filter p xs) (filter p xs)) (suc n)
+later p x xs n true e here rest = rw e (ap (λ v. x ∷ v) here)
+later p x xs n false e here rest = rw e rest
+
+-- those that pass lose the one at that place
+pub filter-without : {X : Type 0} (p : X → Bool) (xs : List X) (n : ℕ) → filter p (without p xs n) ≡ remove (filter p xs) n
+filter-without p [] zero = refl
+filter-without p [] (suc n) = refl
+filter-without p (x ∷ xs) zero = first p x xs (p x) refl (filter-without p xs zero)
+filter-without p (x ∷ xs) (suc n) = later p x xs n (p x) refl (filter-without p xs n) (filter-without p xs (suc n))
+
+other_first : {X : Type 0} (p q : X → Bool) (x : X) (xs : List X) (b : Bool) → (b ≡ true → q x ≡ false) → filter q (without p xs zero) ≡ filter q xs
+    → filter q (cond b xs (x ∷ without p xs zero)) ≡ cond (q x) (x ∷ filter q xs) (filter q xs)
+other_first p q x xs true apart rest = rw (apart refl) refl
+other_first p q x xs false apart rest = ap (λ v. cond (q x) (x ∷ v) v) rest
+
+other_later : {X : Type 0} (p q : X → Bool) (x : X) (xs : List X) (n : ℕ) (b : Bool) → filter q (without p xs n) ≡ filter q xs
+    → filter q (without p xs (suc n)) ≡ filter q xs
+    → filter q (cond b (x ∷ without p xs n) (x ∷ without p xs (suc n))) ≡ cond (q x) (x ∷ filter q xs) (filter q xs)
+other_later p q x xs n true here rest = ap (λ v. cond (q x) (x ∷ v) v) here
+other_later p q x xs n false here rest = ap (λ v. cond (q x) (x ∷ v) v) rest
+
+-- those that pass another test, of which none passes this one, stay
+pub filter-other : {X : Type 0} (p q : X → Bool) → ((x : X) → p x ≡ true → q x ≡ false) → (xs : List X) (n : ℕ)
+    → filter q (without p xs n) ≡ filter q xs
+filter-other p q apart [] n = refl
+filter-other p q apart (x ∷ xs) zero = other_first p q x xs (p x) (apart x) (filter-other p q apart xs zero)
+filter-other p q apart (x ∷ xs) (suc n) = other_later p q x xs n (p x) (filter-other p q apart xs n) (filter-other p q apart xs (suc n))
+
+-- ONE SET
+
+kind_itself : (k : Kind) → same_kind k k ≡ true
+kind_itself leaf1 = refl
+kind_itself table1 = refl
+kind_itself leaf2 = refl
+kind_itself table2 = refl
+
+-- a row is in its own set
+pub same_set_itself : (s : Shape) (r : Row) → same_set s r r ≡ true
+same_set_itself s r =
+    and_from (same_kind r.kind r.kind) (r.region.start % s.sets == r.region.start % s.sets) (kind_itself r.kind)
+    (eq-eqb (r.region.start % s.sets) (r.region.start % s.sets) refl)
+
+module _ (h : Header) (c : ℕ) (s : Shape) (l : Cache) (r : Row) where
+  abbrev with_loss : Cache
+  with_loss = record { rows = without (same_set s r) l.rows (victim h.policy c l.evictions s.ways) ++ r ∷ []; evictions = l.evictions + 1 }
+
+  own_set : filter (same_set s r) (without (same_set s r) l.rows (victim h.policy c l.evictions s.ways) ++ r ∷ [])
+      ≡ remove (filter (same_set s r) l.rows) (victim h.policy c l.evictions s.ways) ++ r ∷ []
+  own_set =
+      let n : ℕ = victim h.policy c l.evictions s.ways in
+      filter-append (same_set s r) (without (same_set s r) l.rows n) (r ∷ [])
+      ∙ ap (λ b. filter (same_set s r) (without (same_set s r) l.rows n) ++ cond b (r ∷ []) []) (same_set_itself s r)
+      ∙ ap (λ v. v ++ r ∷ []) (filter-without (same_set s r) l.rows n)
+
+  -- the new row at the end of a list doesn't pass
+  not_new : (test : Row → Bool) → test r ≡ false → (xs : List Row) → filter test (xs ++ r ∷ []) ≡ filter test xs
+  not_new test fails xs = filter-append test xs (r ∷ []) ∙ ap (λ b. filter test xs ++ cond b (r ∷ []) []) fails ∙ append-nil (filter test xs)
+
+  abbrev with_room : Cache
+  with_room = record l { rows = l.rows ++ r ∷ [] }
+
+  -- a test that no row of the set passes
+  module _ (test : Row → Bool) (apart : (x : Row) → test x ≡ true → same_set s r x ≡ false) where
+    new_fails : test r ≡ false
+    new_fails = elim (cases_Bool (test r)) [ inl t ↦ absurd (both_ways (same_set s r r) (apart r t) (same_set_itself s r)) | inr f ↦ f ]
+
+    old_fails : (x : Row) → same_set s r x ≡ true → test x ≡ false
+    old_fails x t = elim (cases_Bool (test x)) [ inl u ↦ absurd (both_ways (same_set s r x) (apart x u) t) | inr f ↦ f ]
+
+    others_by : (b : Bool) → filter test (cond b with_loss with_room).rows ≡ filter test l.rows
+    others_by true =
+        let n : ℕ = victim h.policy c l.evictions s.ways in
+        not_new test new_fails (without (same_set s r) l.rows n) ∙ filter-other (same_set s r) test old_fails l.rows n
+    others_by false = not_new test new_fails l.rows
+
+  -- the policy names a row of a set that has one
+  victim_within : (policy : Policy) → 0 < s.ways → victim policy c l.evictions s.ways < s.ways
+  victim_within Lru w = w
+  victim_within Fifo w = w
+  victim_within (Random start) w = omega arith
+
+  pub set_loses : SetLoses h c s l r
+  set_loses = record {
+    full = λ e. subst (λ b. filter (same_set s r) (cond b with_loss with_room).rows
+        ≡ remove (filter (same_set s r) l.rows) (victim h.policy c l.evictions s.ways) ++ r ∷ []) (sym e) own_set;
+    one = victim_within h.policy;
+    room = λ e. subst (λ b. (cond b with_loss with_room).rows ≡ l.rows ++ r ∷ []) (sym e) refl;
+    others = λ test apart. others_by test apart (nat_le s.ways (length (filter (same_set s r) l.rows)));
+  }
+
+-- A full set loses the row that the policy names and gets the new one, and a set that isn't full loses none.
+pub full_sets_lose_one : FullSetsLoseOne
+full_sets_lose_one h c s l r = set_loses h c s l r
+
+-- WHICH ROWS A STEP LEAVES
+
+without_first : {X : Type 0} (p : X → Bool) (x : X) (xs : List X) (y : X) (b : Bool) → (In y (without p xs zero) → In y xs)
+    → In y (cond b xs (x ∷ without p xs zero)) → In y (x ∷ xs)
+without_first p x xs y true rec i = inr i
+without_first p x xs y false rec (inl e) = inl e
+without_first p x xs y false rec (inr i) = inr (rec i)
+
+without_later : {X : Type 0} (p : X → Bool) (x : X) (xs : List X) (y : X) (n : ℕ) (b : Bool) → (In y (without p xs n) → In y xs)
+    → (In y (without p xs (suc n)) → In y xs) → In y (cond b (x ∷ without p xs n) (x ∷ without p xs (suc n))) → In y (x ∷ xs)
+without_later p x xs y n true here rest (inl e) = inl e
+without_later p x xs y n true here rest (inr i) = inr (here i)
+without_later p x xs y n false here rest (inl e) = inl e
+without_later p x xs y n false here rest (inr i) = inr (rest i)
+
+pub In-without : {X : Type 0} (p : X → Bool) (xs : List X) (n : ℕ) (y : X) → In y (without p xs n) → In y xs
+In-without p [] n y i = i
+In-without p (x ∷ xs) zero y i = without_first p x xs y (p x) (In-without p xs zero y) i
+In-without p (x ∷ xs) (suc n) y i = without_later p x xs y n (p x) (In-without p xs n y) (In-without p xs (suc n) y) i
+
+module _ (h : Header) (c : ℕ) where
+  placed_by : (s : Shape) (l : Cache) (r x : Row) (b : Bool) → In x (cond b (with_loss h c s l r) (with_room h c s l r)).rows → In x l.rows ⊎ (x ≡ r)
+  placed_by s l r x true i =
+      let n : ℕ = victim h.policy c l.evictions s.ways in
+      elim (In-push_cases (without (same_set s r) l.rows n) r x i) [ inl j ↦ inl (In-without (same_set s r) l.rows n x j) | inr e ↦ inr e ]
+  placed_by s l r x false i = In-push_cases l.rows r x i
+
+  In-placed : (s : Shape) (l : Cache) (r x : Row) → In x (placed h c s l r).rows → In x l.rows ⊎ (x ≡ r)
+  In-placed s l r x i = placed_by s l r x (nat_le s.ways (length (filter (same_set s r) l.rows))) i
+
+  added_by : (l : Cache) (r x : Row) (b : Bool) → In x (cond b l (placed h c (shape_of h.size r.kind) l r)).rows → In x l.rows ⊎ (x ≡ r)
+  added_by l r x true i = inl i
+  added_by l r x false i = In-placed (shape_of h.size r.kind) l r x i
+
+  all_added : (made : List Row) (l : Cache) (x : Row) → In x (fold (added h c) l made).rows → In x l.rows ⊎ In x made
+  all_added [] l x i = inl i
+  all_added (r ∷ made) l x i = elim (all_added made (added h c l r) x i) [
+    | inl j ↦ elim (added_by l r x (list_any (same_key r) l.rows) j) [ inl k ↦ inl k | inr e ↦ inr (inl e) ]
+    | inr j ↦ inr (inr j)
+  ]
+
+all_to_end : (served rows : List Row) (x : Row) → In x (fold to_end rows served) → In x rows ⊎ In x served
+all_to_end [] rows x i = inl i
+all_to_end (r ∷ served) rows x i = elim (all_to_end served (to_end rows r) x i) [
+  | inl j ↦ elim (In-push_cases (filter (λ (y : Row). not (is_row r y)) rows) r x j) [
+    | inl k ↦ inl (In-from_filter (λ (y : Row). not (is_row r y)) rows x k).0
+    | inr e ↦ inr (inl e)
+  ]
+  | inr j ↦ inr (inr j)
+]
+
+In-touched : (policy : Policy) (rows served : List Row) (x : Row) → In x (touched policy rows served) → In x rows ⊎ In x served
+In-touched Lru rows served x i = all_to_end served rows x i
+In-touched Fifo rows served x i = inl i
+In-touched (Random start) rows served x i = inl i
+
+filled_by : (h : Header) (c : ℕ) (l : Cache) (served made : List Row) (x : Row) (b : Bool)
+    → In x (cond b (fold (added h c) (record l { rows = touched h.policy l.rows served }) made) l).rows → (In x l.rows ⊎ In x served) ⊎ In x made
+filled_by h c l served made x true i = elim (all_added h c made (record l { rows = touched h.policy l.rows served }) x i) [
+  | inl j ↦ inl (In-touched h.policy l.rows served x j)
+  | inr j ↦ inr j
+]
+filled_by h c l served made x false i = inl (inl i)
+
+-- each row behind a step was there, served in it, or was made in it
+pub In-filled : (h : Header) (c : ℕ) (l : Cache) (served made : List Row) (x : Row) → In x (filled h c l served made).rows
+    → (In x l.rows ⊎ In x served) ⊎ In x made
+In-filled h c l served made x i = filled_by h c l served made x (keeps_rows h.size) i
