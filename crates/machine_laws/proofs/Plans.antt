@@ -237,3 +237,62 @@ module _ (laws : Laws) (v : View) (rows : List Row) (a : Access) (p : Bool) (x :
       let e : serve (sup v rows a) q (after behind go_on) ≡ prepend q (serve (sup v rows a) [] (after b.left go_on)) =
           serve_queue (rg v rows a) (sup v rows a) q (after behind go_on) (after b.left go_on) (on_after (rg v rows a) behind b.left go_on q b.on.1) in
       subst (λ r. Fine v rows a above tree (pushed i by r)) (sym e) (went_how i q r.items b r.left r.on r.fresh (serve (sup v rows a) [] (after b.left go_on)) r.how)
+
+-- THE WHOLE PLAN
+
+module _ (laws : Laws) (v : View) (rows : List Row) (a : Access) (side : v.side ≡ side_of a.va)
+    (begins : (p : Bool) (x : ℕ) → Begins v (rg v rows a) p x (sup v rows a (base2 x))) where
+  -- what a plan is served is fine, below what was read now
+  abbrev IsFine : Plan → Type 0
+  IsFine p = (above : Option ℕ) → IsNow (now v) above → Fine v rows a above (flat (rg v rows a) p) (serve (sup v rows a) [] (flat (rg v rows a) p))
+
+  fine_fin : (e : End Landing) → IsFine (fin e)
+  fine_fin e above up = (refl, record { used = tt; next = tt; last_base = tt }, last_ok_none (now v) e)
+
+  -- a question of stage 1 that is answered now
+  fine_item : (above : Option ℕ) (n : Need) (k : Item → Plan) (i : Item) → IsSound (rg v rows a) (own n k) → fits (rg v rows a) n i ≡ true → IsFresh v (mark (rg v rows a) n i) →
+      IsFine (k i) → Fine v rows a above (flat (rg v rows a) (own n k)) (pushed i [] (serve (sup v rows a) [] (flat (rg v rows a) (k i))))
+  fine_item above n k i sound fit f rec =
+      let m : Mark = mark (rg v rows a) n i in
+      let u : Option ℕ = above_of above m in
+      let r : Reply = serve (sup v rows a) [] (flat (rg v rows a) (k i)) in
+      fine_after v (rg v rows a) (Kept1 v (rg v rows a) above (flat (rg v rows a) (own n k))) (Kept1 v (rg v rows a) u (flat (rg v rows a) (k i)))
+        (flat (rg v rows a) (own n k)) (flat (rg v rows a) (k i)) (i ∷ []) r.items r.stop
+        (pre_own v (rg v rows a) above n k i sound fit f) (rec u (above_now v (rg v rows a) above m (mark_first (rg v rows a) n i ∙ sound.0) f.now_is))
+
+  fine_word : (above : Option ℕ) (w : WordNeed) (k : Item → Plan) → IsSound (rg v rows a) (own (word w) k) → ((i : Item) → IsFine (k i)) →
+      (o : Option ℕ) → memory_after v.header v.log w.place ≡ o →
+      Fine v rows a above (flat (rg v rows a) (own (word w) k))
+        (goes_on (word w) (supplied_by (option_map (needed_item (now v) w) o)) (λ i rest. serve (sup v rows a) rest (flat (rg v rows a) (k i))))
+  fine_word above w k sound rec None is = (w, (λ i. flat (rg v rows a) (k i)), refl, refl, record { used = tt; next = tt; last_base = tt }, is)
+  fine_word above w k sound rec (Some value) is =
+      let i : Item = needed_item (now v) w value in
+      fine_item above (word w) k i sound (fits_needed (rg v rows a) w (now v) value) (fresh_word v (rg v rows a) w value is) (rec i)
+
+  fine_own : (n : Need) (k : Item → Plan) → IsSound (rg v rows a) (own n k) → ((i : Item) → IsFine (k i)) → IsFine (own n k)
+  fine_own base1 k sound rec above up =
+      let i : Item = first_base v a in
+      fine_item above base1 k i sound (fits_base1 (regs_after v.core v.log) (side_of a.va) (now v)) (fresh_base1 v (rg v rows a) a side) (rec i)
+  fine_own (base2 x) k sound rec above up = absurd (both_ways false refl sound.0)
+  fine_own (word w) k sound rec above up = fine_word above w k sound rec (memory_after v.header v.log w.place) refl
+
+  -- what follows a chain is no base
+  rest_sound : (n : Need) (k : Item → Plan) → (is_need1 n ≡ true) × (needs_base n ≡ false) → ((i : Item) → IsSound (rg v rows a) (k i)) → IsSound (rg v rows a) (own n k)
+  rest_sound n k h sound = (h.0, (λ b. absurd (both_ways (needs_base n) h.1 b)), sound)
+
+  fine_rest : (o : Result Need (End Landing)) (k : Item → Plan) → ((n : Need) → o ≡ Ok n → (is_need1 n ≡ true) × (needs_base n ≡ false)) →
+      ((i : Item) → IsSound (rg v rows a) (k i)) → ((i : Item) → IsFine (k i)) → IsFine (rest_by o k)
+  fine_rest (Err e) k one sound rec = fine_fin e
+  fine_rest (Ok n) k one sound rec = fine_own n k (rest_sound n k (one n refl) sound) rec
+
+  fine_plan : (p : Plan) → IsSound (rg v rows a) p → IsFine p
+  fine_plan (fin e) sound = fine_fin e
+  fine_plan (own n k) sound = fine_own n k sound (λ i. fine_plan (k i) (sound.2 i))
+  fine_plan (via p x next k) sound = λ above up.
+      by_start laws v rows a p x next k above up sound
+        (λ e. fine_rest (next e) k (λ n eq. sound.2 e n eq) sound.3 (λ i. fine_plan (k i) (sound.3 i)) above up)
+        (sup v rows a (base2 x)) (begins p x)
+
+-- every plan that is served is fine, where every chain begins well
+pub plans_are_fine : Laws → PlansAreFine
+plans_are_fine laws v rows a side begins p sound above up = fine_plan laws v rows a side begins p sound above up
