@@ -9,6 +9,7 @@ pub mod Found
 pub mod Uses
 pub mod Begins
 pub mod Serve
+pub mod Plans
 pub mod Served
 pub mod Logs
 pub mod Lasting
