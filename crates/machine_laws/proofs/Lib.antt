@@ -4,3 +4,4 @@ pub mod Laws
 pub mod Lists
 pub mod Stands
 pub mod Fine
+pub mod PlanOf
