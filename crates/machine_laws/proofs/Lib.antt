@@ -5,3 +5,4 @@ pub mod Lists
 pub mod Stands
 pub mod Fine
 pub mod PlanOf
+pub mod Sounds
