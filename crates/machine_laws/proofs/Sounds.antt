@@ -125,6 +125,46 @@ module _ (q : Asked) where
 pub sound_plan : (c : Config) (j : Bool) (a : Access) → IsSound (regime_for c a) (plan_for c j a)
 sound_plan c j a = sound_whole (asked c j a) c.m (is_refused1 c a)
 
+-- a chain that stops ends the whole
+abbrev pub IsTight : Plan → Type 0
+IsTight (fin e) = Unit {0}
+IsTight (own n k) = (i : Item) → IsTight (k i)
+IsTight (via p x next k) = ((f : Fault) → next (stops f) ≡ Err (stops f)) × ((i : Item) → IsTight (k i))
+
+tight_entry : (r : Regime) (b d : Bool) (e : Entry1) (stop : Fault → Plan) (k : Item → Plan) → ((f : Fault) → IsTight (stop f)) → ((i : Item) → IsTight (k i)) → IsTight (entry_plan r b d e stop k)
+tight_entry r true true e stop k f s = f (early2 r true e.place)
+tight_entry r true false e stop k f s = ((λ d. refl), s)
+tight_entry r false d e stop k f s = s
+
+tight_of : (r : Regime) (out : End Leaf1 → Plan) → ((e : End Leaf1) → IsTight (out e)) → (t : Ask Entry1 Item (End Leaf1)) → IsTight (plan_of r out t)
+tight_of r out h (done e) = h e
+tight_of r out h (ask e k) = tight_entry r r.config.vm (is_refused2 r.config e.place) e (λ f. out (stops f)) (λ i. plan_of r out (k i)) (λ f. h (stops f)) (λ i. tight_of r out h (k i))
+
+module _ (q : Asked) where
+  tight_output : (b d : Bool) (l : Leaf1) → IsTight (output_plan q b d l)
+  tight_output true true l = tt
+  tight_output true false l = ((λ f. refl), (λ i. tt))
+  tight_output false d l = tt
+
+  tight_out : (e : End Leaf1) → IsTight (out_of q e)
+  tight_out (stops f) = tt
+  tight_out (reaches l) = tight_output q.regime.config.vm (is_refused2 q.regime.config l.out) l
+
+  pub tight_from : (left : ℕ) (t : Table1) → IsTight (from_plan q left t)
+  tight_from left t = tight_of q.regime (out_of q) tight_out (walk1_from q left t)
+
+  tight_behind : (b : Bool) (base : ℕ) → IsTight (behind_plan q b base)
+  tight_behind true base = tt
+  tight_behind false base = tight_from q.regime.stage1.start (root_table base)
+
+  tight_whole : (b d : Bool) → IsTight (whole_plan q b d)
+  tight_whole true true = tt
+  tight_whole true false = λ i. tight_behind (is_too_large q.regime.stage1 i.value) i.value
+  tight_whole false d = tight_out (off_end q)
+
+pub tight_plan : (c : Config) (j : Bool) (a : Access) → IsTight (plan_for c j a)
+tight_plan c j a = tight_whole (asked c j a) c.m (is_refused1 c a)
+
 -- CHAINS
 
 words_step : (s : Step Leaf2 ℕ) (below : ℕ → Ask Need Item (End Leaf2)) → ((t : ℕ) → IsWords (below t)) → IsWords (step_then below s)
@@ -229,3 +269,63 @@ module _ (r : Regime) (l : Landing) where
   chain_word_last : (p : Bool) (x : ℕ) (is : List Item) (m : Leaf2) → IsOn r (chain r p x) is (done (reaches m)) → LastIs IsWord (marks r (chain r p x) is)
   chain_word_last p x [] m h = absurd cc
   chain_word_last p x (i ∷ is) m h = chain_last r p x i is m h
+
+  abbrev EndsWord : Plan → Type 0
+  EndsWord p = (xs : List Item) → IsOn r (flat r p) xs There → LastIs IsWord (marks r (flat r p) xs)
+
+  not_base : (n : Need) (k : Item → Plan) (i : Item) (b : Bool) → needs_base n ≡ b → (needs_base n ≡ true → (i : Item) (l : Landing) → k i ≡ fin (reaches l) → ⊥) → k i ≡ fin (reaches l) → b ≡ false
+  not_base n k i true e sound h = absurd (sound e i l h)
+  not_base n k i false e sound h = refl
+
+  last_own : (n : Need) (k : Item → Plan) → (needs_base n ≡ true → (i : Item) (l : Landing) → k i ≡ fin (reaches l) → ⊥) → ((i : Item) → EndsWord (k i)) → EndsWord (own n k)
+  last_own n k sound rec [] h = absurd cc
+  last_own n k sound rec (y ∷ ys) h =
+      last_word_on (flat r (own n k)) (flat r (k y)) (y ∷ []) ys (h.0, refl) h.1
+      (λ e. rw (marks_none r (flat r (k y))) (mark_base r n y ∙ not_base n k y (needs_base n) refl sound (flat_fin r (k y) (reaches l) e))) (rec y ys h.1)
+
+  last_fin : (e : End Landing) (xs : List Item) → IsOn r (done e) xs There → LastIs IsWord (marks r (done e) xs)
+  last_fin e [] h = tt
+  last_fin e (x ∷ xs) h = absurd h
+
+  last_rest : (g : Result Need (End Landing)) (k : Item → Plan) → ((n : Need) → g ≡ Ok n → needs_base n ≡ false) → ((i : Item) → EndsWord (k i)) → EndsWord (rest_by g k)
+  last_rest (Err e) k sound rec xs h = last_fin e xs h
+  last_rest (Ok n) k sound rec xs h = last_own n k (λ b. absurd (both_ways (needs_base n) (sound n refl) b)) rec xs h
+
+  abbrev Next : (End Leaf2 → Result Need (End Landing)) → (Item → Plan) → End Leaf2 → Ask Need Item (End Landing)
+  Next next k e = joined (next e) (λ i. flat r (k i))
+
+  -- a chain that stopped doesn't lead to a translation
+  stopped_not : (next : End Leaf2 → Result Need (End Landing)) (k : Item → Plan) (f : Fault) (rest : List Item) → next (stops f) ≡ Err (stops f) → IsOn r (Next next k (stops f)) rest There → ⊥
+  stopped_not next k f rest e h = stopped_on f rest (subst (λ v. IsOn r (joined v (λ i. flat r (k i))) rest There) e h)
+    where
+      stopped_on : (f : Fault) (rest : List Item) → IsOn {A = End Landing} r (done (stops f)) rest There → ⊥
+      stopped_on f [] h = absurd cc
+      stopped_on f (x ∷ rest) h = h
+
+  via_end : (p : Bool) (x : ℕ) (next : End Leaf2 → Result Need (End Landing)) (k : Item → Plan) (front rest : List Item) (d : End Leaf2) → ((f : Fault) → next (stops f) ≡ Err (stops f))
+      → ((e : End Leaf2) → EndsWord (rest_by (next e) k)) → IsOn r (chain r p x) front (done d) → IsOn r (Next next k d) rest There → LastIs IsWord (marks r (flat r (via p x next k)) (front ++ rest))
+  via_end p x next k front rest (stops f) tight rec on more = absurd (stopped_not next k f rest (tight f) more)
+  via_end p x next k front rest (reaches m) tight rec on more =
+      let t : Ask Need Item (End Landing) = flat r (via p x next k) in
+      let u : Ask Need Item (End Landing) = flat r (rest_by (next (reaches m)) k) in
+      let stands : IsOn r t front u = via_on r p x next k front (reaches m) on in
+      let more2 : IsOn r u rest There = subst (λ v. IsOn r v rest There) (joined_is r (next (reaches m)) k) more in
+      let word : LastIs IsWord (marks r t front) = subst (LastIs IsWord) (sym (via_marks r p x next k front (done (reaches m)) on)) (chain_word_last p x front m on) in
+      last_word_on t u front rest stands more2 (λ e. word) (rec (reaches m) rest more2)
+
+  last_via : (p : Bool) (x : ℕ) (next : End Leaf2 → Result Need (End Landing)) (k : Item → Plan) → ((f : Fault) → next (stops f) ≡ Err (stops f)) → ((e : End Leaf2) → EndsWord (rest_by (next e) k)) → EndsWord (via p x next k)
+  last_via p x next k tight rec xs h =
+      let d = on_split r (chain r p x) (Next next k) xs (reaches l) h in
+      subst (λ v. LastIs IsWord (marks r (flat r (via p x next k)) v)) (sym d.is) (via_end p x next k d.front d.rest d.end tight rec d.on_front d.more)
+
+  last_plan : (p : Plan) → IsSound r p → IsTight p → EndsWord p
+  last_plan (fin e) s t xs h = last_fin e xs h
+  last_plan (own n k) s t xs h = last_own n k s.1 (λ i. last_plan (k i) (s.2 i) (t i)) xs h
+  last_plan (via p x next k) s t xs h = last_via p x next k t.0 (λ e. last_rest (next e) k (λ n q. (s.2 e n q).1) (λ i. last_plan (k i) (s.3 i) (t.1 i))) xs h
+
+-- a trail that leads to a translation ends in a word
+pub last_mapped : (c : Config) (j : Bool) (a : Access) (trail : List Item) (l : Landing) → IsOn (regime_for c a) (walk c j a) trail (done (reaches l)) → LastIs IsWord (marks (regime_for c a) (walk c j a) trail)
+last_mapped c j a trail l h =
+    let e = plan_is_walk c j a in
+    subst (λ t. LastIs IsWord (marks (regime_for c a) t trail)) e
+    (last_plan (regime_for c a) l (plan_for c j a) (sound_plan c j a) (tight_plan c j a) trail (subst (λ t. IsOn (regime_for c a) t trail (done (reaches l))) (sym e) h))
