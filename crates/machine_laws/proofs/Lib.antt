@@ -6,3 +6,4 @@ pub mod Stands
 pub mod Fine
 pub mod PlanOf
 pub mod Sounds
+pub mod Judging

@@ -34,7 +34,7 @@ use Rattle.machine_laws.proofs.PlanOf.{early2, read_next, word_behind, entry_pla
 -- SOUND
 
 -- what a chain is followed by: the class of a fault, and what a need is
-abbrev gives_word : Result Need (End Landing) → Bool
+abbrev pub gives_word : Result Need (End Landing) → Bool
 gives_word (Ok n) = false
 gives_word (Err (stops f)) = is_of_word f.class
 gives_word (Err (reaches l)) = false
@@ -55,7 +55,7 @@ behind_gives : (c : Config) (e : Entry1) (d : End Leaf2) → (asks_first (word_b
 behind_gives c e (stops f) = (refl, refl)
 behind_gives c e (reaches l) = let g = read_gives (is_readable c l) e l in (g.1, g.2)
 
-judged_gives : (q : Asked) (l : Leaf1) (m : Leaf2) → gives_word (Err (judged2 q.judged q.access l (reaches m))) ≡ false
+pub judged_gives : (q : Asked) (l : Leaf1) (m : Leaf2) → gives_word (Err (judged2 q.judged q.access l (reaches m))) ≡ false
 judged_gives q l m = judged_case (q.judged && not (is_allowed2 m.perms q.access.el q.access.kind)) m
   where
     judged_case : (b : Bool) (m : Leaf2) → gives_word (Err (cond b (stops record { stage = S2; level = m.level; class = Permission; s1ptw = false }) (reaches (piece l m)))) ≡ false
