@@ -7,3 +7,5 @@ pub mod Fine
 pub mod PlanOf
 pub mod Sounds
 pub mod Judging
+pub mod MarksOf
+pub mod Sides
