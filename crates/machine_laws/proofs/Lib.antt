@@ -9,3 +9,4 @@ pub mod Sounds
 pub mod Judging
 pub mod MarksOf
 pub mod Sides
+pub mod Regions2
