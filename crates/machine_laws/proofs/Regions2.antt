@@ -296,3 +296,22 @@ chain_table_by r q y (x ∷ trail) ms i u l d on e =
 
 not_zero : (c : Config) (left value next : ℕ) → means2_of c left value ≡ Table2 next → left ≡ 0 → ⊥
 not_zero c left value next h e = no_table2 c value next (subst (λ k. means2_of c k value ≡ Table2 next) e h)
+
+-- a table of stage 2 serves each IPA of its region
+pub chain_table_is : (c : Config) (s t : Side) (p q : Bool) (x y : ℕ) (trail : List Item) (u : Ask Need Item (End Leaf2)) (pre : List Mark) (m : Mark) →
+    is_refused2 c x ≡ false → IsOn (regime_of c s) (chain (regime_of c s) p x) trail u → marks (regime_of c s) (chain (regime_of c s) p x) trail ≡ pre ++ m ∷ [] →
+    m.part ≡ table true → holds m.region y ≡ true → ChainTable (regime_of c t) q trail (pre ++ m ∷ []) y
+chain_table_is c s t p q x y trail u pre m ok h e part hold =
+    let r : Regime = regime_of c s in
+    let r' : Regime = regime_of c t in
+    let z = last_met r (IsAt x) (chain r p x) u trail m (asks_chain r p x) h (subst (λ ms. LastIs ms m) (sym e) (last_here pre m)) in
+    let w = word_last c s p x y ok trail u m h (table_real m.part part) pre e in
+    let d = table_leads2 r w.at.left w.at.item.pa w.at.item.value (sym (ap (λ (z : Mark). z.part) w.is) ∙ part) in
+    let below = beneath_asks r p y w.at.left d.0 (not_zero c w.at.left w.at.item.value d.0 d.1) in
+    let end : behind2 r p x y y w.at.left w.at.item ≡ ask below.0 below.1 = ap (step_then (beneath (down2 r p y) w.at.left)) (d.2 p y) ∙ below.2 in
+    let same = same_at c s p x y ok trail u m h (table_real m.part part) w hold in
+    let i : InStep (fits r) (SameRegion r) (walk2 (asked2 r p x)) (walk2 (asked2 r p y)) trail u (ask below.0 below.1) =
+        subst (λ z. InStep (fits r) (SameRegion r) (walk2 (asked2 r p x)) (walk2 (asked2 r p y)) trail u z) end (w.at.shift (class2 r w.at.left w.at.item) (omega arith) same) in
+    let o = other_chain c s p x y ok trail u m h (table_real m.part part) w hold (ask below.0 below.1) i in
+    let tw = twin_on r r' (chain r p y) (chain r' q y) (ask below.0 below.1) trail (twin_chain c s t p q y) o.0 in
+    chain_table_by r' q y trail (pre ++ m ∷ []) z.item tw.left z.last (ask_twin r r' below.0 below.1 tw.left tw.twin) tw.on (tw.same ∙ sym o.1 ∙ e)
