@@ -10,3 +10,4 @@ pub mod Judging
 pub mod MarksOf
 pub mod Sides
 pub mod Regions2
+pub mod Regions1

@@ -52,7 +52,7 @@ pub record LastMet (r : Regime) (P : Need → Type 0) (xs : List Item) (m : Mark
   pub is : m ≡ mark r need item
   pub told : P need
 
-last_tail : {A : Type 0} (r : Regime) (t u : Ask Need Item A) (n m : Mark) (y : Item) (ys : List Item) → IsOn r t (y ∷ ys) u → LastIs (n ∷ marks r t (y ∷ ys)) m → LastIs (marks r t (y ∷ ys)) m
+pub last_tail : {A : Type 0} (r : Regime) (t u : Ask Need Item A) (n m : Mark) (y : Item) (ys : List Item) → IsOn r t (y ∷ ys) u → LastIs (n ∷ marks r t (y ∷ ys)) m → LastIs (marks r t (y ∷ ys)) m
 last_tail r (done a) u n m y ys h l = absurd h
 last_tail r (ask o k) u n m y ys h l = l
 
@@ -239,10 +239,10 @@ leaf_twin r r' l (done (reaches m)) h = ap (λ (z : Leaf2). done (reaches z)) h
 leaf_twin r r' l (done (stops f)) h = absurd h
 leaf_twin r r' l (ask n k) h = absurd h
 
-part_real : (g : Bool) (p : Part) → p ≡ leaf g true → p ≡ nothing → ⊥
+pub part_real : (g : Bool) (p : Part) → p ≡ leaf g true → p ≡ nothing → ⊥
 part_real g p e h = let q : leaf g true ≡ nothing = sym e ∙ h in cc
 
-table_real : (p : Part) → p ≡ table true → p ≡ nothing → ⊥
+pub table_real : (p : Part) → p ≡ table true → p ≡ nothing → ⊥
 table_real p e h = let q : table true ≡ nothing = sym e ∙ h in cc
 
 -- a leaf of stage 2 serves each IPA of its region
