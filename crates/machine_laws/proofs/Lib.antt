@@ -11,3 +11,4 @@ pub mod MarksOf
 pub mod Sides
 pub mod Regions2
 pub mod Regions1
+pub mod Regions
