@@ -12,3 +12,4 @@ pub mod Sides
 pub mod Regions2
 pub mod Regions1
 pub mod Regions
+pub mod Keys

@@ -1,0 +1,229 @@
+-- What the last items of a trail tell: the class of its landing, and whether its leaf is global.
+use Rattle.std.proofs.Common.{◌≡◌, ℕ, zero, suc, Bool, true, false, cond, List, [], ◌∷◌, ◌++◌, refl, sym, ap, ◌∙◌, subst, Option, Some, None, append-nil}
+use Rattle.std.specs.Prelude.{Result, Ok, Err, ℤ}
+use Rattle.std.proofs.lemmas.Bool.{both_ways}
+use Rattle.std.proofs.lemmas.Option.{same_Some}
+use Rattle.geometry.specs.Tables.{most_left, level_of}
+use Rattle.fault_codes.specs.declared.fault.Fault.{Fault}
+use Rattle.fault_codes.specs.declared.fault.Stage.TheVariants.{S1, S2}
+use Rattle.fault_codes.specs.declared.fault.Class.TheVariants.{Translation, AddressSize, Permission}
+use Rattle.trails.specs.declared.item.Item.{Item}
+use Rattle.table_reads.specs.declared.step.Step.{Step}
+use Rattle.table_reads.specs.declared.step.Step.TheVariants.{Down, Reached, Stopped}
+use Rattle.table_reads.specs.Places.{is_too_large}
+use Rattle.tlbi_ops.specs.Covers.{is_stage1}
+use Rattle.walk_spec.specs.declared.entry.Table1.{Table1}
+use Rattle.walk_spec.specs.declared.entry.Entry1.{Entry1}
+use Rattle.walk_spec.specs.declared.leaf.Leaf1.{Leaf1}
+use Rattle.walk_spec.specs.declared.leaf.Leaf2.{Leaf2}
+use Rattle.walk_spec.specs.Ask.{Ask, done, ask, after, go_on, finer}
+use Rattle.walk_spec.specs.Needs.{Regime, Need, base1, base2, word, WordNeed, fits, mapping_of, class_by}
+use Rattle.walk_spec.specs.Steps.{End, stops, reaches, step_then}
+use Rattle.walk_spec.specs.Stage2.{fault2, leaf2_of, step2, walk2_from, is_refused2, walk2}
+use Rattle.walk_spec.specs.Stage1.{Asked, asked2, untagged, fault1, entry1, step1, walk1_from, leaf1_of, is_readable, read1, read1_by, word_of, stage1_from}
+use Rattle.walk_laws.proofs.Stepping.{LastIs}
+use Rattle.walk_laws.proofs.Tables2.{level_of_one}
+use Rattle.walk_laws.proofs.Stage2.{Turn2, table, leaf, fault, turn2}
+use Rattle.machine_spec.specs.Marks.{Mark, mark, marks, is_first, is_global, part_of}
+use Rattle.machine_spec.specs.Made.{or_mark, last_first}
+use Rattle.machine_spec.specs.Allowed.{Entry, entry_of, or_else, last_entry, last_entry1}
+use Rattle.machine_laws.proofs.Trees.{IsOn, is_need1, chain, IsSecond, AllSecond}
+use Rattle.machine_laws.proofs.Stands.{on_append, on_after, marks_append, marks_after, Split, on_split, second_marks}
+use Rattle.machine_laws.proofs.PlanOf.{word_need, root_table}
+use Rattle.machine_laws.proofs.MarksOf.{FitsWord, fits_word_parts, fits_base1_parts, fits_base2_parts}
+
+-- LAST ITEMS
+
+pub last_cons : {X : Type 0} (x : X) (xs : List X) (l : X) → LastIs xs l → LastIs (x ∷ xs) l
+last_cons x [] l h = absurd h
+last_cons x (y ∷ ys) l h = h
+
+pub last_app : {X : Type 0} (pre xs : List X) (l : X) → LastIs xs l → LastIs (pre ++ xs) l
+last_app [] xs l h = h
+last_app (p ∷ pre) xs l h = last_cons p (pre ++ xs) l (last_app pre xs l h)
+
+pub entry_last : (xs : List Item) (i : Item) → LastIs xs i → last_entry xs ≡ Some (entry_of i)
+entry_last [] i h = absurd h
+entry_last (x ∷ []) i h = ap (λ z. Some (entry_of z)) h
+entry_last (x ∷ (y ∷ ys)) i h = ap (λ o. or_else o (Some (entry_of x))) (entry_last (y ∷ ys) i h)
+
+-- a word of stage 2 with so many levels left, at a place
+abbrev pub class_at2 : Regime → ℕ → ℕ → ℕ → ℕ
+class_at2 r left pa value = class_by (mapping_of r S2 left value) r.stage2 left pa
+
+-- CHAINS
+
+-- the last item tells the class of the leaf
+pub record Ends2 (r : Regime) (xs : List Item) (l : Leaf2) : Type 0 where
+  pub item : Item
+  pub left : ℕ
+  pub last : LastIs xs item
+  pub level : item.level ≡ level_of left
+  pub class_is : l.class ≡ class_at2 r left item.pa item.value
+
+leaf_same : (l m : Leaf2) → ◌≡◌ {A = Ask Need Item (End Leaf2)} (done (reaches l)) (done (reaches m)) → l ≡ m
+leaf_same l m h = cc
+
+module _ (r : Regime) (p : Bool) (x : ℕ) where
+  ends_more : (i : Item) (xs : List Item) (l : Leaf2) → Ends2 r xs l → Ends2 r (i ∷ xs) l
+  ends_more i xs l d = record { item = d.item; left = d.left; last = last_cons i xs d.item d.last; level = d.level; class_is = d.class_is }
+
+  ends_stop : (f : Fault) (xs : List Item) (l : Leaf2) → IsOn {A = End Leaf2} r (done (stops f)) xs (done (reaches l)) → ⊥
+  ends_stop f [] l h = absurd cc
+  ends_stop f (y ∷ ys) l h = h
+
+  ends_leaf : (m : Leaf2) (xs : List Item) (l : Leaf2) → IsOn {A = End Leaf2} r (done (reaches m)) xs (done (reaches l)) → (xs ≡ []) × (l ≡ m)
+  ends_leaf m [] l h = (refl, leaf_same l m h)
+  ends_leaf m (y ∷ ys) l h = absurd h
+
+  ends_step : (below : ℕ → Ask Need Item (End Leaf2)) → ((n : ℕ) (xs : List Item) (l : Leaf2) → IsOn r (below n) xs (done (reaches l)) → Ends2 r xs l) → (left : ℕ) (i : Item) (xs : List Item) (l : Leaf2) → i.level ≡ level_of left → Turn2 r left i
+      → IsOn r (step_then below (step2 (asked2 r p x) left i.pa i.value)) xs (done (reaches l)) → Ends2 r (i ∷ xs) l
+  ends_step below rec left i xs l e (table next a d) h = ends_more i xs l (rec next xs l (rw (d p x) at h))
+  ends_step below rec left i xs l e (leaf f m d) h =
+      let g = ends_leaf (leaf2_of (asked2 r p x) left i.pa f) xs l (rw (d p x) at h) in
+      record { item = i; left = left; last = subst (λ (ys : List Item). LastIs (i ∷ ys) i) (sym g.0) refl; level = e; class_is = ap (λ z. z.class) g.1 ∙ rw m refl }
+  ends_step below rec left i xs l e (fault k d) h = absurd (ends_stop _ xs l (rw (d p x) at h))
+
+  ends_from : (left n : ℕ) (xs : List Item) (l : Leaf2) → IsOn r (walk2_from (asked2 r p x) left n) xs (done (reaches l)) → Ends2 r xs l
+  ends_from zero n [] l h = absurd cc
+  ends_from (suc left) n [] l h = absurd cc
+  ends_from zero n (i ∷ xs) l h =
+      ends_step (λ _. done (stops (fault2 (asked2 r p x) Translation 0))) (λ n ys m g. absurd (ends_stop _ ys m g)) 0 i xs l (fits_word_parts r _ i h.0).level (turn2 r 0 i) h.1
+  ends_from (suc left) n (i ∷ xs) l h =
+      ends_step (walk2_from (asked2 r p x) left) (ends_from left) (suc left) i xs l (fits_word_parts r _ i h.0).level (turn2 r (suc left) i) h.1
+
+  ends_behind : (b : Bool) (base : ℕ) (xs : List Item) (l : Leaf2) → IsOn r (cond b (done (stops (fault2 (asked2 r p x) AddressSize most_left))) (walk2_from (asked2 r p x) r.stage2.start base)) xs (done (reaches l)) → Ends2 r xs l
+  ends_behind true base xs l h = absurd (ends_stop _ xs l h)
+  ends_behind false base xs l h = ends_from r.stage2.start base xs l h
+
+  -- a chain that reaches a leaf
+  pub ends_chain : (xs : List Item) (l : Leaf2) → IsOn r (chain r p x) xs (done (reaches l)) → Ends2 r xs l
+  ends_chain [] l h = absurd cc
+  ends_chain (i ∷ xs) l h = ends_more i xs l (ends_behind (is_too_large r.stage2 i.value) i.value xs l h.1)
+
+-- equal entries are of equal place, level and value
+pub entries_same : (xs ys : List Item) (i j : Item) → last_entry xs ≡ Some (entry_of i) → last_entry ys ≡ Some (entry_of j) → last_entry xs ≡ last_entry ys → entry_of i ≡ entry_of j
+entries_same xs ys i j a b e = same_Some (entry_of i) (entry_of j) (sym a ∙ e ∙ b)
+
+pub left_same : (i j : Item) (m n : ℕ) → i.level ≡ level_of m → j.level ≡ level_of n → entry_of i ≡ entry_of j → m ≡ n
+left_same i j m n a b e = level_of_one m n (sym a ∙ ap (λ (z : Entry). z.1) e ∙ b)
+
+class2_same : (r : Regime) (xs ys : List Item) (l m : Leaf2) → Ends2 r xs l → Ends2 r ys m → last_entry xs ≡ last_entry ys → l.class ≡ m.class
+class2_same r xs ys l m d g h =
+    let e : entry_of d.item ≡ entry_of g.item = entries_same xs ys d.item g.item (entry_last xs d.item d.last) (entry_last ys g.item g.last) h in
+    let n : d.left ≡ g.left = left_same d.item g.item d.left g.left d.level g.level e in
+    d.class_is ∙ ap (λ z. class_at2 r z d.item.pa d.item.value) n ∙ ap (λ (z : Entry). class_at2 r g.left z.0 z.2) e ∙ sym g.class_is
+
+-- the last items of two chains tell the classes of their leaves
+pub keys2_are : (r : Regime) (p : Bool) (x : ℕ) (xs ys : List Item) (l m : Leaf2) →
+    IsOn r (chain r p x) xs (done (reaches l)) → IsOn r (chain r p x) ys (done (reaches m)) → last_entry xs ≡ last_entry ys → l.class ≡ m.class
+keys2_are r p x xs ys l m h k e = class2_same r xs ys l m (ends_chain r p x xs l h) (ends_chain r p x ys m k) e
+
+-- WHAT FOLLOWS THE LAST ITEM OF STAGE 1
+
+fit_first : (r : Regime) (n : Need) (i : Item) → fits r n i ≡ true → is_stage1 i.stage ≡ is_need1 n
+fit_first r base1 i h = ap is_stage1 (fits_base1_parts r i h).1
+fit_first r (base2 x) i h = ap is_stage1 (fits_base2_parts r x i h).1
+fit_first r (word w) i h = ap is_stage1 (fits_word_parts r w i h).stage
+
+-- all items are of stage 2
+abbrev AllItems2 : List Item → Type 0
+AllItems2 [] = Unit {0}
+AllItems2 (i ∷ items) = (is_stage1 i.stage ≡ false) × AllItems2 items
+
+items_second : {A : Type 0} (r : Regime) (t u : Ask Need Item A) (xs : List Item) → IsSecond t → IsOn r t xs u → AllItems2 xs
+items_second r t u [] s h = tt
+items_second r (done a) u (x ∷ xs) s h = absurd h
+items_second r (ask n k) u (x ∷ xs) s h = (fit_first r n x h.0 ∙ s.0, items_second r (k x) u xs (s.1 x) h.1)
+
+if_false : {X : Type 0} (b : Bool) (o : Option X) → b ≡ false → cond b o None ≡ None
+if_false b o h = rw h refl
+
+none_entry1 : (xs : List Item) → AllItems2 xs → last_entry1 xs ≡ None
+none_entry1 [] s = refl
+none_entry1 (x ∷ xs) s = ap (λ o. or_else o (cond (is_stage1 x.stage) (Some (entry_of x)) None)) (none_entry1 xs s.1) ∙ if_false (is_stage1 x.stage) (Some (entry_of x)) s.0
+
+none_first : (ms : List Mark) → AllSecond ms → last_first ms ≡ None
+none_first [] s = refl
+none_first (m ∷ ms) s = ap (λ o. or_mark o (cond (is_first m) (Some m) None)) (none_first ms s.1) ∙ if_false (is_first m) (Some m) s.0
+
+-- the last item of stage 1, and the last mark, where only stage 2 follows
+entry1_last : (front rest : List Item) (i : Item) → LastIs front i → is_stage1 i.stage ≡ true → AllItems2 rest → last_entry1 (front ++ rest) ≡ Some (entry_of i)
+entry1_last [] rest i l f s = absurd l
+entry1_last (x ∷ []) rest i l f s =
+    let b : is_stage1 x.stage ≡ true = ap (λ (z : Item). is_stage1 z.stage) l ∙ f in
+    ap (λ o. or_else o (cond (is_stage1 x.stage) (Some (entry_of x)) None)) (none_entry1 rest s) ∙ ap (λ c. cond c (Some (entry_of x)) None) b ∙ ap (λ z. Some (entry_of z)) l
+entry1_last (x ∷ (y ∷ ys)) rest i l f s = ap (λ o. or_else o (cond (is_stage1 x.stage) (Some (entry_of x)) None)) (entry1_last (y ∷ ys) rest i l f s)
+
+first_mark_last : (pre ms : List Mark) (m : Mark) → LastIs pre m → is_first m ≡ true → AllSecond ms → last_first (pre ++ ms) ≡ Some m
+first_mark_last [] ms m l f s = absurd l
+first_mark_last (n ∷ []) ms m l f s =
+    let b : is_first n ≡ true = ap (λ (z : Mark). is_first z) l ∙ f in
+    ap (λ o. or_mark o (cond (is_first n) (Some n) None)) (none_first ms s) ∙ ap (λ c. cond c (Some n) None) b ∙ ap (λ z. Some z) l
+first_mark_last (n ∷ (o ∷ pre)) ms m l f s = ap (λ v. or_mark v (cond (is_first n) (Some n) None)) (first_mark_last (o ∷ pre) ms m l f s)
+
+-- STAGE 1
+
+abbrev pub class_at1 : Regime → ℕ → ℕ → ℕ → ℕ
+class_at1 r left pa value = class_by (mapping_of r S1 left value) r.stage1 left pa
+
+-- the last item of stage 1 tells the class of the leaf
+record Ends1 (r : Regime) (t : Ask Need Item (End Leaf1)) (xs : List Item) (l : Leaf1) : Type 0 where
+  item : Item
+  left : ℕ
+  mark_of : Mark
+  last : LastIs xs item
+  stage : item.stage ≡ S1
+  level : item.level ≡ level_of left
+  mark_last : LastIs (marks r t xs) mark_of
+  first : is_first mark_of ≡ true
+  part : mark_of.part ≡ part_of r S1 left item.value
+  class_is : l.class ≡ class_at1 r left item.pa item.value
+
+-- how an entry's word was had: it is the last item
+record WordEnd (r : Regime) (e : Entry1) (t : Ask Need Item (Result Item Fault)) (xs : List Item) (i : Item) : Type 0 where
+  place : ℕ
+  last : LastIs xs i
+  fit : fits r (word_need e place) i ≡ true
+  mark_last : LastIs (marks r t xs) (mark r (word_need e place) i)
+
+result_same : (i j : Item) → ◌≡◌ {A = Ask Need Item (Result Item Fault)} (done (Ok i)) (done (Ok j)) → j ≡ i
+result_same i j h = cc
+
+module _ (r : Regime) (e : Entry1) where
+  read_end : (p : ℕ) (xs : List Item) (i : Item) → IsOn r (read1 e p) xs (done (Ok i)) → WordEnd r e (read1 e p) xs i
+  read_end p [] i h = absurd cc
+  read_end p (j ∷ []) i h =
+      let q : j ≡ i = result_same i j h.1 in
+      record { place = p; last = q; fit = subst (λ z. fits r (word_need e p) z ≡ true) q h.0; mark_last = ap (mark r (word_need e p)) q }
+  read_end p (j ∷ (k ∷ xs)) i h = absurd h.1
+
+  read_by_end : (b : Bool) (l : Leaf2) (xs : List Item) (i : Item) → let t = cond b (read1 e l.pa) (done (Err record { stage = S2; level = l.level; class = Permission; s1ptw = true })) in IsOn r t xs (done (Ok i)) → WordEnd r e t xs i
+  read_by_end true l xs i h = read_end l.pa xs i h
+  read_by_end false l [] i h = absurd cc
+  read_by_end false l (x ∷ xs) i h = absurd h
+
+  behind_end : (d : End Leaf2) (xs : List Item) (i : Item) → IsOn r (read1_by r.config e d) xs (done (Ok i)) → WordEnd r e (read1_by r.config e d) xs i
+  behind_end (stops f) [] i h = absurd cc
+  behind_end (stops f) (x ∷ xs) i h = absurd h
+  behind_end (reaches l) xs i h = read_by_end (is_readable r.config l) l xs i h
+
+  had_end : (b : Bool) (xs : List Item) (i : Item) → let t = cond b (after (walk2 (asked2 r true e.place)) (read1_by r.config e)) (read1 e e.place) in IsOn r t xs (done (Ok i)) → WordEnd r e t xs i
+  had_end false xs i h = read_end e.place xs i h
+  had_end true xs i h =
+      let ch : Ask Need Item (End Leaf2) = walk2 (asked2 r true e.place) in
+      let d = on_split r ch (read1_by r.config e) xs (Ok i) h in
+      let w = behind_end d.end d.rest i d.more in
+      let t : Ask Need Item (Result Item Fault) = after ch (read1_by r.config e) in
+      let m : marks r t xs ≡ marks r t d.front ++ marks r (read1_by r.config e d.end) d.rest =
+          ap (marks r t) d.is ∙ marks_append r t (read1_by r.config e d.end) d.front d.rest (on_after r ch (done d.end) (read1_by r.config e) d.front d.on_front) in
+      record {
+        place = w.place;
+        last = subst (λ (v : List Item). LastIs v i) (sym d.is) (last_app d.front d.rest i w.last);
+        fit = w.fit;
+        mark_last = subst (λ ms. LastIs ms (mark r (word_need e w.place) i)) (sym m) (last_app (marks r t d.front) (marks r (read1_by r.config e d.end) d.rest) (mark r (word_need e w.place) i) w.mark_last);
+      }
+
+  -- the last item is the word
+  word_end : (xs : List Item) (i : Item) → IsOn r (word_of r e) xs (done (Ok i)) → WordEnd r e (word_of r e) xs i
+  word_end xs i h = had_end r.config.vm xs i h
