@@ -1,5 +1,5 @@
 -- What the last items of a trail tell: the class of its landing, and whether its leaf is global.
-use Rattle.std.proofs.Common.{◌≡◌, ℕ, zero, suc, Bool, true, false, cond, List, [], ◌∷◌, ◌++◌, refl, sym, ap, ◌∙◌, subst, Option, Some, None, append-nil}
+use Rattle.std.proofs.Common.{◌≡◌, ℕ, zero, suc, Bool, true, false, cond, List, [], ◌∷◌, ◌++◌, ◌⊎◌, inl, inr, refl, sym, ap, ◌∙◌, subst, Option, Some, None, append-nil}
 use Rattle.std.specs.Prelude.{Result, Ok, Err, ℤ}
 use Rattle.std.proofs.lemmas.Bool.{both_ways}
 use Rattle.std.proofs.lemmas.Option.{same_Some}
@@ -8,7 +8,7 @@ use Rattle.fault_codes.specs.declared.fault.Fault.{Fault}
 use Rattle.fault_codes.specs.declared.fault.Stage.TheVariants.{S1, S2}
 use Rattle.fault_codes.specs.declared.fault.Class.TheVariants.{Translation, AddressSize, Permission}
 use Rattle.trails.specs.declared.item.Item.{Item}
-use Rattle.table_reads.specs.declared.step.Step.{Step}
+use Rattle.table_reads.specs.declared.step.Step.{Step as Step1}
 use Rattle.table_reads.specs.declared.step.Step.TheVariants.{Down, Reached, Stopped}
 use Rattle.table_reads.specs.Places.{is_too_large}
 use Rattle.tlbi_ops.specs.Covers.{is_stage1}
@@ -21,15 +21,21 @@ use Rattle.walk_spec.specs.Needs.{Regime, Need, base1, base2, word, WordNeed, fi
 use Rattle.walk_spec.specs.Steps.{End, stops, reaches, step_then}
 use Rattle.walk_spec.specs.Stage2.{fault2, leaf2_of, step2, walk2_from, is_refused2, walk2}
 use Rattle.walk_spec.specs.Stage1.{Asked, asked2, untagged, fault1, entry1, step1, walk1_from, leaf1_of, is_readable, read1, read1_by, word_of, stage1_from}
+use Rattle.walk_spec.specs.BothStages.{Landing, landed, piece, smaller, judged2, is_refused1, stage1_behind, stage1, stage2_behind, walk_by, walk}
+use Rattle.permissions.specs.Rights.{joined as joined_bits}
+use Rattle.sysregs.specs.declared.regs.Config.{Config}
+use Rattle.trails.specs.declared.outcome.Access.{Access}
 use Rattle.walk_laws.proofs.Stepping.{LastIs}
 use Rattle.walk_laws.proofs.Tables2.{level_of_one}
 use Rattle.walk_laws.proofs.Stage2.{Turn2, table, leaf, fault, turn2}
+use Rattle.walk_laws.proofs.Stage1.{under, Turn1, table as table1, leaf as leaf1, fault as fault1_, turn1}
 use Rattle.machine_spec.specs.Marks.{Mark, mark, marks, is_first, is_global, part_of}
 use Rattle.machine_spec.specs.Made.{or_mark, last_first}
 use Rattle.machine_spec.specs.Allowed.{Entry, entry_of, or_else, last_entry, last_entry1}
 use Rattle.machine_laws.proofs.Trees.{IsOn, is_need1, chain, IsSecond, AllSecond}
-use Rattle.machine_laws.proofs.Stands.{on_append, on_after, marks_append, marks_after, Split, on_split, second_marks}
-use Rattle.machine_laws.proofs.PlanOf.{word_need, root_table}
+use Rattle.machine_laws.proofs.Stands.{on_append, on_after, marks_append, marks_after, Split, on_split, second_marks, mark_first}
+use Rattle.machine_laws.proofs.PlanOf.{word_need, early2, root_table, out_is}
+use Rattle.machine_laws.proofs.Sounds.{out_second}
 use Rattle.machine_laws.proofs.MarksOf.{FitsWord, fits_word_parts, fits_base1_parts, fits_base2_parts}
 
 -- LAST ITEMS
@@ -227,3 +233,239 @@ module _ (r : Regime) (e : Entry1) where
   -- the last item is the word
   word_end : (xs : List Item) (i : Item) → IsOn r (word_of r e) xs (done (Ok i)) → WordEnd r e (word_of r e) xs i
   word_end xs i h = had_end r.config.vm xs i h
+
+on_case : {X : Type 0} (b d : Bool) (x y z : X) → b ≡ true → d ≡ false → cond b (cond d x y) z ≡ y
+on_case b d x y z e h = rw (e, h) refl
+
+part_of_mark : (r : Regime) (w : WordNeed) (i : Item) → (mark r (word w) i).part ≡ part_of r w.stage w.left i.value
+unfolding mark
+part_of_mark r w i = refl
+
+leaf1_same : (l m : Leaf1) → ◌≡◌ {A = Ask Need Item (End Leaf1)} (done (reaches l)) (done (reaches m)) → l ≡ m
+leaf1_same l m h = cc
+
+stop1_end : (r : Regime) (f : Fault) (xs : List Item) (l : Leaf1) → IsOn {A = End Leaf1} r (done (stops f)) xs (done (reaches l)) → ⊥
+stop1_end r f [] l h = absurd cc
+stop1_end r f (y ∷ ys) l h = h
+
+leaf1_end : (r : Regime) (m : Leaf1) (xs : List Item) (l : Leaf1) → IsOn {A = End Leaf1} r (done (reaches m)) xs (done (reaches l)) → (xs ≡ []) × (l ≡ m)
+leaf1_end r m [] l h = (refl, leaf1_same l m h)
+leaf1_end r m (y ∷ ys) l h = absurd h
+
+module _ (r : Regime) (a : Access) where
+  abbrev Q : Asked
+  Q = under r false a
+
+  abbrev Below : Type 0
+  Below = Table1 → Ask Entry1 Item (End Leaf1)
+
+  abbrev Fine : Ask Entry1 Item (End Leaf1) → Ask Need Item (End Leaf1)
+  Fine t = finer stops (word_of r) t
+
+  abbrev BelowEnds : Below → Type 0
+  BelowEnds below = (t : Table1) (xs : List Item) (l : Leaf1) → IsOn r (Fine (below t)) xs (done (reaches l)) → Ends1 r (Fine (below t)) xs l
+
+  module _ (below : Below) (rec : BelowEnds below) (left : ℕ) (t : Table1) where
+    abbrev E : Entry1
+    E = entry1 Q left t
+
+    abbrev Step : Item → Ask Need Item (End Leaf1)
+    Step i = Fine (step_then below (step1 Q E i.pa i.value))
+
+    abbrev Go : Result Item Fault → Ask Need Item (End Leaf1)
+    Go = go_on stops Step
+
+    abbrev Level : Ask Need Item (End Leaf1)
+    Level = after (word_of r E) Go
+
+    -- the word was the leaf, or others follow
+    step_end : (i : Item) (xs : List Item) (l : Leaf1) → Turn1 r left i → IsOn r (Step i) xs (done (reaches l)) → ((xs ≡ []) × (l.class ≡ class_at1 r left i.pa i.value)) ⊎ Ends1 r (Step i) xs l
+    step_end i xs l (table1 next bits al d) h =
+        let n : Table1 = record { address = next; bits = joined_bits t.bits bits } in
+        let s : step1 Q E i.pa i.value ≡ Down n = d false a t in
+        inr (subst (λ (z : Step1 Leaf1 Table1). Ends1 r (Fine (step_then below z)) xs l) (sym s) (rec n xs l (subst (λ (z : Step1 Leaf1 Table1). IsOn r (Fine (step_then below z)) xs (done (reaches l))) s h)))
+    step_end i xs l (leaf1 f m d) h =
+        let g = leaf1_end r (leaf1_of r E i.pa f) xs l (subst (λ (z : Step1 Leaf1 Table1). IsOn r (Fine (step_then below z)) xs (done (reaches l))) (d false a t) h) in
+        inl (g.0, ap (λ z. z.class) g.1 ∙ rw m refl)
+    step_end i xs l (fault1_ k d) h =
+        absurd (stop1_end r (fault1 k left) xs l (subst (λ (z : Step1 Leaf1 Table1). IsOn r (Fine (step_then below z)) xs (done (reaches l))) (d false a t) h))
+
+    level_here : (front : List Item) (i : Item) (l : Leaf1) → IsOn r (word_of r E) front (done (Ok i)) → l.class ≡ class_at1 r left i.pa i.value → Ends1 r Level front l
+    level_here front i l h c =
+        let w = word_end r E front i h in
+        let fw = fits_word_parts r _ i w.fit in
+        record {
+          item = i;
+          left = left;
+          mark_of = mark r (word_need E w.place) i;
+          last = w.last;
+          stage = fw.stage;
+          level = fw.level;
+          mark_last = subst (λ ms. LastIs ms (mark r (word_need E w.place) i)) (sym (marks_after r (word_of r E) (done (Ok i)) Go front h)) w.mark_last;
+          first = mark_first r (word_need E w.place) i;
+          part = part_of_mark r _ i;
+          class_is = c;
+        }
+
+    level_more : (front rest : List Item) (i : Item) (l : Leaf1) → IsOn r (word_of r E) front (done (Ok i)) → Ends1 r (Step i) rest l → Ends1 r Level (front ++ rest) l
+    level_more front rest i l h d =
+        let m : marks r Level (front ++ rest) ≡ marks r Level front ++ marks r (Step i) rest = marks_append r Level (Step i) front rest (on_after r (word_of r E) (done (Ok i)) Go front h) in
+        record {
+          item = d.item;
+          left = d.left;
+          mark_of = d.mark_of;
+          last = last_app front rest d.item d.last;
+          stage = d.stage;
+          level = d.level;
+          mark_last = subst (λ ms. LastIs ms d.mark_of) (sym m) (last_app (marks r Level front) (marks r (Step i) rest) d.mark_of d.mark_last);
+          first = d.first;
+          part = d.part;
+          class_is = d.class_is;
+        }
+
+    level_by : (front rest : List Item) (i : Item) (l : Leaf1) → IsOn r (word_of r E) front (done (Ok i)) → ((rest ≡ []) × (l.class ≡ class_at1 r left i.pa i.value)) ⊎ Ends1 r (Step i) rest l → Ends1 r Level (front ++ rest) l
+    level_by front rest i l h (inl g) = subst (λ (v : List Item). Ends1 r Level v l) (sym (ap (λ v. front ++ v) g.0 ∙ append-nil front)) (level_here front i l h g.1)
+    level_by front rest i l h (inr g) = level_more front rest i l h g
+
+    level_at : (front rest : List Item) (x : Result Item Fault) (l : Leaf1) → IsOn r (word_of r E) front (done x) → IsOn r (Go x) rest (done (reaches l)) → Ends1 r Level (front ++ rest) l
+    level_at front rest (Ok i) l h k = level_by front rest i l h (step_end i rest l (turn1 r left i) k)
+    level_at front rest (Err f) l h k = absurd (stop1_end r f rest l k)
+
+    level_end : (xs : List Item) (l : Leaf1) → IsOn r Level xs (done (reaches l)) → Ends1 r Level xs l
+    level_end xs l h =
+        let d = on_split r (word_of r E) Go xs (reaches l) h in
+        subst (λ (v : List Item). Ends1 r Level v l) (sym d.is) (level_at d.front d.rest d.end l d.on_front d.more)
+
+  ends1_from : (left : ℕ) (t : Table1) (xs : List Item) (l : Leaf1) → IsOn r (stage1_from Q left t) xs (done (reaches l)) → Ends1 r (stage1_from Q left t) xs l
+  ends1_from zero t xs l h = level_end (λ _. done (stops (fault1 Translation 0))) (λ n ys k g. absurd (stop1_end r _ ys k g)) 0 t xs l h
+  ends1_from (suc left) t xs l h = level_end (walk1_from Q left) (ends1_from left) (suc left) t xs l h
+
+  ends1_behind : (b : Bool) (base : ℕ) (xs : List Item) (l : Leaf1) → let t = cond b (done (stops (fault1 AddressSize most_left))) (stage1_from Q r.stage1.start (root_table base)) in IsOn r t xs (done (reaches l)) → Ends1 r t xs l
+  ends1_behind true base xs l h = absurd (stop1_end r (fault1 AddressSize most_left) xs l h)
+  ends1_behind false base xs l h = ends1_from r.stage1.start (root_table base) xs l h
+
+  ends1_base : (xs : List Item) (l : Leaf1) → let t = ask base1 (λ i. stage1_behind Q i.value) in IsOn r t xs (done (reaches l)) → Ends1 r t xs l
+  ends1_base [] l h = absurd cc
+  ends1_base (i ∷ xs) l h =
+      let d = ends1_behind (is_too_large r.stage1 i.value) i.value xs l h.1 in
+      record {
+        item = d.item;
+        left = d.left;
+        mark_of = d.mark_of;
+        last = last_cons i xs d.item d.last;
+        stage = d.stage;
+        level = d.level;
+        mark_last = last_cons (mark r base1 i) (marks r (stage1_behind Q i.value) xs) d.mark_of d.mark_last;
+        first = d.first;
+        part = d.part;
+        class_is = d.class_is;
+      }
+
+  -- stage 1 that is on and doesn't refuse the access
+  ends1 : (xs : List Item) (l : Leaf1) → r.config.m ≡ true → is_refused1 r.config a ≡ false → IsOn r (stage1 Q) xs (done (reaches l)) → Ends1 r (stage1 Q) xs l
+  ends1 xs l on ok h =
+      let e : stage1 Q ≡ ask base1 (λ i. stage1_behind Q i.value) = on_case r.config.m (is_refused1 r.config a) _ _ _ on ok in
+      subst (λ t. Ends1 r t xs l) (sym e) (ends1_base xs l (subst (λ t. IsOn r t xs (done (reaches l))) e h))
+
+-- BOTH STAGES
+
+landing_same : (l m : Landing) → ◌≡◌ {A = Ask Need Item (End Landing)} (done (reaches l)) (done (reaches m)) → l ≡ m
+landing_same l m h = cc
+
+-- what is known of a trail that leads to a translation: its last item of stage 1, its last mark of stage 1, its last item,
+-- and the class of the landing by them
+record Keyed (r : Regime) (vm : Bool) (ms : List Mark) (xs : List Item) (l : Landing) : Type 0 where
+  item1 : Item
+  left1 : ℕ
+  mark1 : Mark
+  entry1_is : last_entry1 xs ≡ Some (entry_of item1)
+  level1 : item1.level ≡ level_of left1
+  first_is : last_first ms ≡ Some mark1
+  part : mark1.part ≡ part_of r S1 left1 item1.value
+  item2 : Item
+  left2 : ℕ
+  entry2_is : vm ≡ true → last_entry xs ≡ Some (entry_of item2)
+  level2 : vm ≡ true → item2.level ≡ level_of left2
+  class_is : l.class ≡ cond vm (smaller (class_at1 r left1 item1.pa item1.value) (class_at2 r left2 item2.pa item2.value)) (class_at1 r left1 item1.pa item1.value)
+
+-- the same of what follows stage 1
+record Output (r : Regime) (vm : Bool) (rest : List Item) (d : Leaf1) (l : Landing) : Type 0 where
+  item : Item
+  left : ℕ
+  last : vm ≡ true → LastIs rest item
+  level : vm ≡ true → item.level ≡ level_of left
+  class_is : l.class ≡ cond vm (smaller d.class (class_at2 r left item.pa item.value)) d.class
+
+done_end : (r : Regime) (n : Landing) (xs : List Item) (l : Landing) → IsOn {A = End Landing} r (done (reaches n)) xs (done (reaches l)) → (xs ≡ []) × (l ≡ n)
+done_end r n [] l h = (refl, landing_same l n h)
+done_end r n (x ∷ xs) l h = absurd h
+
+stop_end : (r : Regime) (f : Fault) (xs : List Item) (l : Landing) → IsOn {A = End Landing} r (done (stops f)) xs (done (reaches l)) → ⊥
+stop_end r f [] l h = absurd cc
+stop_end r f (x ∷ xs) l h = h
+
+module _ (r : Regime) (a : Access) (d : Leaf1) where
+  abbrev Second : End Leaf2 → Ask Need Item (End Landing)
+  Second e = done (judged2 false a d e)
+
+  ends_walk2 : (b : Bool) (xs : List Item) (m : Leaf2) → IsOn r (cond b (done (stops (early2 r false d.out))) (chain r false d.out)) xs (done (reaches m)) → Ends2 r xs m
+  ends_walk2 true xs m h = absurd (ends_stop r false d.out _ xs m h)
+  ends_walk2 false xs m h = ends_chain r false d.out xs m h
+
+  output_end : (front rest : List Item) (e : End Leaf2) (l : Landing) → IsOn r (walk2 (asked2 r false d.out)) front (done e) → IsOn r (Second e) rest (done (reaches l)) → Output r true (front ++ rest) d l
+  output_end front rest (stops f) l h k = absurd (stop_end r f rest l k)
+  output_end front rest (reaches m) l h k =
+      let g = done_end r (piece d m) rest l k in
+      let n = ends_walk2 (is_refused2 r.config d.out) front m h in
+      record {
+        item = n.item;
+        left = n.left;
+        last = λ v. subst (λ (z : List Item). LastIs z n.item) (sym (ap (λ z. front ++ z) g.0 ∙ append-nil front)) n.last;
+        level = λ v. n.level;
+        class_is = ap (λ z. z.class) g.1 ∙ ap (λ z. smaller d.class z) n.class_is;
+      }
+
+  -- i is any item
+  output : (vm : Bool) (i : Item) (rest : List Item) (l : Landing) → IsOn r (cond vm (after (walk2 (asked2 r false d.out)) Second) (done (reaches (landed d)))) rest (done (reaches l)) → Output r vm rest d l
+  output true i rest l h =
+      let w = on_split r (walk2 (asked2 r false d.out)) Second rest (reaches l) h in
+      subst (λ (v : List Item). Output r true v d l) (sym w.is) (output_end w.front w.rest w.end l w.on_front w.more)
+  output false i rest l h =
+      let g = done_end r (landed d) rest l h in
+      record { item = i; left = 0; last = λ v. absurd (both_ways false refl v); level = λ v. absurd (both_ways false refl v); class_is = ap (λ z. z.class) g.1 }
+
+behind_second : (q : Asked) (e : End Leaf1) → IsSecond (stage2_behind q e)
+behind_second q e = subst IsSecond (out_is q e) (out_second q e)
+
+module _ (r : Regime) (a : Access) (on : r.config.m ≡ true) (ok : is_refused1 r.config a ≡ false) where
+  abbrev W : Ask Need Item (End Landing)
+  W = walk_by (under r false a)
+
+  keyed_at : (front rest : List Item) (e : End Leaf1) (l : Landing) → IsOn r (stage1 (Q r a)) front (done e) → IsOn r (stage2_behind (Q r a) e) rest (done (reaches l)) → Keyed r r.config.vm (marks r W (front ++ rest)) (front ++ rest) l
+  keyed_at front rest (stops f) l h k = absurd (stop_end r f rest l k)
+  keyed_at front rest (reaches d) l h k =
+      let one = ends1 r a front d on ok h in
+      let two = output r a d r.config.vm one.item rest l k in
+      let s : IsSecond (stage2_behind (Q r a) (reaches d)) = behind_second (Q r a) (reaches d) in
+      let m : marks r W (front ++ rest) ≡ marks r (stage1 (Q r a)) front ++ marks r (stage2_behind (Q r a) (reaches d)) rest =
+          marks_append r W (stage2_behind (Q r a) (reaches d)) front rest (on_after r (stage1 (Q r a)) (done (reaches d)) (stage2_behind (Q r a)) front h)
+            ∙ ap (λ v. v ++ marks r (stage2_behind (Q r a) (reaches d)) rest) (marks_after r (stage1 (Q r a)) (done (reaches d)) (stage2_behind (Q r a)) front h) in
+      record {
+        item1 = one.item;
+        left1 = one.left;
+        mark1 = one.mark_of;
+        entry1_is = entry1_last front rest one.item one.last (ap is_stage1 one.stage) (items_second r (stage2_behind (Q r a) (reaches d)) (done (reaches l)) rest s k);
+        level1 = one.level;
+        first_is = ap last_first m ∙ first_mark_last (marks r (stage1 (Q r a)) front) (marks r (stage2_behind (Q r a) (reaches d)) rest) one.mark_of one.mark_last one.first (second_marks r (stage2_behind (Q r a) (reaches d)) rest s);
+        part = one.part;
+        item2 = two.item;
+        left2 = two.left;
+        entry2_is = λ v. entry_last (front ++ rest) two.item (last_app front rest two.item (two.last v));
+        level2 = two.level;
+        class_is = two.class_is ∙ ap (λ z. cond r.config.vm (smaller z (class_at2 r two.left two.item.pa two.item.value)) z) one.class_is;
+      }
+
+  keyed : (xs : List Item) (l : Landing) → IsOn r W xs (done (reaches l)) → Keyed r r.config.vm (marks r W xs) xs l
+  keyed xs l h =
+      let d = on_split r (stage1 (Q r a)) (stage2_behind (Q r a)) xs (reaches l) h in
+      subst (λ (v : List Item). Keyed r r.config.vm (marks r W v) v l) (sym d.is) (keyed_at d.front d.rest d.end l d.on_front d.more)
