@@ -33,6 +33,7 @@ use Rattle.machine_spec.specs.Marks.{Mark, mark, marks, is_first, is_global, par
 use Rattle.machine_spec.specs.Made.{or_mark, last_first}
 use Rattle.machine_spec.specs.Allowed.{Entry, entry_of, or_else, last_entry, last_entry1}
 use Rattle.machine_laws.proofs.Trees.{IsOn, is_need1, chain, IsSecond, AllSecond}
+use Rattle.machine_laws.proofs.Facts.{regime_for}
 use Rattle.machine_laws.proofs.Stands.{on_append, on_after, marks_append, marks_after, Split, on_split, second_marks, mark_first}
 use Rattle.machine_laws.proofs.PlanOf.{word_need, early2, root_table, out_is}
 use Rattle.machine_laws.proofs.Sounds.{out_second}
@@ -469,3 +470,47 @@ module _ (r : Regime) (a : Access) (on : r.config.m ≡ true) (ok : is_refused1 
   keyed xs l h =
       let d = on_split r (stage1 (Q r a)) (stage2_behind (Q r a)) xs (reaches l) h in
       subst (λ (v : List Item). Keyed r r.config.vm (marks r W v) v l) (sym d.is) (keyed_at d.front d.rest d.end l d.on_front d.more)
+
+module _ (r : Regime) (ms ns : List Mark) (xs ys : List Item) (l m : Landing) where
+  first_same : (vm : Bool) (d : Keyed r vm ms xs l) (g : Keyed r vm ns ys m) → last_entry1 xs ≡ last_entry1 ys → entry_of d.item1 ≡ entry_of g.item1
+  first_same vm d g h = same_Some (entry_of d.item1) (entry_of g.item1) (sym d.entry1_is ∙ h ∙ g.entry1_is)
+
+  class1_same : (vm : Bool) (d : Keyed r vm ms xs l) (g : Keyed r vm ns ys m) → last_entry1 xs ≡ last_entry1 ys → class_at1 r d.left1 d.item1.pa d.item1.value ≡ class_at1 r g.left1 g.item1.pa g.item1.value
+  class1_same vm d g h =
+      let e = first_same vm d g h in
+      ap (λ z. class_at1 r z d.item1.pa d.item1.value) (left_same d.item1 g.item1 d.left1 g.left1 d.level1 g.level1 e) ∙ ap (λ (z : Entry). class_at1 r g.left1 z.0 z.2) e
+
+  class_same : (vm : Bool) (d : Keyed r vm ms xs l) (g : Keyed r vm ns ys m) → last_entry1 xs ≡ last_entry1 ys → last_entry xs ≡ last_entry ys → l.class ≡ m.class
+  class_same false d g h k = d.class_is ∙ class1_same false d g h ∙ sym g.class_is
+  class_same true d g h k =
+      let e : entry_of d.item2 ≡ entry_of g.item2 = entries_same xs ys d.item2 g.item2 (d.entry2_is refl) (g.entry2_is refl) k in
+      let c : class_at2 r d.left2 d.item2.pa d.item2.value ≡ class_at2 r g.left2 g.item2.pa g.item2.value =
+          ap (λ z. class_at2 r z d.item2.pa d.item2.value) (left_same d.item2 g.item2 d.left2 g.left2 (d.level2 refl) (g.level2 refl) e) ∙ ap (λ (z : Entry). class_at2 r g.left2 z.0 z.2) e in
+      d.class_is ∙ ap (λ z. smaller z (class_at2 r d.left2 d.item2.pa d.item2.value)) (class1_same true d g h) ∙ ap (smaller (class_at1 r g.left1 g.item1.pa g.item1.value)) c ∙ sym g.class_is
+
+  global_same : (vm : Bool) (d : Keyed r vm ms xs l) (g : Keyed r vm ns ys m) → last_entry1 xs ≡ last_entry1 ys → is_global d.mark1.part ≡ is_global g.mark1.part
+  global_same vm d g h =
+      let e = first_same vm d g h in
+      ap is_global d.part ∙ ap (λ z. is_global (part_of r S1 z d.item1.value)) (left_same d.item1 g.item1 d.left1 g.left1 d.level1 g.level1 e)
+        ∙ ap (λ (z : Entry). is_global (part_of r S1 g.left1 z.2)) e ∙ sym (ap is_global g.part)
+
+-- the last items of two trails tell their classes and global flags
+pub keys_are : (c : Config) (a : Access) (xs ys : List Item) (l m : Landing) (n o : Mark) →
+    c.m ≡ true → is_refused1 c a ≡ false →
+    IsOn (regime_for c a) (walk c false a) xs (done (reaches l)) → IsOn (regime_for c a) (walk c false a) ys (done (reaches m)) →
+    last_first (marks (regime_for c a) (walk c false a) xs) ≡ Some n → last_first (marks (regime_for c a) (walk c false a) ys) ≡ Some o →
+    last_entry1 xs ≡ last_entry1 ys → last_entry xs ≡ last_entry ys → (l.class ≡ m.class) × (is_global n.part ≡ is_global o.part)
+keys_are c a xs ys l m n o on ok h k p q e f =
+    let r : Regime = regime_for c a in
+    let ms : List Mark = marks r (walk c false a) xs in
+    let ns : List Mark = marks r (walk c false a) ys in
+    let d : Keyed r c.vm ms xs l = keyed r a on ok xs l h in
+    let g : Keyed r c.vm ns ys m = keyed r a on ok ys m k in
+    let dn : d.mark1 ≡ n = same_Some d.mark1 n (sym d.first_is ∙ p) in
+    let go : g.mark1 ≡ o = same_Some g.mark1 o (sym g.first_is ∙ q) in
+    (class_same r ms ns xs ys l m c.vm d g e f, ap (λ (z : Mark). is_global z.part) (sym dn) ∙ global_same r ms ns xs ys l m c.vm d g e ∙ ap (λ (z : Mark). is_global z.part) go)
+
+-- a trail that leads to a translation has an item of stage 1
+pub first_had : (c : Config) (a : Access) (xs : List Item) (l : Landing) → c.m ≡ true → is_refused1 c a ≡ false →
+    IsOn (regime_for c a) (walk c false a) xs (done (reaches l)) → (m : Mark) × (last_first (marks (regime_for c a) (walk c false a) xs) ≡ Some m)
+first_had c a xs l on ok h = let d = keyed (regime_for c a) a on ok xs l h in (d.mark1, d.first_is)

@@ -13,3 +13,4 @@ pub mod Regions2
 pub mod Regions1
 pub mod Regions
 pub mod Keys
+pub mod WalkLaws
