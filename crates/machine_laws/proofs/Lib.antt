@@ -21,6 +21,16 @@ pub mod Making
 pub mod Combined
 pub mod Added
 pub mod Makes
+pub mod PlanOf
+pub mod Sounds
+pub mod Judging
+pub mod MarksOf
+pub mod Sides
+pub mod Regions2
+pub mod Regions1
+pub mod Regions
+pub mod Keys
+pub mod WalkLaws
 pub mod Sets
 pub mod Quiet
 pub mod Own

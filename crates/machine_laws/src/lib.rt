@@ -1,7 +1,10 @@
 //! Laws of the machine's definitions: every step of every run is allowed. Each law stands on a function that does nothing.
 #![tactic(auto)]
 
+mod headline;
 mod rules;
+
+pub use headline::runs_are_allowed;
 
 pub use rules::{
     barrier_empties_inboxes, full_sets_lose_one, no_row_outlives_its_vmid,
