@@ -1,22 +1,17 @@
 -- What the rows of stage 2 give: each chain begins well.
-use Rattle.std.proofs.Common.{◌≡◌, ℕ, zero, suc, ◌<◌, ◌≤◌, Bool, true, false, cond, List, [], ◌∷◌, ◌++◌, length, take, ◌⊎◌, inl, inr, refl, sym, ap, ◌∙◌, subst, Option, Some, None, arith}
-use Rattle.std.specs.Prelude.{unwrap_or, ◌&&◌, ◌||◌, not}
+use Rattle.std.proofs.Common.{◌≡◌, ℕ, zero, suc, Bool, true, false, cond, List, [], ◌∷◌, length, inl, inr, refl, sym, ap, ◌∙◌, subst, Option, Some, None, arith}
 use Rattle.std.proofs.lemmas.List.{take_all}
 use Rattle.std.proofs.lemmas.Bool.{both_ways}
-use Rattle.sysregs.specs.declared.regs.Regs.{Regs}
-use Rattle.sysregs.specs.declared.regs.Config.{Config}
-use Rattle.sysregs.specs.declared.regs.Side.{Side}
 use Rattle.sysregs.specs.Registers.{config_of, asid_of, vmid_of}
 use Rattle.sysregs.specs.Sides.{side_of}
-use Rattle.fault_codes.specs.declared.fault.Fault.{Fault}
 use Rattle.trails.specs.declared.item.Item.{Item}
 use Rattle.trails.specs.declared.outcome.Access.{Access}
 use Rattle.tlbi_ops.specs.Covers.{covers}
 use Rattle.table_reads.specs.Places.{is_too_large}
 use Rattle.walk_spec.specs.declared.leaf.Leaf2.{Leaf2}
-use Rattle.walk_spec.specs.Ask.{Ask, done, ask}
-use Rattle.walk_spec.specs.Needs.{Regime, regime_of, Need, base2, fits}
-use Rattle.walk_spec.specs.Steps.{End, stops, reaches, step_then}
+use Rattle.walk_spec.specs.Ask.{done, ask}
+use Rattle.walk_spec.specs.Needs.{Regime, regime_of, base2, fits}
+use Rattle.walk_spec.specs.Steps.{stops, reaches}
 use Rattle.geometry.specs.Tables.{most_left}
 use Rattle.fault_codes.specs.declared.fault.Class.TheVariants.{AddressSize}
 use Rattle.walk_spec.specs.Stage2.{walk2_behind, walk2_from, Asked2, fault2}
@@ -25,22 +20,22 @@ use Rattle.walk_spec.specs.Fresh.{start_base2}
 use Rattle.table_reads.specs.Numbers.{sizes2}
 use Rattle.table_reads.specs.Items.{base_item}
 use Rattle.fault_codes.specs.declared.fault.Stage.TheVariants.{S2}
-use Rattle.machine_spec.specs.Header.{Kind, leaf1, table1, leaf2, table2}
+use Rattle.machine_spec.specs.Header.{Kind, leaf2, table2}
 use Rattle.machine_spec.specs.Moments.{regs_after}
-use Rattle.machine_spec.specs.Marks.{Mark, mark, marks, is_first, is_table, is_leaf, is_global, has_asid}
-use Rattle.machine_spec.specs.Uses.{use_of, above_of, AllUsed, LastIs}
+use Rattle.machine_spec.specs.Marks.{Mark, mark, marks, is_first, has_asid}
+use Rattle.machine_spec.specs.Uses.{AllUsed, LastIs}
 use Rattle.machine_spec.specs.Kept.{View, now, regs_when, IsHeld, IsKeptItem, IsNowBase}
 use Rattle.machine_spec.specs.Allowed.{last_entry}
-use Rattle.machine_spec.specs.Rows.{Row, holds, matches, matching, deepest}
+use Rattle.machine_spec.specs.Rows.{Row, matches, matching, deepest}
 use Rattle.machine_spec.specs.Made.{key_of}
-use Rattle.machine_spec.specs.Served.{Supplied, gives, nothing, both, chain_by, begun2, chain_of, fresh_of, supply}
+use Rattle.machine_spec.specs.Served.{Supplied, chain_by, begun2, chain_of, fresh_of, supply}
 use Rattle.machine_spec.specs.Machine.{Core}
-use Rattle.machine_laws.proofs.Trees.{IsOn, chain, IsWords, IsWord, AllSecond}
-use Rattle.machine_laws.proofs.Facts.{In, sided, regime_for, IsLast, IsStored, IsLeafRow2, IsTableRow2, IsRowBy, IsRow, IsApart, AllApart, Facts}
+use Rattle.machine_laws.proofs.Trees.{chain, IsWords, IsWord, AllSecond}
+use Rattle.machine_laws.proofs.Facts.{In, sided, regime_for, IsStored, IsLeafRow2, IsTableRow2, IsRowBy, IsApart, AllApart, Facts}
 use Rattle.machine_laws.proofs.Laws.{Laws}
 use Rattle.machine_laws.proofs.Stands.{second_marks, words_second, mark_first, mark_item, marks_nil}
-use Rattle.machine_laws.proofs.Uses.{used_map, second_map, use_second, above_second, last_map}
-use Rattle.machine_laws.proofs.Fine.{Good, place_of, config_at, Start, Whole, Begins}
+use Rattle.machine_laws.proofs.Uses.{second_map, use_second, above_second, last_map}
+use Rattle.machine_laws.proofs.Fine.{Good, place_of, config_at, Whole, Begins}
 use Rattle.machine_laws.proofs.Found.{In-matching, In-deepest, apart_matching, Match, matched, region_same}
 
 -- the registers of now are those behind the log
@@ -92,14 +87,16 @@ module _ (v : View) (w : Core) (f : Facts v w) where
   -- what is stored in a row that matches is good now
   pub stored_good : (r : Row) → Same r → (m : Mark) (o : Option ℕ) → (has_asid m ≡ true → r.global ≡ false → r.key.asid ≡ asid_of (regs_after v.core v.log)) →
       IsStored v w.inbox r m o → Good v m o
-  stored_good r s m None asid h =
-      (record {
-        past = omega (arith, h.before);
-        held = held_now r s m h.held;
-        at_base = λ b. absurd (both_ways m.base h.word b);
-        live = λ b k i past at reach cov done. (f.mail i (h.pending k i past at reach (subst (λ t. covers i t ≡ true) h.tag_is cov))).1 done;
-        asid = λ n. (h.asid n).0 ∙ asid n (h.asid n).1 ∙ sym (ap asid_of (regs_now v));
-      }, omega arith)
+  stored_good r s m None asid h = (
+    record {
+      past = omega (arith, h.before);
+      held = held_now r s m h.held;
+      at_base = λ b. absurd (both_ways m.base h.word b);
+      live = λ b k i past at reach cov done. (f.mail i (h.pending k i past at reach (subst (λ t. covers i t ≡ true) h.tag_is cov))).1 done;
+      asid = λ n. (h.asid n).0 ∙ asid n (h.asid n).1 ∙ sym (ap asid_of (regs_now v));
+    },
+    omega arith,
+  )
   stored_good r s m (Some u) asid h = (kept_now r s m u h.0, omega (arith, h.1))
 
   -- the last item of a row's chain is a word
@@ -187,9 +184,9 @@ module _ (v : View) (w : Core) (f : Facts v w) where
             words = laws.behind_words rg p x base_now.value;
             on = ((fresh x).0, refl);
             used = subst (λ ms. AllUsed (Good v) None (mark rg (base2 x) base_now ∷ ms)) (sym (marks_nil rg (walk2_behind (asked2 rg p x) base_now.value)))
-              (subst (Good v (mark rg (base2 x) base_now)) (sym (use_second None (mark rg (base2 x) base_now) [] (mark_first rg (base2 x) base_now))) g, tt);
+                (subst (Good v (mark rg (base2 x) base_now)) (sym (use_second None (mark rg (base2 x) base_now) [] (mark_first rg (base2 x) base_now))) g, tt);
             last_base = subst (λ ms. LastIs (IsNowBase (now v)) (mark rg (base2 x) base_now ∷ ms)) (sym (marks_nil rg (walk2_behind (asked2 rg p x) base_now.value)))
-              (λ b. ap (λ (i : Item). i.moment) (mark_item rg (base2 x) base_now));
+                (λ b. ap (λ (i : Item). i.moment) (mark_item rg (base2 x) base_now));
             goes = λ g e. (refl, refl);
             word = λ l e. absurd (behind_asks (asked2 rg p x) base_now.value l e);
           }

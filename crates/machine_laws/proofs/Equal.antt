@@ -1,16 +1,15 @@
 -- The tests for equal register fields, kinds and regions are what they say.
-use Rattle.std.proofs.Common.{◌≡◌, ℕ, Bool, true, false, refl, sym, ap, ◌∙◌, arith}
-use Rattle.std.specs.Prelude.{◌==◌, ◌&&◌, not}
-use Rattle.std.proofs.lemmas.Bool.{both_ways, and_parts, eqb-true, eq-eqb}
+use Rattle.std.proofs.Common.{◌≡◌, Bool, true, false, refl, sym, arith}
+use Rattle.std.specs.Prelude.{◌==◌, ◌&&◌}
+use Rattle.std.proofs.lemmas.Bool.{both_ways, and_parts}
 use Rattle.sysregs.specs.declared.regs.Config.{Config}
 use Rattle.sysregs.specs.declared.regs.Tg.{Tg}
 use Rattle.sysregs.specs.declared.regs.Tg.TheVariants.{K4, K16, K64}
 use Rattle.sysregs.specs.Registers.{granule_of}
 use Rattle.sysregs.specs.Equality.{SameNumbers, SameGranules, SameSwitches, SameLow, SameHigh, SameUpdates, SameStage2}
 use Rattle.sysregs.proofs.Configs.{equal_configs}
-use Rattle.walk_spec.specs.Needs.{Region}
 use Rattle.machine_spec.specs.Header.{Kind, leaf1, table1, leaf2, table2}
-use Rattle.machine_spec.specs.Rows.{same_bool, same_numbers, same_granules, same_low, same_high, same_rest, same_fields, same_kind, same_region}
+use Rattle.machine_spec.specs.Rows.{same_bool, same_numbers, same_granules, same_low, same_high, same_rest, same_fields, same_kind}
 
 pub bool_same : (a b : Bool) → same_bool a b ≡ true → a ≡ b
 bool_same true true h = refl
@@ -54,10 +53,11 @@ rest_same a b h =
     let p8 = and_parts (same_bool a.m b.m && same_bool a.i b.i && same_bool a.wxn b.wxn && same_bool a.epan b.epan && same_bool a.ha1 b.ha1 && same_bool a.hd1 b.hd1 && same_bool a.vm b.vm) (same_bool a.ptw b.ptw) p9.0 in
     let p7 = and_parts (same_bool a.m b.m && same_bool a.i b.i && same_bool a.wxn b.wxn && same_bool a.epan b.epan && same_bool a.ha1 b.ha1 && same_bool a.hd1 b.hd1) (same_bool a.vm b.vm) p8.0 in
     let p6 = and_parts (same_bool a.m b.m && same_bool a.i b.i && same_bool a.wxn b.wxn && same_bool a.epan b.epan && same_bool a.ha1 b.ha1) (same_bool a.hd1 b.hd1) p7.0 in
-    let p5 = and_parts (same_bool a.m b.m && same_bool a.i b.i && same_bool a.wxn b.wxn && same_bool a.epan b.epan) (same_bool a.ha1 b.ha1) p6.0 in
-    (switches_same a b p5.0,
-     record { ha1 = bool_same a.ha1 b.ha1 p5.1; hd1 = bool_same a.hd1 b.hd1 p6.1; ha2 = bool_same a.ha2 b.ha2 p9.1; hd2 = bool_same a.hd2 b.hd2 p10.1 },
-     record { vm = bool_same a.vm b.vm p7.1; ptw = bool_same a.ptw b.ptw p8.1 })
+    let p5 = and_parts (same_bool a.m b.m && same_bool a.i b.i && same_bool a.wxn b.wxn && same_bool a.epan b.epan) (same_bool a.ha1 b.ha1) p6.0 in (
+      switches_same a b p5.0,
+      record { ha1 = bool_same a.ha1 b.ha1 p5.1; hd1 = bool_same a.hd1 b.hd1 p6.1; ha2 = bool_same a.ha2 b.ha2 p9.1; hd2 = bool_same a.hd2 b.hd2 p10.1 },
+      record { vm = bool_same a.vm b.vm p7.1; ptw = bool_same a.ptw b.ptw p8.1 },
+    )
 
 -- equal register fields
 pub fields_same : (a b : Config) → same_fields a b ≡ true → a ≡ b

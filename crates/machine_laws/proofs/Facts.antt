@@ -21,12 +21,12 @@ use Rattle.machine_spec.specs.Header.{Header, Kind, leaf1, table1, leaf2, table2
 use Rattle.machine_spec.specs.Moments.{memory_after, bank_after}
 use Rattle.machine_spec.specs.Invalidations.{inval_at, IsComplete}
 use Rattle.machine_spec.specs.Marks.{Mark, marks, is_first, is_leaf, is_global, has_asid}
-use Rattle.machine_spec.specs.Uses.{AllUsed, LastIs}
+use Rattle.machine_spec.specs.Uses.{AllUsed}
 use Rattle.machine_spec.specs.Kept.{View, now, regs_when, tag_of, IsHeld, IsKeptItem}
 use Rattle.machine_spec.specs.Rows.{Row, holds}
 use Rattle.machine_spec.specs.Made.{last_first}
 use Rattle.machine_spec.specs.Machine.{Core, World, core_of}
-use Rattle.machine_laws.proofs.Trees.{IsOn, chain, Plan, fin, flat, IsSound, IsWords, IsWord}
+use Rattle.machine_laws.proofs.Trees.{IsOn, chain, Plan, fin, flat, IsSound, IsWords}
 
 -- membership
 abbrev pub In : {X : Type 0} → X → List X → Type 0

@@ -1,31 +1,30 @@
 -- What is said of an access that is served, and of the rows that it makes.
-use Rattle.std.proofs.Common.{◌≡◌, ℕ, ◌≤◌, Bool, true, false, List, [], ◌∷◌, ◌++◌, length, ◌⊎◌, Option, Some, None}
+use Rattle.std.proofs.Common.{◌≡◌, ℕ, ◌≤◌, Bool, true, false, List, [], ◌∷◌, ◌++◌, ◌⊎◌, Option, Some, None}
 use Rattle.std.specs.Prelude.{unwrap_or}
 use Rattle.sysregs.specs.Registers.{config_of}
 use Rattle.sysregs.specs.Sides.{side_of}
 use Rattle.fault_codes.specs.declared.fault.Fault.{Fault}
 use Rattle.trails.specs.declared.item.Item.{Item}
 use Rattle.trails.specs.declared.outcome.Access.{Access}
-use Rattle.trails.specs.declared.outcome.Outcome.{Outcome}
 use Rattle.trails.specs.declared.outcome.Outcome.TheVariants.{Conflict}
 use Rattle.trails.specs.declared.event.Event.{Event}
 use Rattle.trails.specs.declared.step.Step.{Step}
 use Rattle.tlbi_ops.specs.declared.inval.Inval.{Inval}
 use Rattle.walk_spec.specs.declared.leaf.Leaf2.{Leaf2}
 use Rattle.walk_spec.specs.Ask.{Ask, done, ask, Fed, ended, lacks}
-use Rattle.walk_spec.specs.Needs.{Regime, Need, base1, base2, word, WordNeed}
+use Rattle.walk_spec.specs.Needs.{Regime, Need, base2, word, WordNeed}
 use Rattle.walk_spec.specs.Steps.{End, stops, reaches}
 use Rattle.walk_spec.specs.Stage2.{is_refused2}
 use Rattle.walk_spec.specs.Stage1.{untagged}
 use Rattle.walk_spec.specs.BothStages.{Landing, walk}
 use Rattle.walk_spec.specs.Fresh.{fed_outcome}
-use Rattle.machine_spec.specs.Header.{Header, leaf1}
+use Rattle.machine_spec.specs.Header.{leaf1}
 use Rattle.machine_spec.specs.Moments.{memory_after, regs_after}
 use Rattle.machine_spec.specs.Invalidations.{issued_by}
-use Rattle.machine_spec.specs.Marks.{Mark, marks, is_first}
+use Rattle.machine_spec.specs.Marks.{Mark, marks}
 use Rattle.machine_spec.specs.Uses.{next_first, AllUsed, LastIs}
-use Rattle.machine_spec.specs.Kept.{View, now, regs_when, base_by, IsKeptNow, IsNowBase}
-use Rattle.machine_spec.specs.Allowed.{is_of_word, IsNowOf, last_entry, Case, IsRight}
+use Rattle.machine_spec.specs.Kept.{View, now, IsKeptNow, IsNowBase}
+use Rattle.machine_spec.specs.Allowed.{is_of_word, IsNowOf, last_entry, IsRight}
 use Rattle.machine_spec.specs.Rows.{Row, matches1}
 use Rattle.machine_spec.specs.Made.{key_of, last_first}
 use Rattle.machine_spec.specs.Sets.{Cache, filled}
@@ -70,12 +69,12 @@ abbrev pub FineOf : (K : List Item → Type 0) → View → Regime → Ask Need 
 FineOf K v r t items (came (ended e)) = IsOn r t items (done e) × K items × LastOk (now v) e (marks r t items)
 FineOf K v r t items (came (lacks n)) =
     (w : WordNeed) × (k : Item → Ask Need Item (End Landing)) × (n ≡ word w) × IsOn r t items (ask n k) × K items
-      × (memory_after v.header v.log w.place ≡ None)
+    × (memory_after v.header v.log w.place ≡ None)
 FineOf K v r t items (clash one two) =
     (x : ℕ) × (k : Item → Ask Need Item (End Landing)) × IsOn r t items (ask (base2 x) k)
-      × ((p : Bool) × (l : Leaf2) × IsOn r (chain r p x) one (done (reaches l)))
-      × ((p : Bool) × (l : Leaf2) × IsOn r (chain r p x) two (done (reaches l)))
-      × (last_entry one ≡ last_entry two → ⊥) × K (items ++ one) × K (items ++ two) × (is_refused2 r.config x ≡ false)
+    × ((p : Bool) × (l : Leaf2) × IsOn r (chain r p x) one (done (reaches l)))
+    × ((p : Bool) × (l : Leaf2) × IsOn r (chain r p x) two (done (reaches l)))
+    × (last_entry one ≡ last_entry two → ⊥) × K (items ++ one) × K (items ++ two) × (is_refused2 r.config x ≡ false)
 
 abbrev pub FineBy : View → Regime → Option ℕ → Ask Need Item (End Landing) → List Item → Stop → Type 0
 FineBy v r above t items stop = FineOf (Kept1 v r above t) v r t items stop

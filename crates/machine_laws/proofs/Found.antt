@@ -1,5 +1,5 @@
 -- What lookups among rows find, and that the rows which served are live.
-use Rattle.std.proofs.Common.{◌≡◌, ℕ, Bool, true, false, cond, List, [], ◌∷◌, ◌++◌, ◌⊎◌, inl, inr, refl, sym, ap, ◌∙◌, subst, Option, Some, None, ◌/◌, ◌^◌}
+use Rattle.std.proofs.Common.{◌≡◌, ℕ, Bool, true, false, cond, List, [], ◌∷◌, ◌⊎◌, inl, inr, refl, sym, ap, ◌∙◌, subst, Option, Some, None, ◌/◌, ◌^◌}
 use Rattle.std.specs.Prelude.{filter, ◌==◌, ◌&&◌, ◌||◌, nat_lt}
 use Rattle.std.proofs.lemmas.Bool.{eqb-true, both_ways, and_parts}
 use Rattle.std.proofs.lemmas.Option.{same_Some}
@@ -9,10 +9,10 @@ use Rattle.walk_spec.specs.Ask.{Ask, done, ask}
 use Rattle.walk_spec.specs.Needs.{Need}
 use Rattle.walk_spec.specs.Steps.{End}
 use Rattle.walk_spec.specs.BothStages.{Landing}
-use Rattle.machine_spec.specs.Header.{Kind, leaf1, table1, leaf2, table2}
+use Rattle.machine_spec.specs.Header.{Kind}
 use Rattle.machine_spec.specs.Rows.{Row, same_fields, same_kind, holds, matches, matches1, is_older, inserted, by_making, matching, closer, deepest}
 use Rattle.machine_spec.specs.Served.{Supplied, gives, nothing, both, Reply, pushed, serve, taken}
-use Rattle.machine_laws.proofs.Facts.{In, IsApart1, IsApart2, IsApart, AllApart}
+use Rattle.machine_laws.proofs.Facts.{In, IsApart, AllApart}
 use Rattle.machine_laws.proofs.Lists.{In-from_filter, In-append}
 use Rattle.machine_laws.proofs.Equal.{fields_same, kind_same}
 
@@ -38,7 +38,8 @@ In-matching test rows x i = In-from_filter test rows x (In-by_making x (filter t
 pub apart_sym : (r s : Row) → IsApart r s → IsApart s r
 apart_sym r s h = (
   (λ ls lr cf vm rg. h.0 lr ls (sym cf) (sym vm) (sym rg)),
-  λ ls lr cf vm rg gl. let d = h.1 lr ls (sym cf) (sym vm) (sym rg) (sym gl) in (gl ∙ d.0, λ e. d.1 (sym e)))
+  λ ls lr cf vm rg gl. let d = h.1 lr ls (sym cf) (sym vm) (sym rg) (sym gl) in (gl ∙ d.0, λ e. d.1 (sym e)),
+)
 
 apart_inserted_if : (r s : Row) (rs ns : List Row) (b : Bool) → AllApart (r ∷ s ∷ rs) → ((x : Row) → In x ns → IsApart s x) → AllApart ns → AllApart (cond b (r ∷ s ∷ rs) (s ∷ ns))
 apart_inserted_if r s rs ns true a h n = a

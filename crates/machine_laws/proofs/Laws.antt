@@ -1,5 +1,5 @@
 -- What the walk promises to the machine.
-use Rattle.std.proofs.Common.{◌≡◌, ℕ, ◌/◌, ◌^◌, Bool, true, false, List, [], ◌∷◌, ◌++◌, ◌⊎◌, Option, Some, None}
+use Rattle.std.proofs.Common.{◌≡◌, ℕ, ◌/◌, ◌^◌, Bool, true, false, List, [], ◌∷◌, ◌++◌, ◌⊎◌, Some}
 use Rattle.sysregs.specs.declared.regs.Config.{Config}
 use Rattle.sysregs.specs.declared.regs.Side.{Side}
 use Rattle.fault_codes.specs.declared.fault.Fault.{Fault}
@@ -13,7 +13,7 @@ use Rattle.walk_spec.specs.Steps.{End, stops, reaches}
 use Rattle.walk_spec.specs.Stage2.{is_refused2}
 use Rattle.walk_spec.specs.Stage1.{untagged}
 use Rattle.walk_spec.specs.BothStages.{Landing, walk, is_refused1}
-use Rattle.machine_spec.specs.Marks.{Part, table, leaf, Mark, marks, is_first, is_global}
+use Rattle.machine_spec.specs.Marks.{table, leaf, Mark, marks, is_first, is_global}
 use Rattle.machine_spec.specs.Uses.{LastIs}
 use Rattle.machine_spec.specs.Allowed.{is_of_word, last_entry, last_entry1}
 use Rattle.machine_spec.specs.Rows.{holds}
@@ -79,30 +79,30 @@ pub record Laws : Type 0 where
   pub no_stage1 : (c : Config) (a : Access) (items : List Item) → (c.m ≡ true → is_refused1 c a ≡ true) → AllSecond (marks (regime_for c a) (walk c true a) items)
   -- what a row promises of the other addresses of its region
   pub chain_leaf : (c : Config) (s t : Side) (p q : Bool) (x y : ℕ) (trail : List Item) (u : Ask Need Item (End Leaf2)) (pre : List Mark) (m : Mark) (g : Bool) →
-    is_refused2 c x ≡ false → IsOn (regime_of c s) (chain (regime_of c s) p x) trail u → marks (regime_of c s) (chain (regime_of c s) p x) trail ≡ pre ++ m ∷ [] →
-    m.part ≡ leaf g true → holds m.region y ≡ true → ChainLeaf (regime_of c t) q trail (pre ++ m ∷ []) m.region.class y
+      is_refused2 c x ≡ false → IsOn (regime_of c s) (chain (regime_of c s) p x) trail u → marks (regime_of c s) (chain (regime_of c s) p x) trail ≡ pre ++ m ∷ [] →
+      m.part ≡ leaf g true → holds m.region y ≡ true → ChainLeaf (regime_of c t) q trail (pre ++ m ∷ []) m.region.class y
   pub chain_table : (c : Config) (s t : Side) (p q : Bool) (x y : ℕ) (trail : List Item) (u : Ask Need Item (End Leaf2)) (pre : List Mark) (m : Mark) →
-    is_refused2 c x ≡ false → IsOn (regime_of c s) (chain (regime_of c s) p x) trail u → marks (regime_of c s) (chain (regime_of c s) p x) trail ≡ pre ++ m ∷ [] →
-    m.part ≡ table true → holds m.region y ≡ true → ChainTable (regime_of c t) q trail (pre ++ m ∷ []) y
+      is_refused2 c x ≡ false → IsOn (regime_of c s) (chain (regime_of c s) p x) trail u → marks (regime_of c s) (chain (regime_of c s) p x) trail ≡ pre ++ m ∷ [] →
+      m.part ≡ table true → holds m.region y ≡ true → ChainTable (regime_of c t) q trail (pre ++ m ∷ []) y
   pub first_table : (c : Config) (a b : Access) (trail : List Item) (u : Ask Need Item (End Landing)) (pre : List Mark) (m : Mark) →
-    c.m ≡ true → is_refused1 c b ≡ false → IsOn (regime_for c a) (walk c true a) trail u → marks (regime_for c a) (walk c true a) trail ≡ pre ++ m ∷ [] →
-    is_first m ≡ true → m.part ≡ table true → holds m.region (untagged b.va) ≡ true → FirstTable c trail (pre ++ m ∷ []) b
+      c.m ≡ true → is_refused1 c b ≡ false → IsOn (regime_for c a) (walk c true a) trail u → marks (regime_for c a) (walk c true a) trail ≡ pre ++ m ∷ [] →
+      is_first m ≡ true → m.part ≡ table true → holds m.region (untagged b.va) ≡ true → FirstTable c trail (pre ++ m ∷ []) b
   pub first_leaf : (c : Config) (a b : Access) (trail : List Item) (l : Landing) →
-    c.m ≡ true → is_refused1 c b ≡ false → IsOn (regime_for c a) (walk c true a) trail (done (reaches l)) →
-    untagged b.va / 2 ^ l.class ≡ untagged a.va / 2 ^ l.class → FirstLeaf c trail (marks (regime_for c a) (walk c true a) trail) l.class b
+      c.m ≡ true → is_refused1 c b ≡ false → IsOn (regime_for c a) (walk c true a) trail (done (reaches l)) →
+      untagged b.va / 2 ^ l.class ≡ untagged a.va / 2 ^ l.class → FirstLeaf c trail (marks (regime_for c a) (walk c true a) trail) l.class b
   -- a trail that leads to a translation ends in a word
   pub mapped_last : (c : Config) (j : Bool) (a : Access) (trail : List Item) (l : Landing) → IsOn (regime_for c a) (walk c j a) trail (done (reaches l)) →
-    LastIs IsWord (marks (regime_for c a) (walk c j a) trail)
+      LastIs IsWord (marks (regime_for c a) (walk c j a) trail)
   pub judged : (c : Config) (a : Access) (trail : List Item) (l : Landing) → c.m ≡ true → is_refused1 c a ≡ false →
-    IsOn (regime_for c a) (walk c false a) trail (done (reaches l)) → Judged c trail a
+      IsOn (regime_for c a) (walk c false a) trail (done (reaches l)) → Judged c trail a
   -- the last items of two trails tell their classes and global flags
   pub keys : (c : Config) (a : Access) (xs ys : List Item) (l m : Landing) (n o : Mark) →
-    c.m ≡ true → is_refused1 c a ≡ false →
-    IsOn (regime_for c a) (walk c false a) xs (done (reaches l)) → IsOn (regime_for c a) (walk c false a) ys (done (reaches m)) →
-    last_first (marks (regime_for c a) (walk c false a) xs) ≡ Some n → last_first (marks (regime_for c a) (walk c false a) ys) ≡ Some o →
-    last_entry1 xs ≡ last_entry1 ys → last_entry xs ≡ last_entry ys → (l.class ≡ m.class) × (is_global n.part ≡ is_global o.part)
+      c.m ≡ true → is_refused1 c a ≡ false →
+      IsOn (regime_for c a) (walk c false a) xs (done (reaches l)) → IsOn (regime_for c a) (walk c false a) ys (done (reaches m)) →
+      last_first (marks (regime_for c a) (walk c false a) xs) ≡ Some n → last_first (marks (regime_for c a) (walk c false a) ys) ≡ Some o →
+      last_entry1 xs ≡ last_entry1 ys → last_entry xs ≡ last_entry ys → (l.class ≡ m.class) × (is_global n.part ≡ is_global o.part)
   -- such a trail has an item of stage 1
   pub has_first : (c : Config) (a : Access) (xs : List Item) (l : Landing) → c.m ≡ true → is_refused1 c a ≡ false →
-    IsOn (regime_for c a) (walk c false a) xs (done (reaches l)) → (m : Mark) × (last_first (marks (regime_for c a) (walk c false a) xs) ≡ Some m)
+      IsOn (regime_for c a) (walk c false a) xs (done (reaches l)) → (m : Mark) × (last_first (marks (regime_for c a) (walk c false a) xs) ≡ Some m)
   pub keys2 : (r : Regime) (p : Bool) (x : ℕ) (xs ys : List Item) (l m : Leaf2) →
-    IsOn r (chain r p x) xs (done (reaches l)) → IsOn r (chain r p x) ys (done (reaches m)) → last_entry xs ≡ last_entry ys → l.class ≡ m.class
+      IsOn r (chain r p x) xs (done (reaches l)) → IsOn r (chain r p x) ys (done (reaches m)) → last_entry xs ≡ last_entry ys → l.class ≡ m.class

@@ -4,7 +4,6 @@ use Rattle.std.specs.Prelude.{filter, find}
 use Rattle.std.proofs.lemmas.Option.{same_Some}
 use Rattle.machine_laws.proofs.Facts.{In}
 
-
 module _ {X : Type 0} (P : List X → Type 0) (step : (xs : List X) (x : X) → P xs → P (xs ++ x ∷ [])) where
   ends : (ys xs : List X) → P ys → P (ys ++ xs)
   ends ys [] h = rw append-nil h

@@ -2,17 +2,16 @@
 use Rattle.std.proofs.Common.{◌≡◌, ℕ, Bool, true, false, List, [], ◌∷◌, ◌++◌, ◌⊎◌, inl, inr, refl, sym, ap, ◌∙◌, subst, append_assoc, append-nil, Option, Some, None}
 use Rattle.std.specs.Prelude.{Result, Ok, Err, option_map}
 use Rattle.std.proofs.lemmas.Bool.{both_ways}
-use Rattle.sysregs.specs.Registers.{config_of}
 use Rattle.sysregs.specs.Sides.{side_of}
 use Rattle.fault_codes.specs.declared.fault.Fault.{Fault}
 use Rattle.fault_codes.specs.declared.fault.Stage.{Stage}
-use Rattle.fault_codes.specs.declared.fault.Stage.TheVariants.{S1, S2}
+use Rattle.fault_codes.specs.declared.fault.Stage.TheVariants.{S1}
 use Rattle.table_reads.specs.Numbers.{sizes1}
 use Rattle.table_reads.specs.Items.{base_item}
 use Rattle.trails.specs.declared.item.Item.{Item}
 use Rattle.trails.specs.declared.outcome.Access.{Access}
 use Rattle.walk_spec.specs.declared.leaf.Leaf2.{Leaf2}
-use Rattle.walk_spec.specs.Ask.{Ask, done, ask, after, ended, lacks}
+use Rattle.walk_spec.specs.Ask.{Ask, done, ask, after, lacks}
 use Rattle.walk_spec.specs.Needs.{Regime, Need, base1, base2, word, WordNeed, fits, needed_item}
 use Rattle.walk_spec.specs.Steps.{End, stops, reaches}
 use Rattle.walk_spec.specs.Stage2.{walk2_behind}
@@ -25,13 +24,13 @@ use Rattle.machine_spec.specs.Uses.{next_first, above_of, AllUsed, LastIs}
 use Rattle.machine_spec.specs.Kept.{View, now, IsNowBase}
 use Rattle.machine_spec.specs.Allowed.{is_of_word, IsNowOf}
 use Rattle.machine_spec.specs.Rows.{Row}
-use Rattle.machine_spec.specs.Served.{Supplied, gives, nothing, both, supplied_by, supply, Stop, came, clash, Reply, pushed, goes_on, serve}
-use Rattle.machine_laws.proofs.Trees.{IsOn, is_need1, needs_base, chain, Plan, fin, own, via, joined, flat, rest_by, IsSound, IsSecond, IsWords, AllSecond}
+use Rattle.machine_spec.specs.Served.{Supplied, gives, nothing, both, supplied_by, supply, came, Reply, pushed, goes_on, serve}
+use Rattle.machine_laws.proofs.Trees.{IsOn, is_need1, needs_base, chain, Plan, fin, own, via, joined, flat, rest_by, IsSound, IsWords, AllSecond}
 use Rattle.machine_laws.proofs.Facts.{regime_for}
 use Rattle.machine_laws.proofs.Laws.{Laws}
 use Rattle.machine_laws.proofs.Stands.{on_append, marks_append, on_after, marks_nil, joined_is, via_marks, mark_first, mark_item, second_marks, words_second, nil_right}
 use Rattle.machine_laws.proofs.Uses.{none_of, chain_append, last_append, last_more}
-use Rattle.machine_laws.proofs.Fine.{Good, IsNow, LastOk, Kept1, place_of, config_at, FineBy, Start, Whole, Begins, PlansAreFine}
+use Rattle.machine_laws.proofs.Fine.{Good, IsNow, LastOk, Kept1, place_of, config_at, FineBy, Start, Begins, PlansAreFine}
 use Rattle.machine_laws.proofs.Begins.{chain_second}
 use Rattle.machine_laws.proofs.Serve.{fits_base1, fits_needed, opened, IsFresh, AllFresh, fresh_next, fresh_used, fresh_last, prepend, serve_queue, last_ok_none, fine_after, pre_own, pre_via, above_now}
 
@@ -69,7 +68,7 @@ module _ (v : View) (rows : List Row) (a : Access) where
   abbrev Lacks : List Item → Ask Need Item (End Leaf2) → Reply → Type 0
   Lacks is left r =
       (w : WordNeed) × (k : Item → Ask Need Item (End Leaf2)) × (left ≡ ask (word w) k) × (memory_after v.header v.log w.place ≡ None)
-        × (r ≡ record { items = is; stop = came (lacks (word w)); by = [] })
+      × (r ≡ record { items = is; stop = came (lacks (word w)); by = [] })
 
   record Ran (t : Ask Need Item (End Leaf2)) (f : End Leaf2 → Ask Need Item (End Landing)) (r : Reply) : Type 0 where
     items : List Item
@@ -113,7 +112,7 @@ module _ (v : View) (rows : List Row) (a : Access) where
       let s : AllSecond (marks rg left is) = second_marks rg left is (words_second left w) in
       subst (AllUsed (Good v) None) (sym (marks_append rg (chain rg p x) left q is on))
       (chain_append (Good v) (now v) (opened v) None (marks rg (chain rg p x) q) (marks rg left is) second (fresh_next v None (marks rg left is) tt f) used
-        (fresh_used v None (marks rg left is) tt s f))
+      (fresh_used v None (marks rg left is) tt s f))
 
   -- and what its last item meets
   last_all : (P : Mark → Type 0) → ((m : Mark) → m.item.moment ≡ now v → P m) → (p : Bool) (x : ℕ) (q is : List Item) (left : Ask Need Item (End Leaf2)) →
@@ -200,10 +199,10 @@ module _ (laws : Laws) (v : View) (rows : List Row) (a : Access) (p : Bool) (x :
       let rest : Ask Need Item (End Landing) = flat (rg v rows a) (rest_by (next e) k) in
       let r : Reply = serve (sup v rows a) [] (go_on e) in
       let pre = pre_via v (rg v rows a) above p x next k cs e (refl, λ i. words_second (walk2_behind (asked2 (rg v rows a) p x) i.value) (laws.behind_words (rg v rows a) p x i.value))
-          (λ n eq. (sound.2 e n eq).0) up (whole_on i q is b (done e) on f) (whole_used i q is b (done e) on f) (whole_base i q is b (done e) on f) (last_end i q is b e on f) in
+      (λ n eq. (sound.2 e n eq).0) up (whole_on i q is b (done e) on f) (whole_used i q is b (done e) on f) (whole_base i q is b (done e) on f) (last_end i q is b e on f) in
       let g : Fine v rows a above rest r = subst (λ t. Fine v rows a above rest (serve (sup v rows a) [] t)) (sym (joined_is (rg v rows a) (next e) k)) (rec e) in
       let all : FineBy v (rg v rows a) above tree (cs ++ r.items) r.stop =
-          fine_after v (rg v rows a) (Kept1 v (rg v rows a) above tree) (Kept1 v (rg v rows a) above rest) tree rest cs r.items r.stop pre g in
+      fine_after v (rg v rows a) (Kept1 v (rg v rows a) above tree) (Kept1 v (rg v rows a) above rest) tree rest cs r.items r.stop pre g in
       subst (λ items. FineBy v (rg v rows a) above tree items r.stop) (append_assoc (i ∷ q) is r.items) all
 
   -- a word of the chain is absent
@@ -212,9 +211,14 @@ module _ (laws : Laws) (v : View) (rows : List Row) (a : Access) (p : Bool) (x :
       Fine v rows a above tree (prepend (i ∷ q) (record { items = is; stop = came (lacks (word w)); by = [] }))
   went_out i q is b w go on f lost =
       let cs : List Item = (i ∷ q) ++ is in
-      let at : IsOn (rg v rows a) (chain (rg v rows a) p x) cs (ask (word w) go) = whole_on i q is b (ask (word w) go) on f in
-      (w, (λ i. after (go i) go_on), refl, on_after (rg v rows a) (chain (rg v rows a) p x) (ask (word w) go) go_on cs at,
-       kept_chain cs (ask (word w) go) at (whole_used i q is b (ask (word w) go) on f) (whole_base i q is b (ask (word w) go) on f), lost)
+      let at : IsOn (rg v rows a) (chain (rg v rows a) p x) cs (ask (word w) go) = whole_on i q is b (ask (word w) go) on f in (
+        w,
+        (λ i. after (go i) go_on),
+        refl,
+        on_after (rg v rows a) (chain (rg v rows a) p x) (ask (word w) go) go_on cs at,
+        kept_chain cs (ask (word w) go) at (whole_used i q is b (ask (word w) go) on f) (whole_base i q is b (ask (word w) go) on f),
+        lost,
+      )
 
   went_how : (i : Item) (q is : List Item) (b : Start v (rg v rows a) p x i q) (left : Ask Need Item (End Leaf2)) → IsOn (rg v rows a) b.left is left →
       AllFresh v (marks (rg v rows a) b.left is) → (r : Reply) → Goes v rows a go_on is left r ⊎ Lacks v rows a is left r → Fine v rows a above tree (prepend (i ∷ q) r)
@@ -228,14 +232,22 @@ module _ (laws : Laws) (v : View) (rows : List Row) (a : Access) (p : Bool) (x :
   by_start : (s : Supplied) → Begins v (rg v rows a) p x s →
       Fine v rows a above tree (goes_on (base2 x) s (λ i rest. serve (sup v rows a) rest (after (walk2_behind (asked2 (rg v rows a) p x) i.value) go_on)))
   by_start nothing b = absurd b
-  by_start (both one two) b =
-      (x, (λ i. after (walk2_behind (asked2 (rg v rows a) p x) i.value) go_on), refl, (p, b.0.leaf, b.0.on), (p, b.1.leaf, b.1.on), b.2,
-       kept_chain one (done (reaches b.0.leaf)) b.0.on b.0.used b.0.last_base, kept_chain two (done (reaches b.1.leaf)) b.1.on b.1.used b.1.last_base, sound.0)
+  by_start (both one two) b = (
+    x,
+    (λ i. after (walk2_behind (asked2 (rg v rows a) p x) i.value) go_on),
+    refl,
+    (p, b.0.leaf, b.0.on),
+    (p, b.1.leaf, b.1.on),
+    b.2,
+    kept_chain one (done (reaches b.0.leaf)) b.0.on b.0.used b.0.last_base,
+    kept_chain two (done (reaches b.1.leaf)) b.1.on b.1.used b.1.last_base,
+    sound.0,
+  )
   by_start (gives i q by) b =
       let behind : Ask Need Item (End Leaf2) = walk2_behind (asked2 (rg v rows a) p x) i.value in
       let r = ran v rows a b.left go_on b.words in
       let e : serve (sup v rows a) q (after behind go_on) ≡ prepend q (serve (sup v rows a) [] (after b.left go_on)) =
-          serve_queue (rg v rows a) (sup v rows a) q (after behind go_on) (after b.left go_on) (on_after (rg v rows a) behind b.left go_on q b.on.1) in
+      serve_queue (rg v rows a) (sup v rows a) q (after behind go_on) (after b.left go_on) (on_after (rg v rows a) behind b.left go_on q b.on.1) in
       subst (λ r. Fine v rows a above tree (pushed i by r)) (sym e) (went_how i q r.items b r.left r.on r.fresh (serve (sup v rows a) [] (after b.left go_on)) r.how)
 
 -- THE WHOLE PLAN
@@ -257,13 +269,13 @@ module _ (laws : Laws) (v : View) (rows : List Row) (a : Access) (side : v.side 
       let u : Option ℕ = above_of above m in
       let r : Reply = serve (sup v rows a) [] (flat (rg v rows a) (k i)) in
       fine_after v (rg v rows a) (Kept1 v (rg v rows a) above (flat (rg v rows a) (own n k))) (Kept1 v (rg v rows a) u (flat (rg v rows a) (k i)))
-        (flat (rg v rows a) (own n k)) (flat (rg v rows a) (k i)) (i ∷ []) r.items r.stop
-        (pre_own v (rg v rows a) above n k i sound fit f) (rec u (above_now v (rg v rows a) above m (mark_first (rg v rows a) n i ∙ sound.0) f.now_is))
+      (flat (rg v rows a) (own n k)) (flat (rg v rows a) (k i)) (i ∷ []) r.items r.stop
+      (pre_own v (rg v rows a) above n k i sound fit f) (rec u (above_now v (rg v rows a) above m (mark_first (rg v rows a) n i ∙ sound.0) f.now_is))
 
   fine_word : (above : Option ℕ) (w : WordNeed) (k : Item → Plan) → IsSound (rg v rows a) (own (word w) k) → ((i : Item) → IsFine (k i)) →
       (o : Option ℕ) → memory_after v.header v.log w.place ≡ o →
       Fine v rows a above (flat (rg v rows a) (own (word w) k))
-        (goes_on (word w) (supplied_by (option_map (needed_item (now v) w) o)) (λ i rest. serve (sup v rows a) rest (flat (rg v rows a) (k i))))
+      (goes_on (word w) (supplied_by (option_map (needed_item (now v) w) o)) (λ i rest. serve (sup v rows a) rest (flat (rg v rows a) (k i))))
   fine_word above w k sound rec None is = (w, (λ i. flat (rg v rows a) (k i)), refl, refl, record { used = tt; next = tt; last_base = tt }, is)
   fine_word above w k sound rec (Some value) is =
       let i : Item = needed_item (now v) w value in
@@ -290,8 +302,8 @@ module _ (laws : Laws) (v : View) (rows : List Row) (a : Access) (side : v.side 
   fine_plan (own n k) sound = fine_own n k sound (λ i. fine_plan (k i) (sound.2 i))
   fine_plan (via p x next k) sound = λ above up.
       by_start laws v rows a p x next k above up sound
-        (λ e. fine_rest (next e) k (λ n eq. sound.2 e n eq) sound.3 (λ i. fine_plan (k i) (sound.3 i)) above up)
-        (sup v rows a (base2 x)) (begins p x)
+      (λ e. fine_rest (next e) k (λ n eq. sound.2 e n eq) sound.3 (λ i. fine_plan (k i) (sound.3 i)) above up)
+      (sup v rows a (base2 x)) (begins p x)
 
 -- every plan that is served is fine, where every chain begins well
 pub plans_are_fine : Laws → PlansAreFine

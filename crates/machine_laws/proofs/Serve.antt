@@ -1,9 +1,9 @@
 -- What memory and registers give fits what is needed and is kept; and what is served behind items that are kept is kept with them.
-use Rattle.std.proofs.Common.{◌≡◌, ℕ, ◌*◌, ◌/◌, ◌%◌, ◌^◌, ◌<◌, ◌≤◌, Bool, true, false, cond, List, [], ◌∷◌, ◌++◌, length, take, map, refl, sym, ap, ◌∙◌, subst, append_assoc, append-nil, Option, Some, None, arith}
-use Rattle.std.specs.Prelude.{ℤ, pos, negsuc, slice_get, unwrap_or, Result, Ok, Err, ◌==◌, ◌&&◌, nat_lt}
+use Rattle.std.proofs.Common.{◌≡◌, ℕ, ◌*◌, ◌/◌, ◌%◌, ◌^◌, ◌<◌, ◌≤◌, Bool, true, false, List, [], ◌∷◌, ◌++◌, length, take, map, refl, sym, ap, ◌∙◌, subst, append_assoc, append-nil, Option, Some, None, arith}
+use Rattle.std.specs.Prelude.{ℤ, pos, negsuc, Result, Ok, Err}
 use Rattle.std.proofs.lemmas.List.{take_all, length-map}
-use Rattle.std.proofs.lemmas.Option.{slice_get_within, option_and_then_some, same_Some}
-use Rattle.std.proofs.lemmas.Bool.{eq-eqb, lt-ltb, both_ways}
+use Rattle.std.proofs.lemmas.Option.{slice_get_within, option_and_then_some}
+use Rattle.std.proofs.lemmas.Bool.{eq-eqb, lt-ltb}
 use Rattle.std.proofs.Math.Nat.{div-mul-le_self, mul-mod_right}
 use Rattle.geometry.specs.Tables.{table_size, level_of}
 use Rattle.sysregs.specs.declared.regs.Regs.{Regs}
@@ -11,21 +11,18 @@ use Rattle.sysregs.specs.declared.regs.Side.{Side}
 use Rattle.sysregs.specs.declared.regs.Side.TheVariants.{Low, High}
 use Rattle.sysregs.specs.Registers.{config_of, vmid_of, asid_of, granule_of, ttbr_base, vttbr_base}
 use Rattle.sysregs.proofs.Granules.{base_below}
-use Rattle.fault_codes.specs.declared.fault.Fault.{Fault}
 use Rattle.fault_codes.specs.declared.fault.Stage.{Stage}
 use Rattle.fault_codes.specs.declared.fault.Stage.TheVariants.{S1, S2}
 use Rattle.table_reads.specs.declared.sizes.Sizes.{Sizes}
 use Rattle.table_reads.specs.Numbers.{sizes1, sizes2}
 use Rattle.table_reads.specs.Places.{aligned_base}
 use Rattle.table_reads.specs.Items.{base_item}
-use Rattle.table_reads.specs.Memory.{Memory}
 use Rattle.trails.specs.declared.item.Item.{Item}
-use Rattle.trails.specs.declared.event.Event.{Event}
 use Rattle.trails.specs.declared.step.Step.{Step}
 use Rattle.tlbi_ops.specs.declared.inval.Inval.{Inval}
 use Rattle.walk_spec.specs.Ask.{Ask, done, ask}
 use Rattle.walk_spec.specs.Needs.{Regime, regime_of, Need, base1, base2, word, WordNeed, stage_eq, level_eq, fits, fits_base as fits_base_by, needed_item}
-use Rattle.walk_spec.specs.Fresh.{given, start_base1, start_base2}
+use Rattle.walk_spec.specs.Fresh.{start_base1, start_base2}
 use Rattle.machine_spec.specs.Moments.{regs_at, regs_after, memory_after}
 use Rattle.machine_spec.specs.Invalidations.{issued_by, event_at, inval_at}
 use Rattle.machine_spec.specs.Marks.{Mark, mark}
@@ -35,13 +32,13 @@ use Rattle.walk_spec.specs.Steps.{End, stops, reaches}
 use Rattle.walk_spec.specs.BothStages.{Landing}
 use Rattle.walk_spec.specs.declared.leaf.Leaf2.{Leaf2}
 use Rattle.machine_spec.specs.Marks.{marks, is_first, is_leaf}
-use Rattle.machine_spec.specs.Uses.{next_first, next_second, use_of, above_of, AllUsed, LastIs}
+use Rattle.machine_spec.specs.Uses.{next_first, next_second, above_of, AllUsed, LastIs}
 use Rattle.machine_spec.specs.Kept.{IsNowBase}
 use Rattle.machine_spec.specs.Allowed.{IsNowOf}
 use Rattle.machine_spec.specs.Served.{Supplied, Stop, came, clash, Reply, pushed, serve}
 use Rattle.machine_laws.proofs.Trees.{IsOn, is_need1, needs_base, chain, Plan, fin, own, via, flat, rest_by, IsSound, IsSecond, AllSecond, IsWord}
 use Rattle.machine_laws.proofs.Fine.{Good, IsNow, LastOk, Kept1, FineOf}
-use Rattle.machine_laws.proofs.Stands.{on_append, marks_append, via_on, via_marks, mark_first, mark_base, mark_item, second_marks}
+use Rattle.machine_laws.proofs.Stands.{on_append, marks_append, via_on, via_marks, mark_first, mark_base, second_marks}
 use Rattle.machine_laws.proofs.Uses.{use_first, use_second, above_first, above_second, above_leaf, first_none, open_at, chain_append, first_here, last_more, last_append}
 
 -- WHAT IS GIVEN FITS
@@ -67,9 +64,13 @@ aligned_below n b h =
 -- an aligned base is one of its stage
 fits_aligned : (n : Sizes) (s : Stage) (k b : ℕ) → b < 2 ^ 52 → fits_base_by n s (base_item k s n (aligned_base n b)) ≡ true
 fits_aligned n s k b h =
-    rw (stage_self s, level_self (level_of n.start), eq-eqb (aligned_base n b) (aligned_base n b) refl,
-        eq-eqb (aligned_base n b % table_size n.granule n.input n.start) 0 (multiple b (table_size n.granule n.input n.start)),
-        lt-ltb (aligned_base n b) (2 ^ 52) (aligned_below n b h)) refl
+    rw (
+      stage_self s,
+      level_self (level_of n.start),
+      eq-eqb (aligned_base n b) (aligned_base n b) refl,
+      eq-eqb (aligned_base n b % table_size n.granule n.input n.start) 0 (multiple b (table_size n.granule n.input n.start)),
+      lt-ltb (aligned_base n b) (2 ^ 52) (aligned_below n b h),
+    ) refl
 
 ttbr_below : (regs : Regs) (s : Side) → ttbr_base regs s < 2 ^ 52
 ttbr_below regs Low = base_below (granule_of (config_of regs).tg0) (config_of regs).ips regs.ttbr0_el1
@@ -113,19 +114,21 @@ module _ (v : View) where
   pub fresh_good : (m : Mark) → IsFresh m → Good v m None
   fresh_good m f =
       let e : regs_when v m.item.moment ≡ regs_after v.core v.log = regs_now m.item.moment f.now_is in
-      let t : take m.item.moment v.log ≡ v.log = ap (λ n. take n v.log) f.now_is ∙ whole in
-      (record {
-        past = omega (arith, f.now_is);
-        held = record {
-          config_was = ap (λ n. config_of (regs_when v n)) f.now_is;
-          vmid_was = ap (λ n. vmid_of (regs_when v n)) f.now_is;
-          base = λ b. ap (λ g. base_by g v.side m.stage) e ∙ f.base b;
-          word = λ b. ap (λ l. memory_after v.header l m.item.pa) t ∙ f.word b;
-        };
-        at_base = λ b. f.now_is;
-        asid = λ h. ap (λ n. asid_of (regs_when v n)) f.now_is;
-        live = λ w k i past at reach cov is. let lt = inval_within v.log k i at in omega (arith, lt, past, f.now_is);
-      }, omega arith)
+      let t : take m.item.moment v.log ≡ v.log = ap (λ n. take n v.log) f.now_is ∙ whole in (
+        record {
+          past = omega (arith, f.now_is);
+          held = record {
+            config_was = ap (λ n. config_of (regs_when v n)) f.now_is;
+            vmid_was = ap (λ n. vmid_of (regs_when v n)) f.now_is;
+            base = λ b. ap (λ g. base_by g v.side m.stage) e ∙ f.base b;
+            word = λ b. ap (λ l. memory_after v.header l m.item.pa) t ∙ f.word b;
+          };
+          at_base = λ b. f.now_is;
+          asid = λ h. ap (λ n. asid_of (regs_when v n)) f.now_is;
+          live = λ w k i past at reach cov is. let lt = inval_within v.log k i at in omega (arith, lt, past, f.now_is);
+        },
+        omega arith,
+      )
 
   abbrev pub AllFresh : List Mark → Type 0
   AllFresh [] = Unit {0}
@@ -137,9 +140,10 @@ module _ (v : View) where
 
   pub fresh_used : (above : Option ℕ) (ms : List Mark) → IsNow (now v) above → AllSecond ms → AllFresh ms → AllUsed (Good v) above ms
   fresh_used above [] h s f = tt
-  fresh_used above (m ∷ ms) h s f =
-      (subst (Good v m) (sym (use_second above m ms s.0)) (open_at (Good v) (now v) opened m (next_second above ms) (fresh_next above ms h f.1) (fresh_good m f.0)),
-       subst (λ o. AllUsed (Good v) o ms) (sym (above_second above m s.0)) (fresh_used above ms h s.1 f.1))
+  fresh_used above (m ∷ ms) h s f = (
+    subst (Good v m) (sym (use_second above m ms s.0)) (open_at (Good v) (now v) opened m (next_second above ms) (fresh_next above ms h f.1) (fresh_good m f.0)),
+    subst (λ o. AllUsed (Good v) o ms) (sym (above_second above m s.0)) (fresh_used above ms h s.1 f.1),
+  )
 
   -- the last of them was read now
   pub fresh_last : (P : Mark → Type 0) → ((m : Mark) → m.item.moment ≡ now v → P m) → (ms : List Mark) → AllFresh ms → LastIs P ms
@@ -193,9 +197,17 @@ module _ (v : View) (r : Regime) where
       FineOf L v r u items stop → FineOf K v r t (pre ++ items) stop
   fine_after K L t u pre items (came (ended e)) p f = (on_append r t u (done e) pre items p.on f.0, p.kept items f.1, last_after t u pre items e p.on f.0 p.last f.2)
   fine_after K L t u pre items (came (lacks n)) p f = (f.0, f.1, f.2, on_append r t u (ask n f.1) pre items p.on f.3, p.kept items f.4, f.5)
-  fine_after K L t u pre items (clash one two) p f =
-      (f.0, f.1, on_append r t u (ask (base2 f.0) f.1) pre items p.on f.2, f.3, f.4, f.5,
-       subst K (sym (append_assoc pre items one)) (p.kept (items ++ one) f.6), subst K (sym (append_assoc pre items two)) (p.kept (items ++ two) f.7), f.8)
+  fine_after K L t u pre items (clash one two) p f = (
+    f.0,
+    f.1,
+    on_append r t u (ask (base2 f.0) f.1) pre items p.on f.2,
+    f.3,
+    f.4,
+    f.5,
+    subst K (sym (append_assoc pre items one)) (p.kept (items ++ one) f.6),
+    subst K (sym (append_assoc pre items two)) (p.kept (items ++ two) f.7),
+    f.8,
+  )
 
   -- the item of a question of stage 1, read now
   pub above_now : (above : Option ℕ) (m : Mark) → is_first m ≡ true → m.item.moment ≡ now v → IsNow (now v) (above_of above m)
@@ -220,13 +232,16 @@ module _ (v : View) (r : Regime) where
       record {
         on = (fit, refl);
         kept = λ items h. record {
-          used = (subst (Good v m) (sym (use_first above m (marks r (flat r (k i)) items) one))
-            (open_at (Good v) (now v) (opened v) m (next_first (marks r (flat r (k i)) items)) h.next (fresh_good v m f)), h.used);
+          used = (
+            subst (Good v m) (sym (use_first above m (marks r (flat r (k i)) items) one))
+                (open_at (Good v) (now v) (opened v) m (next_first (marks r (flat r (k i)) items)) h.next (fresh_good v m f)),
+            h.used,
+          );
           next = first_now m (marks r (flat r (k i)) items) one f.now_is;
           last_base = last_append (IsNowBase (now v)) (m ∷ []) (marks r (flat r (k i)) items) (λ b. f.now_is) h.last_base;
         };
         last = λ e h. subst (λ t. LastOk (now v) e (m ∷ marks r t [])) (sym h)
-          (last_one (now v) e m f.now_is (λ l is. mark_base r n i ∙ no_base n k i sound l (needs_base n) refl (flat_fin r (k i) (reaches l) (h ∙ ap (λ e. done e) is))));
+            (last_one (now v) e m f.now_is (λ l is. mark_base r n i ∙ no_base n k i sound l (needs_base n) refl (flat_fin r (k i) (reaches l) (h ∙ ap (λ e. done e) is))));
       }
 
   err_of : (o : Result Need (End Landing)) (k : Item → Plan) (e : End Landing) → flat r (rest_by o k) ≡ done e → o ≡ Err e
@@ -253,11 +268,11 @@ module _ (v : View) (r : Regime) where
     kept = λ items h.
         let rest : List Mark = marks r (flat r (rest_by (next e) k)) items in
         let ms : marks r (flat r (via p x next k)) (cs ++ items) ≡ marks r (chain r p x) cs ++ rest =
-            marks_append r (flat r (via p x next k)) (flat r (rest_by (next e) k)) cs items (via_on r p x next k cs e on) ∙ ap (λ l. l ++ rest) (via_marks r p x next k cs (done e) on) in
+        marks_append r (flat r (via p x next k)) (flat r (rest_by (next e) k)) cs items (via_on r p x next k cs e on) ∙ ap (λ l. l ++ rest) (via_marks r p x next k cs (done e) on) in
         let s : AllSecond (marks r (chain r p x) cs) = second_marks r (chain r p x) cs second in
         record {
           used = subst (AllUsed (Good v) above) (sym ms)
-            (chain_append (Good v) (now v) (opened v) above (marks r (chain r p x) cs) rest s (rest_now above (next e) k items a one h) used h.used);
+              (chain_append (Good v) (now v) (opened v) above (marks r (chain r p x) cs) rest s (rest_now above (next e) k items a one h) used h.used);
           next = subst (λ l. IsNow (now v) (next_first l)) (sym ms) (subst (IsNow (now v)) (sym (first_none (marks r (chain r p x) cs) rest s)) h.next);
           last_base = subst (LastIs (IsNowBase (now v))) (sym ms) (last_append (IsNowBase (now v)) (marks r (chain r p x) cs) rest base h.last_base);
         };

@@ -1,46 +1,45 @@
 -- Every access is served well: the answer is right, and what the rows that are made need is at hand.
-use Rattle.std.proofs.Common.{◌≡◌, ℕ, ◌<◌, ◌≤◌, Bool, true, false, cond, List, [], ◌∷◌, ◌++◌, length, ◌⊎◌, inl, inr, refl, sym, ap, ◌∙◌, subst, append-nil, append_assoc, Option, Some, None, arith}
-use Rattle.std.specs.Prelude.{unwrap_or, ◌&&◌, not, filter}
-use Rattle.std.proofs.lemmas.Bool.{both_ways, and_parts, not-true, cases_Bool}
+use Rattle.std.proofs.Common.{◌≡◌, ℕ, ◌<◌, Bool, true, false, cond, List, [], ◌∷◌, ◌++◌, inl, inr, refl, sym, ap, ◌∙◌, subst, append_assoc, Option, Some, None, arith}
+use Rattle.std.specs.Prelude.{◌&&◌, not, filter}
+use Rattle.std.proofs.lemmas.Bool.{both_ways, cases_Bool}
 use Rattle.std.proofs.lemmas.Option.{same_Some}
 use Rattle.sysregs.specs.declared.regs.Config.{Config}
-use Rattle.sysregs.specs.Registers.{config_of, asid_of, vmid_of}
+use Rattle.sysregs.specs.Registers.{config_of, asid_of}
 use Rattle.sysregs.specs.Sides.{side_of}
 use Rattle.fault_codes.specs.declared.fault.Fault.{Fault}
 use Rattle.fault_codes.specs.declared.fault.Stage.TheVariants.{S1, S2}
 use Rattle.trails.specs.declared.item.Item.{Item}
 use Rattle.trails.specs.declared.outcome.Access.{Access}
-use Rattle.trails.specs.declared.outcome.Outcome.{Outcome}
 use Rattle.tlbi_ops.specs.Covers.{is_stage1}
 use Rattle.walk_spec.specs.declared.leaf.Leaf2.{Leaf2}
-use Rattle.walk_spec.specs.Ask.{Ask, done, ask, Fed, ended, lacks, ends, needs, on}
+use Rattle.walk_spec.specs.Ask.{Ask, done, ask, ended, lacks, ends, needs, on}
 use Rattle.walk_spec.specs.Needs.{Regime, regime_of, Need, base1, base2, word, WordNeed, fits}
 use Rattle.walk_spec.specs.Steps.{End, stops, reaches}
-use Rattle.walk_spec.specs.Stage2.{is_refused2, walk2, fault2, Asked2}
+use Rattle.walk_spec.specs.Stage2.{is_refused2, fault2, Asked2}
 use Rattle.walk_spec.specs.Stage1.{asked2, untagged}
 use Rattle.walk_spec.specs.BothStages.{Landing, walk, is_refused1, outcome_of}
 use Rattle.walk_spec.specs.Fresh.{given, fed_outcome}
 use Rattle.walk_laws.specs.Shift.{stands, stands2}
 use Rattle.machine_spec.specs.Header.{Kind, leaf1, table1, leaf2, table2}
 use Rattle.machine_spec.specs.Moments.{regs_after, memory_after}
-use Rattle.machine_spec.specs.Marks.{Mark, mark, marks, is_first, is_leaf, is_global, has_asid}
-use Rattle.machine_spec.specs.Uses.{use_of, above_of, next_first, AllUsed, LastIs}
+use Rattle.machine_spec.specs.Marks.{Mark, mark, marks, is_first}
+use Rattle.machine_spec.specs.Uses.{use_of, above_of, AllUsed, LastIs}
 use Rattle.machine_spec.specs.Kept.{View, now, regs_when, IsKeptNow, IsNowBase, IsKept}
 use Rattle.machine_spec.specs.Allowed.{is_of_word, IsNowOf, FaultIsRead, last_entry, last_entry1, Case, IsEnded, IsLacking, IsTwice, IsForked, Reaches, IsConflict, IsRight}
 use Rattle.machine_spec.specs.Rows.{Row, holds, matches1, is_older, inserted, by_making, matching, deepest}
 use Rattle.machine_spec.specs.Made.{key_of, last_first, or_mark}
-use Rattle.machine_spec.specs.Served.{Supplied, gives, nothing, both, supplied_by, chain_by, begun2, chain_of, fresh_of, supply, Stop, came, clash, Reply, pushed, stopped, serve, taken, credited, begun1, combined, served}
+use Rattle.machine_spec.specs.Served.{Supplied, supplied_by, chain_by, begun2, chain_of, fresh_of, supply, Stop, came, clash, Reply, pushed, stopped, serve, taken, credited, begun1, combined, served}
 use Rattle.machine_spec.specs.Machine.{Core}
 use Rattle.machine_laws.proofs.Trees.{IsOn, chain, Plan, fin, flat, IsWord, AllSecond}
 use Rattle.machine_laws.proofs.Facts.{In, sided, regime_for, IsStored, Suits, IsLeafRow1, IsTableRow1, IsRowBy, IsApart, AllApart, Facts}
 use Rattle.machine_laws.proofs.Laws.{Laws, Judged, IsCut}
 use Rattle.machine_laws.proofs.Lists.{In-filter}
 use Rattle.machine_laws.proofs.Stands.{on_ends, on_needs, marks_append, marks_nil}
-use Rattle.machine_laws.proofs.Uses.{used_map, table_append, cut_used, last_map, last_more}
-use Rattle.machine_laws.proofs.Fine.{Good, IsNow, LastOk, Kept1, place_of, config_at, here, FineOf, FineBy, Begins, PlansAreFine, RightBy, IsUsed, UsedBy, IsAlone, ServedOk, ServesWell}
+use Rattle.machine_laws.proofs.Uses.{used_map, table_append, cut_used, last_more}
+use Rattle.machine_laws.proofs.Fine.{Good, LastOk, Kept1, place_of, config_at, here, FineOf, FineBy, Begins, PlansAreFine, RightBy, UsedBy, IsAlone, ServedOk, ServesWell}
 use Rattle.machine_laws.proofs.Found.{In-matching, In-deepest, apart_matching, Match, matched1, region_same, NamesLive, serve_live, taken_none}
 use Rattle.machine_laws.proofs.Begins.{regs_now, last_word_base, Same, stored_good, begins, base_now}
-use Rattle.machine_laws.proofs.Serve.{fits_base2, fresh_good, opened, prepend, serve_queue, flat_fin, last_ok_more, Pre, fine_after}
+use Rattle.machine_laws.proofs.Serve.{fits_base2, fresh_good, opened, prepend, serve_queue, flat_fin, Pre, fine_after}
 
 none_some : {X P : Type 0} (x : X) → ◌≡◌ {A = Option X} None (Some x) → P
 none_some x h = cc
@@ -119,7 +118,7 @@ stands_chain : (c : Config) (s : Rattle.sysregs.specs.declared.regs.Side.Side) (
     IsOn (regime_of c s) (chain (regime_of c s) p x) items (done (reaches l)) → stands2 c s p x items ≡ ends (reaches l) []
 stands_chain c s p x items l ok h =
     ap (λ t. on (fits (regime_of c s)) t items) (chain_if (asked2 (regime_of c s) p x) (is_refused2 c x) (chain (regime_of c s) p x) (stops (fault2 (asked2 (regime_of c s) p x) Rattle.fault_codes.specs.declared.fault.Class.TheVariants.Translation Rattle.geometry.specs.Tables.most_left)) ok)
-      ∙ on_ends (regime_of c s) (chain (regime_of c s) p x) (reaches l) items h
+    ∙ on_ends (regime_of c s) (chain (regime_of c s) p x) (reaches l) items h
 
 -- the stage of an item that is of a fault's stage
 stage_of : (s t : Rattle.fault_codes.specs.declared.fault.Stage.Stage) → is_stage1 t ≡ false → Rattle.walk_spec.specs.Needs.stage_eq s t ≡ true → is_stage1 s ≡ false
@@ -196,36 +195,40 @@ module _ (laws : Laws) (plans : PlansAreFine) (v : View) (w : Core) (a : Access)
 
   both_of : (items : List Item) (stop : Stop) → FineOf KeptHere v rg (here v a) items stop → IsBoth items stop
   both_of items (came (ended e)) h by = (right_ended e items (ended_of e items h.0 h.1 h.2), record { on = h.0; used = h.1.0 })
-  both_of items (came (lacks n)) h by =
-      (subst (λ z. IsRight case_here items None (fed_outcome (lacks z))) (sym h.2) (lacking_of h.0 h.1 items (subst (λ z. IsOn rg (here v a) items (ask z h.1)) h.2 h.3) h.4 h.5),
-       (h.1, record { on = h.3; used = h.4.0 }))
-  both_of items (clash one two) h by =
-      (record {
-        other = items ++ two;
-        both = refl;
-        how = inr (record {
-          front = items;
-          ipa = h.0;
-          one = one;
-          two = two;
-          first_is = refl;
-          second_is = refl;
-          walk_needs = at_now (λ c. on (fits (regime_of c (side_of a.va))) (walk c true a) items ≡ needs (base2 h.0)) (on_needs rg (here v a) (base2 h.0) h.1 items h.2);
-          reaches_one = reaches_of h.3.0 h.0 one h.3.1 h.8 h.3.2;
-          reaches_two = reaches_of h.4.0 h.0 two h.4.1 h.8 h.4.2;
-          differ = h.5;
-          kept_first = kept_of true (items ++ one) h.6.0 h.6.1;
-          kept_second = kept_of true (items ++ two) h.7.0 h.7.1;
-        });
-      }, tt)
+  both_of items (came (lacks n)) h by = (
+    subst (λ z. IsRight case_here items None (fed_outcome (lacks z))) (sym h.2) (lacking_of h.0 h.1 items (subst (λ z. IsOn rg (here v a) items (ask z h.1)) h.2 h.3) h.4 h.5),
+    (h.1, record { on = h.3; used = h.4.0 }),
+  )
+  both_of items (clash one two) h by = (
+    record {
+      other = items ++ two;
+      both = refl;
+      how = inr (record {
+        front = items;
+        ipa = h.0;
+        one = one;
+        two = two;
+        first_is = refl;
+        second_is = refl;
+        walk_needs = at_now (λ c. on (fits (regime_of c (side_of a.va))) (walk c true a) items ≡ needs (base2 h.0)) (on_needs rg (here v a) (base2 h.0) h.1 items h.2);
+        reaches_one = reaches_of h.3.0 h.0 one h.3.1 h.8 h.3.2;
+        reaches_two = reaches_of h.4.0 h.0 two h.4.1 h.8 h.4.2;
+        differ = h.5;
+        kept_first = kept_of true (items ++ one) h.6.0 h.6.1;
+        kept_second = kept_of true (items ++ two) h.7.0 h.7.1;
+      });
+    },
+    tt,
+  )
 
   -- THE REGISTER'S BASE OF STAGE 2
 
   fresh2 : (x : ℕ) → (fits rg (base2 x) (base_now v w f laws a side) ≡ true) × Good v (mark rg (base2 x) (base_now v w f laws a side)) None
   unfolding mark
-  fresh2 x =
-      (fits_base2 (regs_after v.core v.log) (side_of a.va) x (now v),
-       fresh_good v (mark rg (base2 x) (base_now v w f laws a side)) (record { now_is = refl; base = λ b. refl; word = λ b. absurd (both_ways true b refl) }))
+  fresh2 x = (
+    fits_base2 (regs_after v.core v.log) (side_of a.va) x (now v),
+    fresh_good v (mark rg (base2 x) (base_now v w f laws a side)) (record { now_is = refl; base = λ b. refl; word = λ b. absurd (both_ways true b refl) }),
+  )
 
   chains : (p : Bool) (x : ℕ) → Begins v rg p x (supply (place_of v w.cache.rows) a (base2 x))
   chains p x = begins v w f laws a side fresh2 p x
@@ -294,9 +297,10 @@ module _ (laws : Laws) (plans : PlansAreFine) (v : View) (w : Core) (a : Access)
       let eq = λ (items : List Item). marks_append rg (here v a) (flat rg t.plan) trail items t.on ∙ ap (λ ms. ms ++ marks rg (flat rg t.plan) items) t.is ∙ append_assoc t.front (t.last ∷ []) (marks rg (flat rg t.plan) items) in
       let p : Pre v rg KeptHere (Kept1 v rg None (flat rg t.plan)) (here v a) (flat rg t.plan) trail = record {
         on = t.on;
-        kept = λ items h.
-          (subst (AllUsed (Good v) None) (sym (eq items)) (table_append (Good v) (now v) (opened v) None t.front t.last (marks rg (flat rg t.plan) items) t.first t.not_leaf h.next t.stored h.used),
-           subst (LastIs (IsNowBase (now v))) (sym (eq items)) (table_base (now v) t.front t.last (marks rg (flat rg t.plan) items) t.word h.last_base));
+        kept = λ items h. (
+          subst (AllUsed (Good v) None) (sym (eq items)) (table_append (Good v) (now v) (opened v) None t.front t.last (marks rg (flat rg t.plan) items) t.first t.not_leaf h.next t.stored h.used),
+          subst (LastIs (IsNowBase (now v))) (sym (eq items)) (table_base (now v) t.front t.last (marks rg (flat rg t.plan) items) t.word h.last_base),
+        );
         last = λ g q. subst (LastOk (now v) g) (sym t.is) (table_last trail t g (flat_fin rg t.plan g q));
       } in
       subst (λ z. FineOf KeptHere v rg (here v a) z.items z.stop) (sym e)
@@ -360,9 +364,11 @@ module _ (laws : Laws) (plans : PlansAreFine) (v : View) (w : Core) (a : Access)
         let j = judged_at r t in
         let h = leaf_here enabled ok r i in
         let used = good_all r h.0 h.1 (marks rg (walk (config_at v) false a) r.trail) t.stored in
-        let word = cut_word (marks rg (walk (config_at v) false a) r.trail) (now_marks j.front) j.cut (laws.mapped_last (config_at v) false a r.trail t.landing t.on) in
-        (j.on, (cut_good (marks rg (walk (config_at v) false a) r.trail) (now_marks j.front) j.cut used, last_word_base (now v) (now_marks j.front) word),
-         fine_ok j.end (now_marks j.front) j.fine word)
+        let word = cut_word (marks rg (walk (config_at v) false a) r.trail) (now_marks j.front) j.cut (laws.mapped_last (config_at v) false a r.trail t.landing t.on) in (
+          j.on,
+          (cut_good (marks rg (walk (config_at v) false a) r.trail) (now_marks j.front) j.cut used, last_word_base (now v) (now_marks j.front) word),
+          fine_ok j.end (now_marks j.front) j.fine word,
+        )
 
     old_one : (r : Row) (m : Mark) (o : Option ℕ) → IsStored v w.inbox r m o → m.item.moment < now v
     old_one r m None h = h.before

@@ -1,5 +1,5 @@
 -- What a full set loses when a row is made, and which rows a step leaves.
-use Rattle.std.proofs.Common.{◌≡◌, ℕ, zero, suc, ◌+◌, ◌<◌, ◌/◌, ◌^◌, arith, Bool, true, false, cond, List, [], ◌∷◌, ◌++◌, length, ◌⊎◌, inl, inr, refl, sym, ap, ◌∙◌, subst, append-nil}
+use Rattle.std.proofs.Common.{◌≡◌, ℕ, zero, suc, ◌+◌, ◌<◌, arith, Bool, true, false, cond, List, [], ◌∷◌, ◌++◌, length, ◌⊎◌, inl, inr, refl, sym, ap, ◌∙◌, subst, append-nil}
 use Rattle.std.specs.Prelude.{filter, fold, nat_le, not, ◌==◌, ◌%◌}
 use Rattle.std.specs.List.{remove, list_any}
 use Rattle.std.proofs.lemmas.Bool.{and_from, both_ways, cases_Bool, eq-eqb}
@@ -8,7 +8,7 @@ use Rattle.trace_lang.specs.declared.header.Policy.{Policy}
 use Rattle.trace_lang.specs.declared.header.Policy.TheVariants.{Lru, Fifo, Random}
 use Rattle.machine_spec.specs.Header.{Header, Kind, leaf1, table1, leaf2, table2, Shape, shape_of, keeps_rows}
 use Rattle.machine_spec.specs.Rows.{Row, same_kind}
-use Rattle.machine_spec.specs.Sets.{Cache, drawn, victim, without, same_set, same_key, placed, added, is_row, to_end, touched, filled}
+use Rattle.machine_spec.specs.Sets.{Cache, victim, without, same_set, same_key, placed, added, is_row, to_end, touched, filled}
 use Rattle.machine_laws.specs.Rules.{SetLoses, FullSetsLoseOne}
 use Rattle.machine_laws.proofs.Facts.{In}
 use Rattle.machine_laws.proofs.Lists.{In-from_filter, In-push_cases}

@@ -17,7 +17,7 @@ use Rattle.walk_spec.specs.declared.entry.Entry1.{Entry1}
 use Rattle.walk_spec.specs.declared.leaf.Leaf1.{Leaf1}
 use Rattle.walk_spec.specs.declared.leaf.Leaf2.{Leaf2}
 use Rattle.walk_spec.specs.Ask.{Ask, done, ask, after}
-use Rattle.walk_spec.specs.Needs.{Regime, Need, base1, base2}
+use Rattle.walk_spec.specs.Needs.{Regime, Need, base2}
 use Rattle.walk_spec.specs.Steps.{End, stops, reaches, step_then}
 use Rattle.walk_spec.specs.Stage2.{Asked2, fault2, step2, walk2_from, walk2_behind, is_refused2}
 use Rattle.walk_spec.specs.Stage1.{Asked, asked2, fault1, entry1, walk1_from, is_readable}
@@ -28,8 +28,8 @@ use Rattle.machine_spec.specs.Uses.{LastIs}
 use Rattle.machine_spec.specs.Allowed.{is_of_word}
 use Rattle.machine_laws.proofs.Trees.{IsOn, is_need1, needs_base, chain, Plan, fin, own, via, joined, flat, rest_by, IsSound, IsSecond, IsWords, AllSecond, IsWord}
 use Rattle.machine_laws.proofs.Facts.{regime_for}
-use Rattle.machine_laws.proofs.Stands.{marks_append, Split, on_split, joined_is, via_on, via_marks, mark_base, words_second, second_marks}
-use Rattle.machine_laws.proofs.PlanOf.{early2, read_next, word_behind, entry_plan, plan_of, output_plan, out_of, from_plan, root_table, behind_plan, off_end, on_plan, whole_plan, plan_by, plan_for, plan_is_walk}
+use Rattle.machine_laws.proofs.Stands.{marks_append, on_split, joined_is, via_on, via_marks, mark_base, words_second, second_marks}
+use Rattle.machine_laws.proofs.PlanOf.{early2, read_next, word_behind, entry_plan, plan_of, output_plan, out_of, from_plan, root_table, behind_plan, off_end, whole_plan, plan_for, plan_is_walk}
 
 -- SOUND
 
@@ -65,9 +65,13 @@ judged_gives q l m = judged_case (q.judged && not (is_allowed2 m.perms q.access.
 sound_via : (r : Regime) (p : Bool) (x : ℕ) (next : End Leaf2 → Result Need (End Landing)) (k : Item → Plan) → is_refused2 r.config x ≡ false
     → ((l : Leaf2) → gives_word (next (reaches l)) ≡ false) → ((e : End Leaf2) → (asks_first (next e) ≡ true) × (asks_base (next e) ≡ false)) → ((i : Item) → IsSound r (k i))
     → ((f : Fault) → next (stops f) ≡ Err (stops f)) → IsSound r (via p x next k)
-sound_via r p x next k h f g s t =
-    (h, (λ l d e. sym (ap gives_word e) ∙ f l), (λ e n q. (sym (ap asks_first q) ∙ (g e).0, sym (ap asks_base q) ∙ (g e).1)), s,
-     λ d l e. let q : Err (stops d) ≡ Err (reaches l) = sym (t d) ∙ e in absurd cc)
+sound_via r p x next k h f g s t = (
+  h,
+  (λ l d e. sym (ap gives_word e) ∙ f l),
+  (λ e n q. (sym (ap asks_first q) ∙ (g e).0, sym (ap asks_base q) ∙ (g e).1)),
+  s,
+  λ d l e. let q : Err (stops d) ≡ Err (reaches l) = sym (t d) ∙ e in absurd cc,
+)
 
 sound_entry : (r : Regime) (b d : Bool) (e : Entry1) (stop : Fault → Plan) (k : Item → Plan) → is_refused2 r.config e.place ≡ d → ((f : Fault) → IsSound r (stop f)) → ((i : Item) → IsSound r (k i)) → IsSound r (entry_plan r b d e stop k)
 sound_entry r true true e stop k h f s = f (early2 r true e.place)

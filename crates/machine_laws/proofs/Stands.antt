@@ -1,14 +1,14 @@
 -- Laws of trees on which lists stand, of their marks, and of plans.
-use Rattle.std.proofs.Common.{◌≡◌, ℕ, Bool, true, false, cond, List, [], ◌∷◌, ◌++◌, refl, sym, ap, ◌∙◌, subst, append-nil, append_assoc}
+use Rattle.std.proofs.Common.{◌≡◌, ℕ, Bool, List, [], ◌∷◌, ◌++◌, refl, sym, ap, ◌∙◌, subst, append-nil}
 use Rattle.std.specs.Prelude.{Result, Ok, Err}
 use Rattle.trails.specs.declared.item.Item.{Item}
 use Rattle.walk_spec.specs.declared.leaf.Leaf2.{Leaf2}
-use Rattle.walk_spec.specs.Ask.{Ask, done, ask, after, Stands, needs, ends, on}
+use Rattle.walk_spec.specs.Ask.{Ask, done, ask, after, needs, ends, on}
 use Rattle.walk_spec.specs.Needs.{Regime, Need, base1, base2, word, fits}
 use Rattle.walk_spec.specs.Steps.{End}
 use Rattle.walk_spec.specs.BothStages.{Landing}
 use Rattle.machine_spec.specs.Marks.{Mark, mark, marks, is_first}
-use Rattle.machine_laws.proofs.Trees.{IsOn, is_need1, needs_base, chain, Plan, fin, own, via, joined, flat, rest_by, IsSecond, IsWords, AllSecond}
+use Rattle.machine_laws.proofs.Trees.{IsOn, is_need1, needs_base, chain, Plan, via, joined, flat, rest_by, IsSecond, IsWords, AllSecond}
 
 module _ {A : Type 0} (r : Regime) where
   pub on_append : (t u v : Ask Need Item A) (xs ys : List Item) → IsOn r t xs u → IsOn r u ys v → IsOn r t (xs ++ ys) v

@@ -65,10 +65,10 @@ IsSound r (own n k) =
     (is_need1 n ≡ true) × (needs_base n ≡ true → (i : Item) (l : Landing) → k i ≡ fin (reaches l) → ⊥) × ((i : Item) → IsSound r (k i))
 IsSound r (via p x next k) =
     (is_refused2 r.config x ≡ false)
-      × ((l : Leaf2) (f : Fault) → next (reaches l) ≡ Err (stops f) → is_of_word f.class ≡ false)
-      × ((e : End Leaf2) (n : Need) → next e ≡ Ok n → (is_need1 n ≡ true) × (needs_base n ≡ false))
-      × ((i : Item) → IsSound r (k i))
-      × ((f : Fault) (l : Landing) → next (stops f) ≡ Err (reaches l) → ⊥)
+    × ((l : Leaf2) (f : Fault) → next (reaches l) ≡ Err (stops f) → is_of_word f.class ≡ false)
+    × ((e : End Leaf2) (n : Need) → next e ≡ Ok n → (is_need1 n ≡ true) × (needs_base n ≡ false))
+    × ((i : Item) → IsSound r (k i))
+    × ((f : Fault) (l : Landing) → next (stops f) ≡ Err (reaches l) → ⊥)
 
 -- all questions are of stage 2
 abbrev pub IsSecond : {A : Type 0} → Ask Need Item A → Type 0

@@ -1,5 +1,5 @@
 -- The uses of the items of a trail that is put together, or cut behind its stage 1 leaf; and the last item of lists that are put together.
-use Rattle.std.proofs.Common.{◌≡◌, ℕ, Bool, true, false, cond, List, [], ◌∷◌, ◌++◌, refl, sym, ap, ◌∙◌, subst, Option, Some, None}
+use Rattle.std.proofs.Common.{◌≡◌, ℕ, Bool, true, false, cond, List, [], ◌∷◌, ◌++◌, refl, sym, ◌∙◌, subst, Option, Some, None}
 use Rattle.machine_spec.specs.Marks.{Mark, is_first, is_leaf}
 use Rattle.machine_spec.specs.Uses.{next_first, next_second, use_of, above_of, AllUsed, LastIs}
 use Rattle.machine_laws.proofs.Trees.{AllSecond}
@@ -108,9 +108,10 @@ module _ (P : Mark → Option ℕ → Type 0) (now : ℕ) (opened : (m : Mark) (
   -- a trail that ends in a table of stage 1, and what follows it, whose next item of stage 1 is read at this moment
   pub table_append : (above : Option ℕ) (pre : List Mark) (m : Mark) (ms : List Mark) → is_first m ≡ true → is_leaf m.part ≡ false → IsNow now (next_first ms) →
       AllUsed P above (pre ++ m ∷ []) → AllUsed P None ms → AllUsed P above (pre ++ m ∷ ms)
-  table_append above [] m ms f l h p q =
-      (subst (P m) (sym (use_first above m ms f)) (open_at m (next_first ms) h (subst (P m) (use_first above m [] f) p.0)),
-       subst (λ v. AllUsed P v ms) (sym (above_first above m f l)) q)
+  table_append above [] m ms f l h p q = (
+    subst (P m) (sym (use_first above m ms f)) (open_at m (next_first ms) h (subst (P m) (use_first above m [] f) p.0)),
+    subst (λ v. AllUsed P v ms) (sym (above_first above m f l)) q,
+  )
   table_append above (x ∷ pre) m ms f l h p q =
       (subst (P x) (before_same above x pre m ms f) p.0, table_append (above_of above x) pre m ms f l h p.1 q)
 

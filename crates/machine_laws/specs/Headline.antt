@@ -1,6 +1,6 @@
 -- The laws of the machine: of each of its runs, whatever rows its cores keep. They are this project's own, of the
 -- definitions alone.
-use Rattle.std.specs.Prelude.{◌≡◌, ℕ, ◌<◌, Bool, true, false, List, length, take, slice_get, All, Option, Some, None}
+use Rattle.std.specs.Prelude.{◌≡◌, ℕ, ◌<◌, false, List, length, take, slice_get, All, Option, Some, None}
 use Rattle.sysregs.specs.declared.regs.Regs.{Regs}
 use Rattle.trails.specs.declared.event.Event.{Event}
 use Rattle.trails.specs.declared.event.Event.TheVariants.{Store, Msr, Settle, Isb, Tlbi, Dsb, Deliver, Access as AccessOf, Prefetch}

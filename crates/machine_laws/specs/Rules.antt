@@ -1,6 +1,6 @@
 -- Laws of single rules of the machine, of the definitions alone: what a step leaves as it was, what an invalidation removes, which
 -- rows serve, and which row leaves a full set. They are this project's own.
-use Rattle.std.specs.Prelude.{◌≡◌, ℕ, ◌≤◌, ◌<◌, Bool, true, false, not, ◌==◌, ◌&&◌, nat_le, List, [], ◌∷◌, ◌++◌, length, filter, All, get_or}
+use Rattle.std.specs.Prelude.{◌≡◌, ℕ, ◌<◌, Bool, true, false, ◌==◌, nat_le, List, [], ◌∷◌, ◌++◌, length, filter, All}
 use Rattle.std.specs.List.{remove}
 use Rattle.sysregs.specs.declared.regs.Op.TheVariants.{Vmalls12e1}
 use Rattle.sysregs.specs.Registers.{config_of, vmid_of}
@@ -9,12 +9,10 @@ use Rattle.trails.specs.declared.event.Event.TheVariants.{Store, Msr, Settle, Is
 use Rattle.trails.specs.declared.event.Barrier.TheVariants.{Ish}
 use Rattle.trails.specs.declared.event.Origin.TheVariants.{El2}
 use Rattle.trails.specs.declared.outcome.Access.{Access}
-use Rattle.trace_lang.specs.declared.header.Policy.{Policy}
 use Rattle.trace_lang.specs.declared.header.Policy.TheVariants.{Lru}
 use Rattle.tlbi_ops.specs.declared.inval.Inval.{Inval}
 use Rattle.tlbi_ops.specs.Covers.{covers}
 use Rattle.machine_spec.specs.Header.{Header, Shape}
-use Rattle.machine_spec.specs.Moments.{regs_after}
 use Rattle.machine_spec.specs.Rows.{Row}
 use Rattle.machine_spec.specs.Sets.{Cache, victim, same_set, placed, filled}
 use Rattle.machine_spec.specs.Served.{Place, served}
@@ -69,7 +67,7 @@ RowsServeTheirOwn = (p : Place) (a : Access) → All (λ r. (r.key.config ≡ co
 -- A full set loses the row that the policy names and gets the new one, and a set that isn't full loses none.
 pub record SetLoses (h : Header) (c : ℕ) (s : Shape) (l : Cache) (r : Row) : Type 0 where
   pub full : nat_le s.ways (length (filter (same_set s r) l.rows)) ≡ true →
-    filter (same_set s r) (placed h c s l r).rows ≡ remove (filter (same_set s r) l.rows) (victim h.policy c l.evictions s.ways) ++ r ∷ []
+      filter (same_set s r) (placed h c s l r).rows ≡ remove (filter (same_set s r) l.rows) (victim h.policy c l.evictions s.ways) ++ r ∷ []
   pub one : 0 < s.ways → victim h.policy c l.evictions s.ways < s.ways
   pub room : nat_le s.ways (length (filter (same_set s r) l.rows)) ≡ false → (placed h c s l r).rows ≡ l.rows ++ r ∷ []
   pub others : (test : Row → Bool) → ((x : Row) → test x ≡ true → same_set s r x ≡ false) → filter test (placed h c s l r).rows ≡ filter test l.rows
