@@ -39,10 +39,13 @@ header cores ranges size policy = record { cores = cores; ranges = ranges; size 
 -- the items that a report shows: level, place, value and moment
 abbrev pub base1 : ℕ → ℕ → ℕ → Item
 base1 level p k = record { stage = S1; level = pos level; what = Base; pa = p; value = p; moment = k }
+
 abbrev pub base2 : ℕ → ℕ → ℕ → Item
 base2 level p k = record { stage = S2; level = pos level; what = Base; pa = p; value = p; moment = k }
+
 abbrev pub word1 : ℕ → ℕ → ℕ → ℕ → Item
 word1 level p v k = record { stage = S1; level = pos level; what = Word; pa = p; value = v; moment = k }
+
 abbrev pub word2 : ℕ → ℕ → ℕ → ℕ → Item
 word2 level p v k = record { stage = S2; level = pos level; what = Word; pa = p; value = v; moment = k }
 

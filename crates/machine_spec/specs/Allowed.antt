@@ -1,5 +1,5 @@
 -- Which steps are allowed: what is promised of each answer of a machine, whatever rows it keeps.
-use Rattle.std.specs.Prelude.{◌≡◌, ◌⊎◌, ℕ, Bool, true, false, not, ◌==◌, ◌&&◌, if◌then◌else◌, nat_lt, ℤ, List, [], ◌∷◌, ◌++◌, length, take, slice_get, Option, Some, None}
+use Rattle.std.specs.Prelude.{◌≡◌, ◌⊎◌, ℕ, Bool, true, false, not, ◌==◌, ◌&&◌, if◌then◌else◌, nat_lt, ℤ, List, [], ◌∷◌, ◌++◌, take, slice_get, Option, Some, None}
 use Rattle.std.specs.List.{list_any}
 use Rattle.sysregs.specs.declared.regs.Regs.{Regs}
 use Rattle.sysregs.specs.declared.regs.Config.{Config}
@@ -7,10 +7,8 @@ use Rattle.sysregs.specs.declared.regs.Side.{Side}
 use Rattle.sysregs.specs.Registers.{config_of, asid_of, vmid_of}
 use Rattle.sysregs.specs.Sides.{side_of}
 use Rattle.fault_codes.specs.declared.fault.Stage.{Stage}
-use Rattle.fault_codes.specs.declared.fault.Stage.TheVariants.{S1}
 use Rattle.fault_codes.specs.declared.fault.Class.{Class}
 use Rattle.fault_codes.specs.declared.fault.Class.TheVariants.{Translation, AddressSize, AccessFlag, Permission, External, Conflict as ConflictClass}
-use Rattle.fault_codes.specs.declared.fault.Fault.{Fault}
 use Rattle.trails.specs.declared.item.Item.{Item}
 use Rattle.trails.specs.declared.outcome.Access.{Access}
 use Rattle.trails.specs.declared.outcome.Outcome.{Outcome}
@@ -22,14 +20,14 @@ use Rattle.trails.specs.declared.step.Step.{Step}
 use Rattle.table_reads.specs.Memory.{Memory}
 use Rattle.tlbi_ops.specs.Covers.{is_stage1}
 use Rattle.walk_spec.specs.declared.leaf.Leaf2.{Leaf2}
-use Rattle.walk_spec.specs.Ask.{needs, ends, ended, lacks}
+use Rattle.walk_spec.specs.Ask.{needs, ends, lacks}
 use Rattle.walk_spec.specs.Needs.{base2, word, WordNeed, is_base, stage_eq, regime_of}
-use Rattle.walk_spec.specs.Steps.{End, stops, reaches}
+use Rattle.walk_spec.specs.Steps.{End, reaches}
 use Rattle.walk_spec.specs.BothStages.{Landing, walk, outcome_of}
 use Rattle.walk_spec.specs.Fresh.{fed_outcome}
 use Rattle.walk_laws.specs.Shift.{stands, stands2}
 use Rattle.machine_spec.specs.Header.{Header}
-use Rattle.machine_spec.specs.Moments.{memory_after, regs_after}
+use Rattle.machine_spec.specs.Moments.{memory_after}
 use Rattle.machine_spec.specs.Marks.{Mark, marks}
 use Rattle.machine_spec.specs.Uses.{LastIs}
 use Rattle.machine_spec.specs.Kept.{View, now, regs_when, base_by, IsKept}
@@ -183,7 +181,7 @@ pub record IsAnswer (q : Case) (r : Answer) : Type 0 where
   pub vmid_is : r.vmid ≡ vmid_of (regs_when q.view (now q.view))
   pub old_is : r.old ≡ list_any (is_earlier (now q.view)) r.first
   pub stale_is : r.stale ≡ (not (is_conflict r.outcome)
-    && list_any (is_changed (regs_when q.view (now q.view)) q.view.side (memory_after q.view.header q.view.log)) r.first)
+      && list_any (is_changed (regs_when q.view (now q.view)) q.view.side (memory_after q.view.header q.view.log)) r.first)
   pub right : IsRight q r.first r.second r.outcome
 
 -- an access by a core behind a log

@@ -1,5 +1,5 @@
 -- The header of a trace, and the shapes of the caches (this project's own rules).
-use Rattle.std.specs.Prelude.{ℕ, Bool, true, false, List}
+use Rattle.std.specs.Prelude.{ℕ, Bool, true, false}
 use Rattle.trace_lang.specs.declared.header.Size.{Size}
 use Rattle.trace_lang.specs.declared.header.Size.TheVariants.{NoRows, Small, Medium, Large}
 pub use Rattle.trace_lang.specs.Traces.{Header}

@@ -1,5 +1,5 @@
 -- When an invalidation was issued, and when it is complete (DDI 0487, DSB and the completion of TLB maintenance).
-use Rattle.std.specs.Prelude.{◌≡◌, ℕ, ◌<◌, Bool, true, false, not, ◌==◌, ◌&&◌, ◌||◌, List, map, take, slice_get, Option, Some, None}
+use Rattle.std.specs.Prelude.{◌≡◌, ℕ, ◌<◌, Bool, true, false, not, ◌==◌, ◌&&◌, ◌||◌, List, map, slice_get, Option, Some, None}
 use Rattle.std.specs.Option.{option_and_then}
 use Rattle.sysregs.specs.declared.regs.Regs.{Regs}
 use Rattle.trails.specs.declared.event.Barrier.{Barrier}

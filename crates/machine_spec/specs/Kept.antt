@@ -1,5 +1,5 @@
 -- When a trail may still be relied on.
-use Rattle.std.specs.Prelude.{◌≡◌, ℕ, ◌≤◌, Bool, true, false, List, length, take, Option, Some, None, unwrap_or}
+use Rattle.std.specs.Prelude.{◌≡◌, ℕ, ◌≤◌, true, false, List, length, take, Option, Some, None, unwrap_or}
 use Rattle.sysregs.specs.declared.regs.Regs.{Regs}
 use Rattle.sysregs.specs.declared.regs.Side.{Side}
 use Rattle.sysregs.specs.declared.regs.Config.{Config}
@@ -58,7 +58,7 @@ pub record IsKeptItem (v : View) (config : Config) (vmid : ℕ) (m : Mark) (use_
   pub at_base : m.base ≡ true → m.item.moment ≡ use_
   pub asid : has_asid m ≡ true → asid_of (regs_when v m.item.moment) ≡ asid_of (regs_when v use_)
   pub live : m.base ≡ false → (k : ℕ) (i : Inval) → m.item.moment ≤ k → inval_at v.log k ≡ Some i → reaches_core i v.core ≡ true →
-    covers i (tag_of v m) ≡ true → IsComplete v.log use_ i → ⊥
+      covers i (tag_of v m) ≡ true → IsComplete v.log use_ i → ⊥
 
 -- the same under the registers of now; what is used now is used at the coming step
 abbrev pub IsKeptNow : (view : View) (mark : Mark) (use_ : Option ℕ) → Type 0

@@ -1,12 +1,11 @@
 -- The machine: what each event does to each core, and the run of a trace (this project's own rules).
-use Rattle.std.specs.Prelude.{ℕ, ◌+◌, ◌-◌, zero, suc, Bool, true, false, not, ◌==◌, ◌&&◌, nat_lt, if◌then◌else◌, List, [], ◌∷◌, ◌++◌, length, fold, filter, get_or, replicate, Option, Some, None}
+use Rattle.std.specs.Prelude.{ℕ, ◌+◌, ◌-◌, Bool, true, false, not, ◌==◌, nat_lt, if◌then◌else◌, List, [], ◌∷◌, ◌++◌, length, fold, filter, get_or, replicate, Option, Some, None}
 use Rattle.std.specs.List.{list_any}
 use Rattle.sysregs.specs.declared.regs.Regs.{Regs}
 use Rattle.sysregs.specs.Registers.{config_of, asid_of, vmid_of}
 use Rattle.sysregs.specs.Sides.{side_of}
 use Rattle.trails.specs.declared.item.Item.{Item}
 use Rattle.trails.specs.declared.outcome.Access.{Access}
-use Rattle.trails.specs.declared.outcome.Outcome.{Outcome}
 use Rattle.trails.specs.declared.outcome.Outcome.TheVariants.{Conflict}
 use Rattle.trails.specs.declared.event.Event.{Event}
 use Rattle.trails.specs.declared.event.Event.TheVariants.{Store, Msr, Settle, Isb, Tlbi, Dsb, Deliver, Access as AccessOf, Prefetch}
@@ -23,7 +22,7 @@ use Rattle.walk_spec.specs.Fresh.{fed_outcome}
 use Rattle.machine_spec.specs.Header.{Header}
 use Rattle.machine_spec.specs.Moments.{zeros, stored, Bank, no_bank, banked}
 use Rattle.machine_spec.specs.Invalidations.{issued_by, completes}
-use Rattle.machine_spec.specs.Marks.{Mark, marks}
+use Rattle.machine_spec.specs.Marks.{marks}
 use Rattle.machine_spec.specs.Allowed.{is_earlier, is_changed}
 use Rattle.machine_spec.specs.Rows.{Row}
 use Rattle.machine_spec.specs.Made.{rows_made}

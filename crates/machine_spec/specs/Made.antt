@@ -8,7 +8,7 @@ use Rattle.trails.specs.declared.item.Item.{Item}
 use Rattle.tagged_tlb.specs.declared.row.Key.{Key}
 use Rattle.tagged_tlb.specs.declared.row.Made.{Made}
 use Rattle.walk_spec.specs.Ask.{Fed, ended, lacks}
-use Rattle.walk_spec.specs.Needs.{Need, Region}
+use Rattle.walk_spec.specs.Needs.{Need}
 use Rattle.walk_spec.specs.Steps.{End, stops, reaches}
 use Rattle.walk_spec.specs.BothStages.{Landing}
 use Rattle.machine_spec.specs.Header.{Kind, leaf1, table1, leaf2, table2}

@@ -1,5 +1,5 @@
 -- What the items of a trail are, as the walk met them: what a word means, and what an invalidation looks at in it.
-use Rattle.std.specs.Prelude.{ℕ, ◌*◌, ◌^◌, Bool, true, false, not, ◌&&◌, ◌||◌, List, [], ◌∷◌, if◌then◌else◌, Option, Some, None}
+use Rattle.std.specs.Prelude.{ℕ, ◌*◌, ◌^◌, Bool, true, false, not, ◌&&◌, ◌||◌, List, [], ◌∷◌, if◌then◌else◌}
 use Rattle.sysregs.specs.declared.regs.Regs.{Regs}
 use Rattle.sysregs.specs.Registers.{asid_of, vmid_of}
 use Rattle.fault_codes.specs.declared.fault.Stage.{Stage}
@@ -10,12 +10,11 @@ use Rattle.descriptors.specs.declared.kinds.Kind2.{Kind2}
 use Rattle.descriptors.specs.declared.kinds.Kind2.TheVariants.{Invalid as Invalid2, Table as Table2, Leaf as Leaf2}
 use Rattle.descriptors.specs.Meaning.{means1_of, means2_of}
 use Rattle.trails.specs.declared.item.Item.{Item}
-use Rattle.table_reads.specs.declared.sizes.Sizes.{Sizes}
 use Rattle.table_reads.specs.Places.{is_too_large}
 use Rattle.tlbi_ops.specs.declared.inval.Tag.{Tag}
 use Rattle.tlbi_ops.specs.Covers.{is_stage1}
 use Rattle.walk_spec.specs.Ask.{Ask, done, ask}
-use Rattle.walk_spec.specs.Needs.{Regime, Need, base1, base2, word, WordNeed, sizes_of, Region, region_of}
+use Rattle.walk_spec.specs.Needs.{Regime, Need, base1, base2, word, sizes_of, Region, region_of}
 
 -- what a word is: invalid, a table, or a block or page, which may be global; and whether it may be cached, which a word
 -- that gives a translation, address size or access flag fault may not

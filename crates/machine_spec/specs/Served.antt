@@ -1,5 +1,5 @@
 -- How an access is served: by rows where they match, and else by memory and registers (this project's own rules).
-use Rattle.std.specs.Prelude.{ℕ, Bool, true, false, not, ◌&&◌, if◌then◌else◌, List, [], ◌∷◌, ◌++◌, filter, Option, Some, None}
+use Rattle.std.specs.Prelude.{ℕ, true, not, ◌&&◌, if◌then◌else◌, List, [], ◌∷◌, ◌++◌, Option, Some, None}
 use Rattle.sysregs.specs.declared.regs.Regs.{Regs}
 use Rattle.sysregs.specs.Registers.{config_of}
 use Rattle.sysregs.specs.Sides.{side_of}
@@ -12,7 +12,7 @@ use Rattle.walk_spec.specs.Steps.{End}
 use Rattle.walk_spec.specs.Stage1.{untagged}
 use Rattle.walk_spec.specs.BothStages.{Landing, is_refused1, walk}
 use Rattle.walk_spec.specs.Fresh.{given}
-use Rattle.machine_spec.specs.Header.{Kind, leaf1, table1, leaf2, table2}
+use Rattle.machine_spec.specs.Header.{leaf1, table1, leaf2, table2}
 use Rattle.machine_spec.specs.Rows.{Row, matches, matches1, matching, deepest}
 use Rattle.machine_spec.specs.Made.{key_of}
 

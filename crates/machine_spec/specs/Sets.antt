@@ -1,10 +1,9 @@
 -- Rows that come and go in sets (this project's own rules). The rows of a core stand in one list in the order of rank: a row
 -- that is made goes last, and so does, under lru, a row that served. A set is what a filter leaves of the list.
-use Rattle.std.specs.Prelude.{ℕ, ◌+◌, ◌-◌, ◌*◌, ◌/◌, ◌%◌, ◌^◌, zero, suc, Bool, true, false, not, ◌==◌, ◌&&◌, nat_le, if◌then◌else◌, List, [], ◌∷◌, ◌++◌, length, fold, filter}
+use Rattle.std.specs.Prelude.{ℕ, ◌+◌, ◌*◌, ◌/◌, ◌%◌, ◌^◌, zero, suc, Bool, not, ◌==◌, ◌&&◌, nat_le, if◌then◌else◌, List, [], ◌∷◌, ◌++◌, length, fold, filter}
 use Rattle.std.specs.List.{list_any}
 use Rattle.trace_lang.specs.declared.header.Policy.{Policy}
 use Rattle.trace_lang.specs.declared.header.Policy.TheVariants.{Lru, Fifo, Random}
-use Rattle.tagged_tlb.specs.declared.row.Made.{Made}
 use Rattle.machine_spec.specs.Header.{Header, Shape, shape_of, keeps_rows}
 use Rattle.machine_spec.specs.Rows.{Row, same_bool, same_fields, same_kind, same_region}
 

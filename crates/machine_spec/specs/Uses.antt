@@ -1,6 +1,6 @@
 -- Up to which moment an item of a trail is relied on (this project's own rule): a descriptor above the leaf until the next
 -- one of its chain was read. The items of stage 1 are one chain, and those of each stage 2 translation are one.
-use Rattle.std.specs.Prelude.{◌≡◌, ℕ, Bool, if◌then◌else◌, ◌&&◌, List, [], ◌∷◌, Option, Some, None, unwrap_or}
+use Rattle.std.specs.Prelude.{ℕ, if◌then◌else◌, List, [], ◌∷◌, Option, Some, None}
 use Rattle.machine_spec.specs.Marks.{Mark, is_first, is_leaf1}
 
 -- the moment of the next item of stage 1; where there is none, the item is relied on now
