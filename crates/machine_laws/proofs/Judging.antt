@@ -1,6 +1,6 @@
 -- What judging makes of a trail that leads to a translation: nothing, or it cuts the trail behind the leaf of stage 1.
-use Rattle.std.proofs.Common.{◌≡◌, ℕ, zero, suc, Bool, true, false, cond, not, ◌&&◌, List, [], ◌∷◌, ◌++◌, inl, inr, refl, sym, ap, ◌∙◌, subst, append_assoc, append-nil}
-use Rattle.std.specs.Prelude.{Result, Ok, Err}
+use Rattle.std.proofs.Common.{◌≡◌, ℕ, zero, suc, Bool, true, false, cond, not, List, [], ◌∷◌, ◌++◌, inl, inr, refl, sym, ap, ◌∙◌, subst, append_assoc, append-nil}
+use Rattle.std.specs.Prelude.{Result, Err}
 use Rattle.std.proofs.lemmas.Bool.{both_ways}
 use Rattle.sysregs.specs.declared.regs.Config.{Config}
 use Rattle.permissions.specs.Rights.{is_uxn, is_allowed1, joined as joined_bits}
@@ -10,7 +10,7 @@ use Rattle.trails.specs.declared.item.Item.{Item}
 use Rattle.trails.specs.declared.outcome.Access.{Access}
 use Rattle.table_reads.specs.Places.{is_too_large}
 use Rattle.table_reads.specs.declared.step.Step.{Step}
-use Rattle.table_reads.specs.declared.step.Step.TheVariants.{Down, Reached, Stopped}
+use Rattle.table_reads.specs.declared.step.Step.TheVariants.{Reached, Stopped}
 use Rattle.walk_spec.specs.declared.entry.Table1.{Table1}
 use Rattle.walk_spec.specs.declared.entry.Entry1.{Entry1}
 use Rattle.walk_spec.specs.declared.leaf.Leaf1.{Leaf1}
@@ -24,7 +24,7 @@ use Rattle.walk_spec.specs.BothStages.{Landing, landed, judged2, is_refused1, wa
 use Rattle.walk_laws.proofs.Stage1.{under, Turn1, table, leaf, fault, turn1}
 use Rattle.machine_spec.specs.Marks.{Mark, mark, marks, is_first}
 use Rattle.machine_spec.specs.Allowed.{is_of_word}
-use Rattle.machine_laws.proofs.Trees.{IsOn, is_need1, chain, Plan, fin, own, via, joined, flat, rest_by, IsSecond}
+use Rattle.machine_laws.proofs.Trees.{IsOn, chain, Plan, fin, own, via, joined, flat, rest_by}
 use Rattle.machine_laws.proofs.Facts.{regime_for}
 use Rattle.machine_laws.proofs.Laws.{IsCut, Judged}
 use Rattle.machine_laws.proofs.Stands.{on_append, marks_append, on_after, marks_after, Split, on_split, joined_is, via_on, via_marks, mark_first, mark_base, second_marks}
@@ -190,8 +190,12 @@ module _ (r : Regime) (a : Access) (l : Landing) where
       let ef : marks r tu xs ≡ marks r ch d.front ++ marks r uu d.rest = ap (marks r tu) d.is ∙ marks_append r tu uu d.front d.rest onf ∙ ap (λ v. v ++ marks r uu d.rest) mf in
       let et : marks r tj (d.front ++ c.front) ≡ marks r ch d.front ++ marks r uj c.front = marks_append r tj uj d.front c.front ont ∙ ap (λ v. v ++ marks r uj c.front) mt in
       record {
-        front = d.front ++ c.front; rest = c.rest; is = d.is ∙ ap (λ v. d.front ++ v) c.is ∙ sym (append_assoc d.front c.front c.rest); end = c.end;
-        on = on_append r tj uj (done c.end) d.front c.front ont c.on; fine = c.fine;
+        front = d.front ++ c.front;
+        rest = c.rest;
+        is = d.is ∙ ap (λ v. d.front ++ v) c.is ∙ sym (append_assoc d.front c.front c.rest);
+        end = c.end;
+        on = on_append r tj uj (done c.end) d.front c.front ont c.on;
+        fine = c.fine;
         cut = subst (λ v. IsCut v (marks r tj (d.front ++ c.front))) (sym ef) (subst (IsCut (marks r ch d.front ++ marks r uu d.rest)) (sym et) (cut_more (marks r ch d.front) (marks r uu d.rest) (marks r uj c.front) c.cut));
       }
 

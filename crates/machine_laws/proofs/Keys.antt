@@ -1,6 +1,6 @@
 -- What the last items of a trail tell: the class of its landing, and whether its leaf is global.
 use Rattle.std.proofs.Common.{◌≡◌, ℕ, zero, suc, Bool, true, false, cond, List, [], ◌∷◌, ◌++◌, ◌⊎◌, inl, inr, refl, sym, ap, ◌∙◌, subst, Option, Some, None, append-nil}
-use Rattle.std.specs.Prelude.{Result, Ok, Err, ℤ}
+use Rattle.std.specs.Prelude.{Result, Ok, Err}
 use Rattle.std.proofs.lemmas.Bool.{both_ways}
 use Rattle.std.proofs.lemmas.Option.{same_Some}
 use Rattle.geometry.specs.Tables.{most_left, level_of}
@@ -9,7 +9,7 @@ use Rattle.fault_codes.specs.declared.fault.Stage.TheVariants.{S1, S2}
 use Rattle.fault_codes.specs.declared.fault.Class.TheVariants.{Translation, AddressSize, Permission}
 use Rattle.trails.specs.declared.item.Item.{Item}
 use Rattle.table_reads.specs.declared.step.Step.{Step as Step1}
-use Rattle.table_reads.specs.declared.step.Step.TheVariants.{Down, Reached, Stopped}
+use Rattle.table_reads.specs.declared.step.Step.TheVariants.{Down}
 use Rattle.table_reads.specs.Places.{is_too_large}
 use Rattle.tlbi_ops.specs.Covers.{is_stage1}
 use Rattle.walk_spec.specs.declared.entry.Table1.{Table1}
@@ -20,7 +20,7 @@ use Rattle.walk_spec.specs.Ask.{Ask, done, ask, after, go_on, finer}
 use Rattle.walk_spec.specs.Needs.{Regime, Need, base1, base2, word, WordNeed, fits, mapping_of, class_by}
 use Rattle.walk_spec.specs.Steps.{End, stops, reaches, step_then}
 use Rattle.walk_spec.specs.Stage2.{fault2, leaf2_of, step2, walk2_from, is_refused2, walk2}
-use Rattle.walk_spec.specs.Stage1.{Asked, asked2, untagged, fault1, entry1, step1, walk1_from, leaf1_of, is_readable, read1, read1_by, word_of, stage1_from}
+use Rattle.walk_spec.specs.Stage1.{Asked, asked2, fault1, entry1, step1, walk1_from, leaf1_of, is_readable, read1, read1_by, word_of, stage1_from}
 use Rattle.walk_spec.specs.BothStages.{Landing, landed, piece, smaller, judged2, is_refused1, stage1_behind, stage1, stage2_behind, walk_by, walk}
 use Rattle.permissions.specs.Rights.{joined as joined_bits}
 use Rattle.sysregs.specs.declared.regs.Config.{Config}
@@ -34,10 +34,10 @@ use Rattle.machine_spec.specs.Made.{or_mark, last_first}
 use Rattle.machine_spec.specs.Allowed.{Entry, entry_of, or_else, last_entry, last_entry1}
 use Rattle.machine_laws.proofs.Trees.{IsOn, is_need1, chain, IsSecond, AllSecond}
 use Rattle.machine_laws.proofs.Facts.{regime_for}
-use Rattle.machine_laws.proofs.Stands.{on_append, on_after, marks_append, marks_after, Split, on_split, second_marks, mark_first}
+use Rattle.machine_laws.proofs.Stands.{on_after, marks_append, marks_after, on_split, second_marks, mark_first}
 use Rattle.machine_laws.proofs.PlanOf.{word_need, early2, root_table, out_is}
 use Rattle.machine_laws.proofs.Sounds.{out_second}
-use Rattle.machine_laws.proofs.MarksOf.{FitsWord, fits_word_parts, fits_base1_parts, fits_base2_parts}
+use Rattle.machine_laws.proofs.MarksOf.{fits_word_parts, fits_base1_parts, fits_base2_parts}
 
 -- LAST ITEMS
 
@@ -223,7 +223,7 @@ module _ (r : Regime) (e : Entry1) where
       let w = behind_end d.end d.rest i d.more in
       let t : Ask Need Item (Result Item Fault) = after ch (read1_by r.config e) in
       let m : marks r t xs ≡ marks r t d.front ++ marks r (read1_by r.config e d.end) d.rest =
-          ap (marks r t) d.is ∙ marks_append r t (read1_by r.config e d.end) d.front d.rest (on_after r ch (done d.end) (read1_by r.config e) d.front d.on_front) in
+      ap (marks r t) d.is ∙ marks_append r t (read1_by r.config e d.end) d.front d.rest (on_after r ch (done d.end) (read1_by r.config e) d.front d.on_front) in
       record {
         place = w.place;
         last = subst (λ (v : List Item). LastIs v i) (sym d.is) (last_app d.front d.rest i w.last);
@@ -449,8 +449,8 @@ module _ (r : Regime) (a : Access) (on : r.config.m ≡ true) (ok : is_refused1 
       let two = output r a d r.config.vm one.item rest l k in
       let s : IsSecond (stage2_behind (Q r a) (reaches d)) = behind_second (Q r a) (reaches d) in
       let m : marks r W (front ++ rest) ≡ marks r (stage1 (Q r a)) front ++ marks r (stage2_behind (Q r a) (reaches d)) rest =
-          marks_append r W (stage2_behind (Q r a) (reaches d)) front rest (on_after r (stage1 (Q r a)) (done (reaches d)) (stage2_behind (Q r a)) front h)
-            ∙ ap (λ v. v ++ marks r (stage2_behind (Q r a) (reaches d)) rest) (marks_after r (stage1 (Q r a)) (done (reaches d)) (stage2_behind (Q r a)) front h) in
+      marks_append r W (stage2_behind (Q r a) (reaches d)) front rest (on_after r (stage1 (Q r a)) (done (reaches d)) (stage2_behind (Q r a)) front h)
+      ∙ ap (λ v. v ++ marks r (stage2_behind (Q r a) (reaches d)) rest) (marks_after r (stage1 (Q r a)) (done (reaches d)) (stage2_behind (Q r a)) front h) in
       record {
         item1 = one.item;
         left1 = one.left;
@@ -485,14 +485,14 @@ module _ (r : Regime) (ms ns : List Mark) (xs ys : List Item) (l m : Landing) wh
   class_same true d g h k =
       let e : entry_of d.item2 ≡ entry_of g.item2 = entries_same xs ys d.item2 g.item2 (d.entry2_is refl) (g.entry2_is refl) k in
       let c : class_at2 r d.left2 d.item2.pa d.item2.value ≡ class_at2 r g.left2 g.item2.pa g.item2.value =
-          ap (λ z. class_at2 r z d.item2.pa d.item2.value) (left_same d.item2 g.item2 d.left2 g.left2 (d.level2 refl) (g.level2 refl) e) ∙ ap (λ (z : Entry). class_at2 r g.left2 z.0 z.2) e in
+      ap (λ z. class_at2 r z d.item2.pa d.item2.value) (left_same d.item2 g.item2 d.left2 g.left2 (d.level2 refl) (g.level2 refl) e) ∙ ap (λ (z : Entry). class_at2 r g.left2 z.0 z.2) e in
       d.class_is ∙ ap (λ z. smaller z (class_at2 r d.left2 d.item2.pa d.item2.value)) (class1_same true d g h) ∙ ap (smaller (class_at1 r g.left1 g.item1.pa g.item1.value)) c ∙ sym g.class_is
 
   global_same : (vm : Bool) (d : Keyed r vm ms xs l) (g : Keyed r vm ns ys m) → last_entry1 xs ≡ last_entry1 ys → is_global d.mark1.part ≡ is_global g.mark1.part
   global_same vm d g h =
       let e = first_same vm d g h in
       ap is_global d.part ∙ ap (λ z. is_global (part_of r S1 z d.item1.value)) (left_same d.item1 g.item1 d.left1 g.left1 d.level1 g.level1 e)
-        ∙ ap (λ (z : Entry). is_global (part_of r S1 g.left1 z.2)) e ∙ sym (ap is_global g.part)
+      ∙ ap (λ (z : Entry). is_global (part_of r S1 g.left1 z.2)) e ∙ sym (ap is_global g.part)
 
 -- the last items of two trails tell their classes and global flags
 pub keys_are : (c : Config) (a : Access) (xs ys : List Item) (l m : Landing) (n o : Mark) →

@@ -1,6 +1,6 @@
 -- What an item that fits a need tells of it, and marks of walks that go in step.
-use Rattle.std.proofs.Common.{◌≡◌, ℕ, Bool, true, false, cond, ◌&&◌, ◌||◌, List, [], ◌∷◌, ◌++◌, refl, sym, ap, ◌∙◌, subst}
-use Rattle.std.specs.Prelude.{ℤ, pos, negsuc, ◌==◌, Option, Some, None}
+use Rattle.std.proofs.Common.{◌≡◌, ℕ, true, false, ◌&&◌, ◌||◌, List, [], ◌∷◌, refl, sym, ap, ◌∙◌}
+use Rattle.std.specs.Prelude.{ℤ, pos, negsuc, ◌==◌}
 use Rattle.std.proofs.lemmas.Bool.{eqb-true}
 use Rattle.std.proofs.lemmas.Option.{same_Some}
 use Rattle.geometry.specs.Tables.{level_of}
@@ -9,7 +9,7 @@ use Rattle.fault_codes.specs.declared.fault.Stage.TheVariants.{S1, S2}
 use Rattle.trails.specs.declared.item.Item.{Item}
 use Rattle.trails.specs.declared.item.What.{What}
 use Rattle.trails.specs.declared.item.What.TheVariants.{Base, Word}
-use Rattle.walk_spec.specs.Ask.{Ask, done, ask, Stands, needs, ends, bad, on}
+use Rattle.walk_spec.specs.Ask.{Ask, done, ask, on}
 use Rattle.walk_spec.specs.Needs.{Regime, Need, base1, base2, word, WordNeed, fits, is_word, is_base, stage_eq, level_eq, is_run_mate, Region, region_of, sizes_of}
 use Rattle.walk_laws.proofs.Stepping.{Takes, InStep}
 use Rattle.walk_laws.proofs.Places.{SameRegion, first_of_and, second_of_and}

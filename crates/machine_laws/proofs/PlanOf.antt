@@ -1,10 +1,9 @@
 -- The walk of an access is the tree of a plan.
-use Rattle.std.proofs.Common.{◌≡◌, ℕ, zero, suc, Bool, true, false, cond, refl, sym, ap, ◌∙◌}
+use Rattle.std.proofs.Common.{◌≡◌, ℕ, Bool, true, false, cond, refl, sym, ap, ◌∙◌}
 use Rattle.std.specs.Prelude.{Result, Ok, Err}
 use Rattle.std.proofs.Math.Path.{fun_ext}
 use Rattle.geometry.specs.Tables.{most_left}
 use Rattle.sysregs.specs.declared.regs.Config.{Config}
-use Rattle.sysregs.specs.Sides.{side_of}
 use Rattle.permissions.specs.Rights.{no_bits}
 use Rattle.fault_codes.specs.declared.fault.Stage.TheVariants.{S1, S2}
 use Rattle.fault_codes.specs.declared.fault.Class.TheVariants.{Translation, AddressSize, Permission}
@@ -17,11 +16,11 @@ use Rattle.walk_spec.specs.declared.entry.Entry1.{Entry1}
 use Rattle.walk_spec.specs.declared.leaf.Leaf1.{Leaf1}
 use Rattle.walk_spec.specs.declared.leaf.Leaf2.{Leaf2}
 use Rattle.walk_spec.specs.Ask.{Ask, done, ask, after, go_on, finer}
-use Rattle.walk_spec.specs.Needs.{Regime, Need, base1, word, regime_of}
+use Rattle.walk_spec.specs.Needs.{Regime, Need, base1, word}
 use Rattle.walk_spec.specs.Steps.{End, stops, reaches}
 use Rattle.walk_spec.specs.Stage2.{fault2, is_refused2}
 use Rattle.walk_spec.specs.Stage1.{Asked, asked2, fault1, walk1_from, is_readable, read1, read1_by, word_of}
-use Rattle.walk_spec.specs.BothStages.{Landing, landed, judged2, stage2_behind, is_refused1, stage1_behind, stage1_on, stage1_off, is_refused_off, off_leaf, walk_by, asked, walk}
+use Rattle.walk_spec.specs.BothStages.{Landing, landed, judged2, stage2_behind, is_refused1, stage1_behind, is_refused_off, off_leaf, walk_by, asked, walk}
 use Rattle.machine_laws.proofs.Trees.{chain, Plan, fin, own, via, joined, flat}
 use Rattle.machine_laws.proofs.Facts.{regime_for}
 
@@ -118,7 +117,7 @@ module _ (r : Regime) (out : End Leaf1 → Plan) (plain : (f : Fault) → out (s
   by_case true false e k p h =
       let g : Result Item Fault → Ask Need Item (End Leaf1) = go_on stops (λ i. Finer (k i)) in
       ap (after (chain r true e.place)) (fun_ext (λ d. word_step e d k p h))
-        ∙ sym (ap (λ v. after v Ends) (after_after (chain r true e.place) (read1_by r.config e) g) ∙ after_after (chain r true e.place) (λ d. after (read1_by r.config e d) g) Ends)
+      ∙ sym (ap (λ v. after v Ends) (after_after (chain r true e.place) (read1_by r.config e) g) ∙ after_after (chain r true e.place) (λ d. after (read1_by r.config e d) g) Ends)
   by_case false d e k p h = ap (ask (word_need e e.place)) (fun_ext h)
 
   -- stage 1 with the stage 2 of each word is the tree of the plan of its entries

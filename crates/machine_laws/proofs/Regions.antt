@@ -1,5 +1,5 @@
 -- A combined row serves each access of its piece: a judged trail that leads to a translation does so for each, unjudged.
-use Rattle.std.proofs.Common.{◌≡◌, ℕ, zero, suc, ◌/◌, ◌^◌, ◌≤◌, Bool, true, false, cond, not, ◌&&◌, List, [], ◌∷◌, refl, sym, ap, ◌∙◌, subst, arith}
+use Rattle.std.proofs.Common.{◌≡◌, ℕ, zero, suc, ◌/◌, ◌^◌, Bool, true, false, cond, not, List, [], ◌∷◌, refl, sym, ap, ◌∙◌, subst, arith}
 use Rattle.std.specs.Prelude.{Result, Ok, Err}
 use Rattle.sysregs.specs.declared.regs.Config.{Config}
 use Rattle.sysregs.specs.declared.regs.Side.{Side}
@@ -11,8 +11,7 @@ use Rattle.fault_codes.specs.declared.fault.Stage.TheVariants.{S2}
 use Rattle.fault_codes.specs.declared.fault.Class.TheVariants.{Translation, AddressSize, Permission}
 use Rattle.trails.specs.declared.item.Item.{Item}
 use Rattle.trails.specs.declared.outcome.Access.{Access}
-use Rattle.table_reads.specs.declared.step.Step.{Step}
-use Rattle.table_reads.specs.declared.step.Step.TheVariants.{Down, Reached, Stopped}
+use Rattle.table_reads.specs.declared.step.Step.TheVariants.{Reached, Stopped}
 use Rattle.table_reads.specs.Places.{is_too_large}
 use Rattle.walk_spec.specs.declared.entry.Table1.{Table1}
 use Rattle.walk_spec.specs.declared.entry.Entry1.{Entry1}
@@ -25,8 +24,6 @@ use Rattle.walk_spec.specs.Stage2.{walk2}
 use Rattle.walk_spec.specs.Stage1.{Asked, untagged, fault1, entry1, step1, walk1_from, word_of, asked2, leaf1_of, stage1_from}
 use Rattle.walk_spec.specs.BothStages.{Landing, landed, judged2, piece, stage2_behind, is_refused1, stage1_behind, stage1_off, walk_by, walk}
 use Rattle.walk_laws.specs.Moved.{moved}
-use Rattle.walk_laws.proofs.Stepping.{InStep}
-use Rattle.walk_laws.proofs.Places.{SameRegion}
 use Rattle.walk_laws.proofs.Shifts.{of_fields, same_side}
 use Rattle.walk_laws.proofs.Stage1.{under, Turn1, table, leaf, fault, turn1}
 use Rattle.walk_laws.proofs.Landings.{walk_in_step}
@@ -146,6 +143,6 @@ first_leaf_is c a b trail l on ok h same =
     let n : Landing = moved l (untagged b.va) in
     let on_b : IsOn r (walk_by (under r false b)) trail (done (reaches n)) = step_on_other r (walk_by (under r false a)) (done (reaches l)) (walk_by (under r false b)) (done (reaches n)) trail i in
     let ms : marks r (walk_by (under r false b)) trail ≡ marks r (walk c true a) trail =
-        sym (step_marks r (walk_by (under r false a)) (done (reaches l)) (walk_by (under r false b)) (done (reaches n)) trail i) ∙ sym w.1 in
+    sym (step_marks r (walk_by (under r false a)) (done (reaches l)) (walk_by (under r false b)) (done (reaches n)) trail i) ∙ sym w.1 in
     let z : LeafBy c b trail (marks r (walk c true a) trail) n (side_of b.va) = subst (LeafBy c b trail (marks r (walk c true a) trail) n) sides (on_b, ms) in
     record { landing = n; on = z.0; class_is = refl; same = z.1 }

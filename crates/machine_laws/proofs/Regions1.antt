@@ -1,19 +1,17 @@
 -- A row of stage 1 serves each access of its region: a trail up to a table of stage 1.
-use Rattle.std.proofs.Common.{◌≡◌, ℕ, zero, suc, ◌/◌, ◌^◌, ◌≤◌, Bool, true, false, cond, not, ◌&&◌, ◌||◌, List, [], ◌∷◌, ◌++◌, inl, inr, refl, sym, ap, ◌∙◌, subst, arith, eqb, append-nil}
+use Rattle.std.proofs.Common.{◌≡◌, ℕ, zero, suc, ◌/◌, ◌^◌, Bool, true, false, cond, not, List, [], ◌∷◌, ◌++◌, inl, inr, refl, sym, ap, ◌∙◌, subst, arith, eqb, append-nil}
 use Rattle.std.specs.Prelude.{Result, Ok, Err}
 use Rattle.std.proofs.lemmas.Bool.{both_ways}
-use Rattle.geometry.specs.Tables.{class_of, level_of, most_left, has_block}
+use Rattle.geometry.specs.Tables.{class_of, level_of, has_block}
 use Rattle.bitwords.specs.Fields.{bit}
 use Rattle.sysregs.specs.declared.regs.Config.{Config}
 use Rattle.sysregs.specs.declared.regs.Side.{Side}
 use Rattle.sysregs.specs.Registers.{granule_of}
 use Rattle.sysregs.specs.Sides.{side_of, tg_of, hpd_of}
-use Rattle.permissions.specs.declared.bits.Bits1.{Bits1}
 use Rattle.permissions.specs.declared.bits.TableBits.{TableBits}
 use Rattle.permissions.specs.Rights.{joined as joined_bits}
 use Rattle.fault_codes.specs.declared.fault.Fault.{Fault}
-use Rattle.fault_codes.specs.declared.fault.Stage.TheVariants.{S1, S2}
-use Rattle.fault_codes.specs.declared.fault.Class.TheVariants.{Translation, AddressSize}
+use Rattle.fault_codes.specs.declared.fault.Stage.TheVariants.{S1}
 use Rattle.descriptors.specs.declared.kinds.Kind1.{Kind1}
 use Rattle.descriptors.specs.declared.kinds.Kind1.TheVariants.{Invalid, Table as TableOf1, Leaf as LeafOf1}
 use Rattle.descriptors.specs.Meaning.{means1_of, kind1_of}
@@ -32,20 +30,19 @@ use Rattle.walk_spec.specs.Needs.{Regime, regime_of, Need, base1, base2, word, W
 use Rattle.walk_spec.specs.Steps.{End, stops, reaches, step_then}
 use Rattle.walk_spec.specs.Stage2.{is_refused2}
 use Rattle.walk_spec.specs.Stage1.{Asked, untagged, entry1, step1, walk1_from, is_readable}
-use Rattle.walk_spec.specs.BothStages.{Landing, is_refused1, asked, walk_by, walk}
+use Rattle.walk_spec.specs.BothStages.{Landing, is_refused1, walk_by, walk}
 use Rattle.walk_laws.specs.Shift.{IsOpen}
-use Rattle.walk_laws.proofs.Stepping.{Takes, InStep, LastIs, last_here, last_back, takes_after}
-use Rattle.walk_laws.proofs.Places.{SameRegion}
+use Rattle.walk_laws.proofs.Stepping.{LastIs, last_here, last_back, takes_after}
 use Rattle.walk_laws.proofs.Shifts.{of_fields, same_side}
-use Rattle.walk_laws.proofs.Stage1.{under, Same1}
-use Rattle.walk_laws.proofs.Tables1.{Opens, is_open, Opened, tables1_in_step}
-use Rattle.machine_spec.specs.Marks.{Part, nothing, table, leaf, Mark, mark, marks, is_first, part_of, part1}
+use Rattle.walk_laws.proofs.Stage1.{under}
+use Rattle.walk_laws.proofs.Tables1.{Opens, is_open, tables1_in_step}
+use Rattle.machine_spec.specs.Marks.{table, Mark, mark, marks, is_first, part_of, part1}
 use Rattle.machine_spec.specs.Rows.{holds}
-use Rattle.machine_laws.proofs.Trees.{IsOn, is_need1, needs_base, chain, Plan, fin, own, via, joined, flat, rest_by, IsSound, AllSecond}
+use Rattle.machine_laws.proofs.Trees.{IsOn, chain, Plan, fin, own, via, joined, flat, rest_by, IsSound, AllSecond}
 use Rattle.machine_laws.proofs.Facts.{regime_for}
 use Rattle.machine_laws.proofs.Laws.{FirstTable}
 use Rattle.machine_laws.proofs.Stands.{marks_append, joined_is, via_on, via_marks, second_marks}
-use Rattle.machine_laws.proofs.PlanOf.{word_need, early2, read_next, word_behind, entry_plan, plan_of, output_plan, out_of, from_plan, root_table, behind_plan, off_end, whole_plan, plan_for, plan_is_walk}
+use Rattle.machine_laws.proofs.PlanOf.{word_need, read_next, word_behind, entry_plan, plan_of, output_plan, out_of, from_plan, root_table, behind_plan, off_end, whole_plan, plan_for, plan_is_walk}
 use Rattle.machine_laws.proofs.Sounds.{sound_plan, chain_second}
 use Rattle.machine_laws.proofs.MarksOf.{FitsWord, fits_word_parts, marks_nil, takes_on, on_takes, on_stands, step_on_other, step_marks}
 use Rattle.machine_laws.proofs.Regions2.{mark_full, mark_at_full, mark_base1_part, mark_base2_part, last_tail, table_real, holds_same}
@@ -242,7 +239,7 @@ module _ (r : Regime) (x : ℕ) (u : Ask Need Item (End Landing)) (m : Mark) (fi
   via_out p y next k t s rec front rest d on more l =
       let w : Ask Need Item (End Landing) = flat r (rest_by (next d) k) in
       let e : marks r (flat r (via p y next k)) (front ++ rest) ≡ marks r (chain r p y) front ++ marks r w rest =
-          marks_append r (flat r (via p y next k)) w front rest (via_on r p y next k front d on) ∙ ap (λ v. v ++ marks r w rest) (via_marks r p y next k front (done d) on) in
+      marks_append r (flat r (via p y next k)) w front rest (via_on r p y next k front d on) ∙ ap (λ v. v ++ marks r w rest) (via_marks r p y next k front (done d) on) in
       rest_last (next d) k (t d) s rec front rest (marks r (chain r p y) front) (chain_marks p y front) (subst (λ v. IsOn r v rest u) (joined_is r (next d) k) more) (subst (λ ms. LastIs ms m) e l)
 
   via_last : (p : Bool) (y : ℕ) (next : End Leaf2 → Result Need (End Landing)) (k : Item → Plan) → ((e : End Leaf2) → TellsNext r x (next e) k) → ((i : Item) → IsSound r (k i)) → ((i : Item) → Finds (k i)) → Finds (via p y next k)
@@ -333,7 +330,7 @@ first_table_is c a b trail u pre m on ok h e first part hold =
     let opened : IsOpen (Rattle.walk_spec.specs.Ask.on (fits r) (walk_by (under r true a)) trail) = subst IsOpen (sym (on_stands r (walk c true a) u trail h)) (is_open (fits r) u t.opens) in
     let k : ℕ = class_of r.stage1.granule t.left in
     let same : untagged a.va / 2 ^ k ≡ untagged b.va / 2 ^ k =
-        holds_same record { class = k; start = untagged a.va / 2 ^ k } (untagged a.va) (untagged b.va) refl (subst (λ (g : Region). holds g (untagged b.va) ≡ true) t.region_is hold) in
+    holds_same record { class = k; start = untagged a.va / 2 ^ k } (untagged a.va) (untagged b.va) refl (subst (λ (g : Region). holds g (untagged b.va) ≡ true) t.region_is hold) in
     let w = tables1_in_step r true a b trail t.item t.left t.next t.bits (of_fields c (side_of a.va)) refl t.last (fw.stage ∙ t.fit.2) fw.what (fw.level ∙ ap level_of t.fit.3) t.means opened in
     let most = w.most in
     let st = w.shift same ok in

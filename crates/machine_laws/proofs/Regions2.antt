@@ -1,6 +1,5 @@
 -- A row of stage 2 serves each IPA of its region, under either side and mark.
-use Rattle.std.proofs.Common.{◌≡◌, ℕ, zero, suc, ◌/◌, ◌^◌, ◌≤◌, Bool, true, false, cond, not, ◌&&◌, ◌||◌, List, [], ◌∷◌, ◌++◌, inl, inr, refl, sym, ap, ◌∙◌, subst, arith, eqb}
-use Rattle.std.specs.Prelude.{◌==◌}
+use Rattle.std.proofs.Common.{◌≡◌, ℕ, zero, suc, ◌/◌, ◌^◌, Bool, true, false, cond, not, ◌&&◌, ◌||◌, List, [], ◌∷◌, ◌++◌, inr, refl, sym, ap, ◌∙◌, subst, arith, eqb}
 use Rattle.std.proofs.lemmas.Bool.{eqb-true}
 use Rattle.geometry.specs.Tables.{most_left, has_block}
 use Rattle.bitwords.specs.Fields.{bit}
@@ -8,13 +7,12 @@ use Rattle.sysregs.specs.declared.regs.Config.{Config}
 use Rattle.sysregs.specs.declared.regs.Side.{Side}
 use Rattle.sysregs.specs.Registers.{granule_of}
 use Rattle.fault_codes.specs.declared.fault.Stage.{Stage}
-use Rattle.fault_codes.specs.declared.fault.Stage.TheVariants.{S1, S2}
+use Rattle.fault_codes.specs.declared.fault.Stage.TheVariants.{S2}
 use Rattle.fault_codes.specs.declared.fault.Class.TheVariants.{Translation, AddressSize}
 use Rattle.descriptors.specs.declared.kinds.Kind2.{Kind2}
 use Rattle.descriptors.specs.declared.kinds.Kind2.TheVariants.{Invalid as Invalid2, Table as Table2, Leaf as LeafOf2}
 use Rattle.descriptors.specs.Meaning.{means2_of, kind2_of}
 use Rattle.trails.specs.declared.item.Item.{Item}
-use Rattle.trails.specs.declared.item.What.TheVariants.{Word}
 use Rattle.table_reads.specs.declared.step.Step.{Step}
 use Rattle.table_reads.specs.declared.step.Step.TheVariants.{Down, Reached, Stopped}
 use Rattle.table_reads.specs.Places.{is_too_large}
@@ -30,7 +28,7 @@ use Rattle.walk_laws.proofs.Places.{SameRegion}
 use Rattle.walk_laws.proofs.Sound.{range2}
 use Rattle.walk_laws.proofs.Shifts.{of_fields}
 use Rattle.walk_laws.proofs.Levels.{beneath}
-use Rattle.walk_laws.proofs.Stage2.{down2, walk2_levels, class2, behind2, Stepped2, stepped2, Reached2, reached2}
+use Rattle.walk_laws.proofs.Stage2.{down2, walk2_levels, class2, behind2, Stepped2, stepped2, reached2}
 use Rattle.walk_laws.proofs.Tables2.{level_of_one, fit_level}
 use Rattle.machine_spec.specs.Marks.{Part, nothing, table, leaf, Mark, mark, marks, part_of, part2}
 use Rattle.machine_spec.specs.Rows.{holds}
@@ -38,7 +36,7 @@ use Rattle.machine_laws.proofs.Trees.{IsOn, chain, IsWords}
 use Rattle.machine_laws.proofs.Laws.{ChainLeaf, ChainTable}
 use Rattle.machine_laws.proofs.Stands.{words_on}
 use Rattle.machine_laws.proofs.Sounds.{words_behind}
-use Rattle.machine_laws.proofs.MarksOf.{FitsWord, fits_word_parts, marks_nil, takes_on, on_takes, step_on_other, step_marks}
+use Rattle.machine_laws.proofs.MarksOf.{fits_word_parts, marks_nil, takes_on, step_on_other, step_marks}
 use Rattle.machine_laws.proofs.Sides.{Twin, TwinOn, twin_on, twin_chain}
 
 -- THE LAST MARK
@@ -138,9 +136,11 @@ module _ (r : Regime) (left pa value : ℕ) where
   unfolding step2
   leaf_leads p x out mem_attr xn sh read write af dbm contiguous true on g e b o h = absurd cc
   leaf_leads p x out mem_attr xn sh read write af dbm contiguous false false g e b o h = absurd cc
-  leaf_leads p x out mem_attr xn sh read write af dbm contiguous false true g e b o h =
-      (leaf2_of (asked2 r p x) left pa record { out = out; mem_attr = mem_attr; xn = xn; sh = sh; read = read; write = write; dbm = dbm; contiguous = contiguous },
-       rw (e, b, o) refl, refl)
+  leaf_leads p x out mem_attr xn sh read write af dbm contiguous false true g e b o h = (
+    leaf2_of (asked2 r p x) left pa record { out = out; mem_attr = mem_attr; xn = xn; sh = sh; read = read; write = write; dbm = dbm; contiguous = contiguous },
+    rw (e, b, o) refl,
+    refl,
+  )
 
   leads_by : (p : Bool) (x : ℕ) (g : Bool) (kind : Kind2) → means2_of r.config left value ≡ kind → part2 r kind ≡ leaf g true → Leads (asked2 r p x) kind
   leads_by p x g Invalid2 e h = absurd cc
@@ -230,9 +230,10 @@ module _ (c : Config) (s : Side) (p : Bool) (x y : ℕ) (ok : is_refused2 c x �
       other_chain : (v : Ask Need Item (End Leaf2)) → InStep (fits R) (SameRegion R) (walk2 (asked2 R p x)) (walk2 (asked2 R p y)) trail u v → IsOn R (chain R p y) trail v × (marks R (chain R p x) trail ≡ marks R (chain R p y) trail)
       other_chain v i =
           let ey : walk2 (asked2 R p y) ≡ chain R p y = walk2_is R p y accepted in
-          let ex : walk2 (asked2 R p x) ≡ chain R p x = walk2_is R p x ok in
-          (subst (λ t. IsOn R t trail v) ey (step_on_other R (walk2 (asked2 R p x)) u (walk2 (asked2 R p y)) v trail i),
-           ap (λ t. marks R t trail) (sym ex) ∙ step_marks R (walk2 (asked2 R p x)) u (walk2 (asked2 R p y)) v trail i ∙ ap (λ t. marks R t trail) ey)
+          let ex : walk2 (asked2 R p x) ≡ chain R p x = walk2_is R p x ok in (
+            subst (λ t. IsOn R t trail v) ey (step_on_other R (walk2 (asked2 R p x)) u (walk2 (asked2 R p y)) v trail i),
+            ap (λ t. marks R t trail) (sym ex) ∙ step_marks R (walk2 (asked2 R p x)) u (walk2 (asked2 R p y)) v trail i ∙ ap (λ t. marks R t trail) ey,
+          )
 
 leaf_twin : (r r' : Regime) (l : Leaf2) (u : Ask Need Item (End Leaf2)) → Twin r r' (done (reaches l)) u → u ≡ done (reaches l)
 leaf_twin r r' l (done (reaches m)) h = ap (λ (z : Leaf2). done (reaches z)) h
@@ -263,7 +264,7 @@ chain_leaf_is c s t p q x y trail u pre m g ok h e part hold =
     let rc = reached2 r p x y (of_fields c s) trail d.0 (subst (Takes (fits r) (walk2 (asked2 r p x)) trail) end (chain_takes c s p x y ok trail u h)) in
     let same : x / 2 ^ d.0.class ≡ y / 2 ^ d.0.class = subst (λ k. x / 2 ^ k ≡ y / 2 ^ k) (sym d.2) (same_at c s p x y ok trail u m h (part_real g m.part part) w hold) in
     let i : InStep (fits r) (SameRegion r) (walk2 (asked2 r p x)) (walk2 (asked2 r p y)) trail u (done (reaches (moved2 d.0 y))) =
-        subst (λ z. InStep (fits r) (SameRegion r) (walk2 (asked2 r p x)) (walk2 (asked2 r p y)) trail z (done (reaches (moved2 d.0 y)))) (sym end) (rc.shift same) in
+    subst (λ z. InStep (fits r) (SameRegion r) (walk2 (asked2 r p x)) (walk2 (asked2 r p y)) trail z (done (reaches (moved2 d.0 y)))) (sym end) (rc.shift same) in
     let o = other_chain c s p x y ok trail u m h (part_real g m.part part) w hold (done (reaches (moved2 d.0 y))) i in
     let tw = twin_on r r' (chain r p y) (chain r' q y) (done (reaches (moved2 d.0 y))) trail (twin_chain c s t p q y) o.0 in
     leaf_found r r' q y trail (pre ++ m ∷ []) m.region.class (moved2 d.0 y) (chain r p y) tw (d.2 ∙ sym (ap (λ (z : Mark). z.region.class) w.is)) (sym o.1 ∙ e)
@@ -319,7 +320,7 @@ chain_table_is c s t p q x y trail u pre m ok h e part hold =
     let end : behind2 r p x y y w.at.left w.at.item ≡ ask below.0 below.1 = table_end r p x y w.at.left w.at.item d.0 below.0 below.1 (d.2 p y) below.2 in
     let same = same_at c s p x y ok trail u m h (table_real m.part part) w hold in
     let i : InStep (fits r) (SameRegion r) (walk2 (asked2 r p x)) (walk2 (asked2 r p y)) trail u (ask below.0 below.1) =
-        step_to r p x y trail u (behind2 r p x y y w.at.left w.at.item) (ask below.0 below.1) end (w.at.shift (class2 r w.at.left w.at.item) (omega arith) same) in
+    step_to r p x y trail u (behind2 r p x y y w.at.left w.at.item) (ask below.0 below.1) end (w.at.shift (class2 r w.at.left w.at.item) (omega arith) same) in
     let o = other_chain c s p x y ok trail u m h (table_real m.part part) w hold (ask below.0 below.1) i in
     let tw = twin_on r r' (chain r p y) (chain r' q y) (ask below.0 below.1) trail (twin_chain c s t p q y) o.0 in
     chain_table_by r r' q y trail (pre ++ m ∷ []) z.item below.0 below.1 (chain r p y) z.last tw (sym o.1 ∙ e)

@@ -6,18 +6,16 @@ use Rattle.sysregs.specs.declared.regs.Side.{Side}
 use Rattle.fault_codes.specs.declared.fault.Stage.TheVariants.{S2}
 use Rattle.fault_codes.specs.declared.fault.Class.TheVariants.{Translation, AddressSize}
 use Rattle.trails.specs.declared.item.Item.{Item}
-use Rattle.table_reads.specs.declared.step.Step.{Step}
-use Rattle.table_reads.specs.declared.step.Step.TheVariants.{Down, Reached, Stopped}
 use Rattle.table_reads.specs.Places.{place_of, is_too_large}
 use Rattle.walk_spec.specs.declared.leaf.Leaf2.{Leaf2}
 use Rattle.walk_spec.specs.Ask.{Ask, done, ask}
-use Rattle.walk_spec.specs.Needs.{Regime, regime_of, Need, base1, base2, word, fits}
+use Rattle.walk_spec.specs.Needs.{Regime, regime_of, Need, base2, fits}
 use Rattle.walk_spec.specs.Steps.{End, stops, reaches, step_then}
-use Rattle.walk_spec.specs.Stage2.{fault2, step2, walk2_from, walk2_behind}
+use Rattle.walk_spec.specs.Stage2.{fault2, step2, walk2_from}
 use Rattle.walk_spec.specs.Stage1.{asked2}
 use Rattle.walk_laws.proofs.Places.{word_at}
 use Rattle.walk_laws.proofs.Stage2.{Turn2, table, leaf, fault, turn2}
-use Rattle.machine_spec.specs.Marks.{Mark, mark, marks}
+use Rattle.machine_spec.specs.Marks.{mark, marks}
 use Rattle.machine_laws.proofs.Trees.{IsOn, chain}
 use Rattle.machine_laws.proofs.MarksOf.{marks_nil}
 
@@ -79,12 +77,16 @@ module _ (c : Config) (s t : Side) (p q : Bool) (x : ℕ) where
   twin_step below below' w left i (fault k d) = rw (d p x, d q x) tt
 
   twin_from : (left n : ℕ) → Twin R R' (walk2_from (asked2 R p x) left n) (walk2_from (asked2 R' q x) left n)
-  twin_from zero n =
-      (same_fits 0 (place_of R.stage2 0 n x) n, same_mark2 0 (place_of R.stage2 0 n x) n,
-        λ i. twin_step (λ _. done (stops (fault2 (asked2 R p x) Translation 0))) (λ _. done (stops (fault2 (asked2 R' q x) Translation 0))) (λ z. tt) 0 i (turn2 R 0 i))
-  twin_from (suc left) n =
-      (same_fits (suc left) (place_of R.stage2 (suc left) n x) n, same_mark2 (suc left) (place_of R.stage2 (suc left) n x) n,
-        λ i. twin_step (walk2_from (asked2 R p x) left) (walk2_from (asked2 R' q x) left) (twin_from left) (suc left) i (turn2 R (suc left) i))
+  twin_from zero n = (
+    same_fits 0 (place_of R.stage2 0 n x) n,
+    same_mark2 0 (place_of R.stage2 0 n x) n,
+    λ i. twin_step (λ _. done (stops (fault2 (asked2 R p x) Translation 0))) (λ _. done (stops (fault2 (asked2 R' q x) Translation 0))) (λ z. tt) 0 i (turn2 R 0 i),
+  )
+  twin_from (suc left) n = (
+    same_fits (suc left) (place_of R.stage2 (suc left) n x) n,
+    same_mark2 (suc left) (place_of R.stage2 (suc left) n x) n,
+    λ i. twin_step (walk2_from (asked2 R p x) left) (walk2_from (asked2 R' q x) left) (twin_from left) (suc left) i (turn2 R (suc left) i),
+  )
 
   twin_behind : (b : Bool) (base : ℕ) → Twin R R' (cond b (done (stops (fault2 (asked2 R p x) AddressSize most_left))) (walk2_from (asked2 R p x) R.stage2.start base)) (cond b (done (stops (fault2 (asked2 R' q x) AddressSize most_left))) (walk2_from (asked2 R' q x) R'.stage2.start base))
   twin_behind true base = tt
