@@ -177,26 +177,26 @@ module _ (r : Regime) (a : Access) (l : Landing) where
       let next : End Leaf2 → Result Need (End Landing) = word_behind r.config e in
       let ch : Ask Need Item (End Leaf2) = chain r true e.place in
       let d : Split r ch (λ e. joined (next e) (λ i. flat r (kf i))) xs (reaches l) = on_split r ch (λ e. joined (next e) (λ i. flat r (kf i))) xs (reaches l) h in
-      let tf : Ask Need Item (End Landing) = flat r (via true e.place next kf) in
-      let tt_ : Ask Need Item (End Landing) = flat r (via true e.place next kt) in
-      let uf : Ask Need Item (End Landing) = flat r (rest_by (next d.end) kf) in
-      let ut : Ask Need Item (End Landing) = flat r (rest_by (next d.end) kt) in
-      let more : IsOn r uf d.rest There = subst (λ v. IsOn r v d.rest There) (joined_is r (next d.end) kf) d.more in
-      let c : CutAt r uf ut d.rest = rest_cut e d.end kf kt rec d.rest more in
-      let onf : IsOn r tf d.front uf = via_on r true e.place next kf d.front d.end d.on_front in
-      let ont : IsOn r tt_ d.front ut = via_on r true e.place next kt d.front d.end d.on_front in
-      let mf : marks r tf d.front ≡ marks r ch d.front = via_marks r true e.place next kf d.front (done d.end) d.on_front in
-      let mt : marks r tt_ d.front ≡ marks r ch d.front = via_marks r true e.place next kt d.front (done d.end) d.on_front in
-      let ef : marks r tf xs ≡ marks r ch d.front ++ marks r uf d.rest = ap (marks r tf) d.is ∙ marks_append r tf uf d.front d.rest onf ∙ ap (λ v. v ++ marks r uf d.rest) mf in
-      let et : marks r tt_ (d.front ++ c.front) ≡ marks r ch d.front ++ marks r ut c.front = marks_append r tt_ ut d.front c.front ont ∙ ap (λ v. v ++ marks r ut c.front) mt in
+      let tu : Ask Need Item (End Landing) = flat r (via true e.place next kf) in
+      let tj : Ask Need Item (End Landing) = flat r (via true e.place next kt) in
+      let uu : Ask Need Item (End Landing) = flat r (rest_by (next d.end) kf) in
+      let uj : Ask Need Item (End Landing) = flat r (rest_by (next d.end) kt) in
+      let more : IsOn r uu d.rest There = subst (λ v. IsOn r v d.rest There) (joined_is r (next d.end) kf) d.more in
+      let c : CutAt r uu uj d.rest = rest_cut e d.end kf kt rec d.rest more in
+      let onf : IsOn r tu d.front uu = via_on r true e.place next kf d.front d.end d.on_front in
+      let ont : IsOn r tj d.front uj = via_on r true e.place next kt d.front d.end d.on_front in
+      let mf : marks r tu d.front ≡ marks r ch d.front = via_marks r true e.place next kf d.front (done d.end) d.on_front in
+      let mt : marks r tj d.front ≡ marks r ch d.front = via_marks r true e.place next kt d.front (done d.end) d.on_front in
+      let ef : marks r tu xs ≡ marks r ch d.front ++ marks r uu d.rest = ap (marks r tu) d.is ∙ marks_append r tu uu d.front d.rest onf ∙ ap (λ v. v ++ marks r uu d.rest) mf in
+      let et : marks r tj (d.front ++ c.front) ≡ marks r ch d.front ++ marks r uj c.front = marks_append r tj uj d.front c.front ont ∙ ap (λ v. v ++ marks r uj c.front) mt in
       record {
         front = d.front ++ c.front;
         rest = c.rest;
         is = d.is ∙ ap (λ v. d.front ++ v) c.is ∙ sym (append_assoc d.front c.front c.rest);
         end = c.end;
-        on = on_append r tt_ ut (done c.end) d.front c.front ont c.on;
+        on = on_append r tj uj (done c.end) d.front c.front ont c.on;
         fine = c.fine;
-        cut = subst (λ v. IsCut v (marks r tt_ (d.front ++ c.front))) (sym ef) (subst (IsCut (marks r ch d.front ++ marks r uf d.rest)) (sym et) (cut_more (marks r ch d.front) (marks r uf d.rest) (marks r ut c.front) c.cut));
+        cut = subst (λ v. IsCut v (marks r tj (d.front ++ c.front))) (sym ef) (subst (IsCut (marks r ch d.front ++ marks r uu d.rest)) (sym et) (cut_more (marks r ch d.front) (marks r uu d.rest) (marks r uj c.front) c.cut));
       }
 
   entry_cut : (b d : Bool) (e : Entry1) (kf kt : Item → Plan) → KCut kf kt → let v = λ (k : Item → Plan). flat r (entry_plan r b d e (λ f. fin (stops f)) k) in (xs : List Item) → IsOn r (v kf) xs There → CutAt r (v kf) (v kt) xs

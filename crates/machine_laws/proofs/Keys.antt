@@ -28,7 +28,7 @@ use Rattle.trails.specs.declared.outcome.Access.{Access}
 use Rattle.walk_laws.proofs.Stepping.{LastIs}
 use Rattle.walk_laws.proofs.Tables2.{level_of_one}
 use Rattle.walk_laws.proofs.Stage2.{Turn2, table, leaf, fault, turn2}
-use Rattle.walk_laws.proofs.Stage1.{under, Turn1, table as table1, leaf as leaf1, fault as fault1_, turn1}
+use Rattle.walk_laws.proofs.Stage1.{under, Turn1, table as goes_down, leaf as maps, fault as faults, turn1}
 use Rattle.machine_spec.specs.Marks.{Mark, mark, marks, is_first, is_global, part_of}
 use Rattle.machine_spec.specs.Made.{or_mark, last_first}
 use Rattle.machine_spec.specs.Allowed.{Entry, entry_of, or_else, last_entry, last_entry1}
@@ -281,14 +281,14 @@ module _ (r : Regime) (a : Access) where
 
     -- the word was the leaf, or others follow
     step_end : (i : Item) (xs : List Item) (l : Leaf1) → Turn1 r left i → IsOn r (Step i) xs (done (reaches l)) → ((xs ≡ []) × (l.class ≡ class_at1 r left i.pa i.value)) ⊎ Ends1 r (Step i) xs l
-    step_end i xs l (table1 next bits al d) h =
+    step_end i xs l (goes_down next bits al d) h =
         let n : Table1 = record { address = next; bits = joined_bits t.bits bits } in
         let s : step1 Q E i.pa i.value ≡ Down n = d false a t in
         inr (subst (λ (z : Step1 Leaf1 Table1). Ends1 r (Fine (step_then below z)) xs l) (sym s) (rec n xs l (subst (λ (z : Step1 Leaf1 Table1). IsOn r (Fine (step_then below z)) xs (done (reaches l))) s h)))
-    step_end i xs l (leaf1 f m d) h =
+    step_end i xs l (maps f m d) h =
         let g = leaf1_end r (leaf1_of r E i.pa f) xs l (subst (λ (z : Step1 Leaf1 Table1). IsOn r (Fine (step_then below z)) xs (done (reaches l))) (d false a t) h) in
         inl (g.0, ap (λ z. z.class) g.1 ∙ rw m refl)
-    step_end i xs l (fault1_ k d) h =
+    step_end i xs l (faults k d) h =
         absurd (stop1_end r (fault1 k left) xs l (subst (λ (z : Step1 Leaf1 Table1). IsOn r (Fine (step_then below z)) xs (done (reaches l))) (d false a t) h))
 
     level_here : (front : List Item) (i : Item) (l : Leaf1) → IsOn r (word_of r E) front (done (Ok i)) → l.class ≡ class_at1 r left i.pa i.value → Ends1 r Level front l

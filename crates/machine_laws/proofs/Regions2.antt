@@ -37,7 +37,7 @@ use Rattle.machine_laws.proofs.Laws.{ChainLeaf, ChainTable}
 use Rattle.machine_laws.proofs.Stands.{words_on}
 use Rattle.machine_laws.proofs.Sounds.{words_behind}
 use Rattle.machine_laws.proofs.MarksOf.{fits_word_parts, marks_nil, takes_on, step_on_other, step_marks}
-use Rattle.machine_laws.proofs.Sides.{Twin, twin_on, twin_chain}
+use Rattle.machine_laws.proofs.Sides.{Twin, TwinOn, twin_on, twin_chain}
 
 -- THE LAST MARK
 
@@ -246,6 +246,11 @@ part_real g p e h = let q : leaf g true ≡ nothing = sym e ∙ h in cc
 pub table_real : (p : Part) → p ≡ table true → p ≡ nothing → ⊥
 table_real p e h = let q : table true ≡ nothing = sym e ∙ h in cc
 
+leaf_found : (r r' : Regime) (q : Bool) (y : ℕ) (trail : List Item) (ms : List Mark) (class : ℕ) (l : Leaf2) (t : Ask Need Item (End Leaf2)) → TwinOn r r' t (chain r' q y) (done (reaches l)) trail → l.class ≡ class → marks r t trail ≡ ms
+    → ChainLeaf r' q trail ms class y
+leaf_found r r' q y trail ms class l t w c e =
+    record { leaf_at = l; on = subst (IsOn r' (chain r' q y) trail) (leaf_twin r r' l w.left w.twin) w.on; class_is = c; same = w.same ∙ e }
+
 -- a leaf of stage 2 serves each IPA of its region
 pub chain_leaf_is : (c : Config) (s t : Side) (p q : Bool) (x y : ℕ) (trail : List Item) (u : Ask Need Item (End Leaf2)) (pre : List Mark) (m : Mark) (g : Bool) →
     is_refused2 c x ≡ false → IsOn (regime_of c s) (chain (regime_of c s) p x) trail u → marks (regime_of c s) (chain (regime_of c s) p x) trail ≡ pre ++ m ∷ [] →
@@ -262,12 +267,7 @@ chain_leaf_is c s t p q x y trail u pre m g ok h e part hold =
     subst (λ z. InStep (fits r) (SameRegion r) (walk2 (asked2 r p x)) (walk2 (asked2 r p y)) trail z (done (reaches (moved2 d.0 y)))) (sym end) (rc.shift same) in
     let o = other_chain c s p x y ok trail u m h (part_real g m.part part) w hold (done (reaches (moved2 d.0 y))) i in
     let tw = twin_on r r' (chain r p y) (chain r' q y) (done (reaches (moved2 d.0 y))) trail (twin_chain c s t p q y) o.0 in
-    record {
-      leaf_at = moved2 d.0 y;
-      on = subst (IsOn r' (chain r' q y) trail) (leaf_twin r r' (moved2 d.0 y) tw.left tw.twin) tw.on;
-      class_is = d.2 ∙ sym (ap (λ (z : Mark). z.region.class) w.is);
-      same = tw.same ∙ sym o.1 ∙ e;
-    }
+    leaf_found r r' q y trail (pre ++ m ∷ []) m.region.class (moved2 d.0 y) (chain r p y) tw (d.2 ∙ sym (ap (λ (z : Mark). z.region.class) w.is)) (sym o.1 ∙ e)
 
 -- BEHIND A TABLE
 
@@ -289,14 +289,22 @@ ask_twin r r' n k (ask m l) h = (m, l, refl)
 chain_words : (r : Regime) (p : Bool) (x : ℕ) (i : Item) (trail : List Item) (u : Ask Need Item (End Leaf2)) → IsOn r (chain r p x) (i ∷ trail) u → IsWords u
 chain_words r p x i trail u h = words_on r (walk2_behind (asked2 r p x) i.value) u trail (words_behind (asked2 r p x) i.value) h.1
 
-chain_table_by : (r : Regime) (q : Bool) (y : ℕ) (trail : List Item) (ms : List Mark) (i : Item) (u : Ask Need Item (End Leaf2)) → LastIs trail i → (d : (need : Need) × (go : Item → Ask Need Item (End Leaf2)) × (u ≡ ask need go))
-    → IsOn r (chain r q y) trail u → marks r (chain r q y) trail ≡ ms → ChainTable r q trail ms y
-chain_table_by r q y [] ms i u l d on e = absurd l
-chain_table_by r q y (x ∷ trail) ms i u l d on e =
-    record { need = d.0; go = d.1; words = subst IsWords d.2 (chain_words r q y x trail u on); on = subst (IsOn r (chain r q y) (x ∷ trail)) d.2 on; same = e }
+chain_table_by : (r r' : Regime) (q : Bool) (y : ℕ) (trail : List Item) (ms : List Mark) (i : Item) (n : Need) (k : Item → Ask Need Item (End Leaf2)) (t : Ask Need Item (End Leaf2)) → LastIs trail i
+    → TwinOn r r' t (chain r' q y) (ask n k) trail → marks r t trail ≡ ms → ChainTable r' q trail ms y
+chain_table_by r r' q y [] ms i n k t l w e = absurd l
+chain_table_by r r' q y (x ∷ trail) ms i n k t l w e =
+    let d = ask_twin r r' n k w.left w.twin in
+    record { need = d.0; go = d.1; words = subst IsWords d.2 (chain_words r' q y x trail w.left w.on); on = subst (IsOn r' (chain r' q y) (x ∷ trail)) d.2 w.on; same = w.same ∙ e }
 
 not_zero : (c : Config) (left value next : ℕ) → means2_of c left value ≡ Table2 next → left ≡ 0 → ⊥
 not_zero c left value next h e = no_table2 c value next (subst (λ k. means2_of c k value ≡ Table2 next) e h)
+
+step_to : (r : Regime) (p : Bool) (x y : ℕ) (trail : List Item) (u v w : Ask Need Item (End Leaf2)) → v ≡ w → InStep (fits r) (SameRegion r) (walk2 (asked2 r p x)) (walk2 (asked2 r p y)) trail u v
+    → InStep (fits r) (SameRegion r) (walk2 (asked2 r p x)) (walk2 (asked2 r p y)) trail u w
+step_to r p x y trail u v w e h = subst (InStep (fits r) (SameRegion r) (walk2 (asked2 r p x)) (walk2 (asked2 r p y)) trail u) e h
+
+table_end : (r : Regime) (p : Bool) (x y left : ℕ) (i : Item) (next : ℕ) (n : Need) (k : Item → Ask Need Item (End Leaf2)) → step2 (asked2 r p y) left i.pa i.value ≡ Down next → beneath (down2 r p y) left next ≡ ask n k → behind2 r p x y y left i ≡ ask n k
+table_end r p x y left i next n k h e = ap (step_then (beneath (down2 r p y) left)) h ∙ e
 
 -- a table of stage 2 serves each IPA of its region
 pub chain_table_is : (c : Config) (s t : Side) (p q : Bool) (x y : ℕ) (trail : List Item) (u : Ask Need Item (End Leaf2)) (pre : List Mark) (m : Mark) →
@@ -309,10 +317,10 @@ chain_table_is c s t p q x y trail u pre m ok h e part hold =
     let w = word_last c s p x y ok trail u m h (table_real m.part part) pre e in
     let d = table_leads2 r w.at.left w.at.item.pa w.at.item.value (sym (ap (λ (z : Mark). z.part) w.is) ∙ part) in
     let below = beneath_asks r p y w.at.left d.0 (not_zero c w.at.left w.at.item.value d.0 d.1) in
-    let end : behind2 r p x y y w.at.left w.at.item ≡ ask below.0 below.1 = ap (step_then (beneath (down2 r p y) w.at.left)) (d.2 p y) ∙ below.2 in
+    let end : behind2 r p x y y w.at.left w.at.item ≡ ask below.0 below.1 = table_end r p x y w.at.left w.at.item d.0 below.0 below.1 (d.2 p y) below.2 in
     let same = same_at c s p x y ok trail u m h (table_real m.part part) w hold in
     let i : InStep (fits r) (SameRegion r) (walk2 (asked2 r p x)) (walk2 (asked2 r p y)) trail u (ask below.0 below.1) =
-    subst (λ z. InStep (fits r) (SameRegion r) (walk2 (asked2 r p x)) (walk2 (asked2 r p y)) trail u z) end (w.at.shift (class2 r w.at.left w.at.item) (omega arith) same) in
+    step_to r p x y trail u (behind2 r p x y y w.at.left w.at.item) (ask below.0 below.1) end (w.at.shift (class2 r w.at.left w.at.item) (omega arith) same) in
     let o = other_chain c s p x y ok trail u m h (table_real m.part part) w hold (ask below.0 below.1) i in
     let tw = twin_on r r' (chain r p y) (chain r' q y) (ask below.0 below.1) trail (twin_chain c s t p q y) o.0 in
-    chain_table_by r' q y trail (pre ++ m ∷ []) z.item tw.left z.last (ask_twin r r' below.0 below.1 tw.left tw.twin) tw.on (tw.same ∙ sym o.1 ∙ e)
+    chain_table_by r r' q y trail (pre ++ m ∷ []) z.item below.0 below.1 (chain r p y) z.last tw (sym o.1 ∙ e)

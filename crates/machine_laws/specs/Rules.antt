@@ -70,7 +70,8 @@ pub record SetLoses (h : Header) (c : ℕ) (s : Shape) (l : Cache) (r : Row) : T
       filter (same_set s r) (placed h c s l r).rows ≡ remove (filter (same_set s r) l.rows) (victim h.policy c l.evictions s.ways) ++ r ∷ []
   pub one : 0 < s.ways → victim h.policy c l.evictions s.ways < s.ways
   pub room : nat_le s.ways (length (filter (same_set s r) l.rows)) ≡ false → (placed h c s l r).rows ≡ l.rows ++ r ∷ []
-  pub others : (test : Row → Bool) → ((x : Row) → test x ≡ true → same_set s r x ≡ false) → filter test (placed h c s l r).rows ≡ filter test l.rows
+  pub others : (test : Row → Bool) → ((x : Row) → test x ≡ true → same_set s r x ≡ false) →
+      filter test (placed h c s l r).rows ≡ filter test l.rows
 
 abbrev pub FullSetsLoseOne : Type 0
 FullSetsLoseOne = (h : Header) (c : ℕ) (s : Shape) (l : Cache) (r : Row) → SetLoses h c s l r

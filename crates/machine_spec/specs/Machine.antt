@@ -1,5 +1,6 @@
 -- The machine: what each event does to each core, and the run of a trace (this project's own rules).
-use Rattle.std.specs.Prelude.{ℕ, ◌+◌, ◌-◌, Bool, true, false, not, ◌==◌, nat_lt, if◌then◌else◌, List, [], ◌∷◌, ◌++◌, length, fold, filter, get_or, replicate, Option, Some, None}
+use Rattle.std.specs.Prelude.{ℕ, ◌+◌, ◌-◌, Bool, true, false, not, ◌==◌, nat_lt, if◌then◌else◌, List, [], ◌∷◌, ◌++◌}
+use Rattle.std.specs.Prelude.{length, fold, filter, get_or, replicate, Option, Some, None}
 use Rattle.std.specs.List.{list_any}
 use Rattle.sysregs.specs.declared.regs.Regs.{Regs}
 use Rattle.sysregs.specs.Registers.{config_of, asid_of, vmid_of}

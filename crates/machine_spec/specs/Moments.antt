@@ -1,7 +1,8 @@
 -- What holds after so many steps: memory, the queues of register writes, and the registers in force. At first all memory
 -- and all registers are 0 and all queues empty. That a write waits until it is settled, and that a queue holds 64, are this
 -- project's own rules (DDI 0487: a write of a System register may take effect late, and by ISB at the latest).
-use Rattle.std.specs.Prelude.{ℕ, ◌+◌, ◌==◌, ◌&&◌, nat_lt, nat_le, if◌then◌else◌, List, [], ◌∷◌, ◌++◌, length, fold, take, Some, None}
+use Rattle.std.specs.Prelude.{ℕ, ◌+◌, ◌==◌, ◌&&◌, nat_lt, nat_le, if◌then◌else◌, List, [], ◌∷◌, ◌++◌, length, fold}
+use Rattle.std.specs.Prelude.{take, Some, None}
 use Rattle.sysregs.specs.declared.regs.Regs.{Regs}
 use Rattle.sysregs.specs.declared.regs.Reg.{Reg}
 use Rattle.sysregs.specs.Registers.{zero_regs, set_of}

@@ -1,5 +1,6 @@
 -- Rows of cached translations, and which of them serve an address (this project's own rules).
-use Rattle.std.specs.Prelude.{ℕ, ◌/◌, ◌^◌, Bool, true, false, ◌==◌, ◌&&◌, ◌||◌, nat_lt, if◌then◌else◌, List, [], ◌∷◌, filter, Option, Some, None}
+use Rattle.std.specs.Prelude.{ℕ, ◌/◌, ◌^◌, Bool, true, false, ◌==◌, ◌&&◌, ◌||◌, nat_lt, if◌then◌else◌, List, []}
+use Rattle.std.specs.Prelude.{◌∷◌, filter, Option, Some, None}
 use Rattle.sysregs.specs.declared.regs.Config.{Config}
 use Rattle.sysregs.specs.Registers.{granule_of}
 use Rattle.trails.specs.declared.item.Item.{Item}

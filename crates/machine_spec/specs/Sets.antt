@@ -1,6 +1,7 @@
 -- Rows that come and go in sets (this project's own rules). The rows of a core stand in one list in the order of rank: a row
 -- that is made goes last, and so does, under lru, a row that served. A set is what a filter leaves of the list.
-use Rattle.std.specs.Prelude.{ℕ, ◌+◌, ◌*◌, ◌/◌, ◌%◌, ◌^◌, zero, suc, Bool, not, ◌==◌, ◌&&◌, nat_le, if◌then◌else◌, List, [], ◌∷◌, ◌++◌, length, fold, filter}
+use Rattle.std.specs.Prelude.{ℕ, ◌+◌, ◌*◌, ◌/◌, ◌%◌, ◌^◌, zero, suc, Bool, not, ◌==◌, ◌&&◌, nat_le, if◌then◌else◌}
+use Rattle.std.specs.Prelude.{List, [], ◌∷◌, ◌++◌, length, fold, filter}
 use Rattle.std.specs.List.{list_any}
 use Rattle.trace_lang.specs.declared.header.Policy.{Policy}
 use Rattle.trace_lang.specs.declared.header.Policy.TheVariants.{Lru, Fifo, Random}

@@ -1,5 +1,6 @@
 -- A trace as lines: the value of a text, or its first refusal. The language is this project's own rule.
-use Rattle.std.specs.Prelude.{ℕ, ◌+◌, ◌*◌, ◌^◌, List, [], ◌∷◌, ◌++◌, length, take, Option, Some, None, Bool, true, false, not, ◌&&◌, ◌||◌, ◌==◌, nat_lt, nat_le, bytes_eq, codes, if◌then◌else◌, Result, Ok, Err, slice_index}
+use Rattle.std.specs.Prelude.{ℕ, ◌+◌, ◌*◌, ◌^◌, List, [], ◌∷◌, ◌++◌, length, take, Option, Some, None, Bool, true, false, not}
+use Rattle.std.specs.Prelude.{◌&&◌, ◌||◌, ◌==◌, nat_lt, nat_le, bytes_eq, codes, if◌then◌else◌, Result, Ok, Err, slice_index}
 use Rattle.std.specs.List.{list_all, list_any, slice_split}
 use Rattle.trails.specs.declared.event.Event.{Event}
 use Rattle.trace_lang.specs.declared.header.Size.{Size}
@@ -9,7 +10,8 @@ use Rattle.trace_lang.specs.declared.header.Policy.TheVariants.{Fifo}
 use Rattle.trace_lang.specs.declared.refusals.Phase.{Phase}
 use Rattle.trace_lang.specs.declared.refusals.Phase.TheVariants.{Cores, Ranges, Policy as PolicyDue, Events, Ended}
 use Rattle.trace_lang.specs.declared.refusals.LineRefusal.{LineRefusal}
-use Rattle.trace_lang.specs.declared.refusals.LineRefusal.TheVariants.{NotText, LongLine, AfterEnd, NoHeader, TooMany, BadWord, BadNumber, OutOfRange, Unsupported, NotAtEl1}
+use Rattle.trace_lang.specs.declared.refusals.LineRefusal.TheVariants.{NotText, LongLine, AfterEnd, NoHeader, TooMany, BadWord, BadNumber, OutOfRange}
+use Rattle.trace_lang.specs.declared.refusals.LineRefusal.TheVariants.{Unsupported, NotAtEl1}
 use Rattle.trace_lang.specs.declared.refusals.TraceRefusal.{TraceRefusal}
 use Rattle.trace_lang.specs.declared.refusals.TraceRefusal.TheVariants as refusal
 use Rattle.trace_lang.specs.Traces.{Header, Parts, most_cores, most_ranges, most_events, most_memory, is_aligned, shares_byte, bytes_in}
