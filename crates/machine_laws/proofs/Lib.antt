@@ -35,3 +35,4 @@ pub mod Sets
 pub mod Quiet
 pub mod Own
 pub mod Outlived
+pub mod NoRows
