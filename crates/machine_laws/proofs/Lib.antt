@@ -36,3 +36,4 @@ pub mod Quiet
 pub mod Own
 pub mod Outlived
 pub mod NoRows
+pub mod Timeless
