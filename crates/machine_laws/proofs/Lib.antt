@@ -37,3 +37,4 @@ pub mod Own
 pub mod Outlived
 pub mod NoRows
 pub mod Timeless
+pub mod Unchanged
