@@ -1,6 +1,6 @@
 -- Without rows each access is the fresh walk of its moment.
 use Rattle.std.proofs.Common.{◌≡◌, ℕ, ◌-◌, ◌<◌, ◌++◌, length, take, Bool, true, false, not, cond, List, [], ◌∷◌, refl, inl, inr, sym, ap, ◌∙◌, subst, Option, Some, None, arith}
-use Rattle.std.specs.Prelude.{◌&&◌, ◌||◌, ◌==◌, nat_lt, fold, filter, slice_get, option_map}
+use Rattle.std.specs.Prelude.{◌&&◌, ◌==◌, nat_lt, fold, filter, slice_get, option_map}
 use Rattle.std.specs.List.{list_any}
 use Rattle.std.proofs.lemmas.Bool.{cases_Bool, cases_lt, eq-eqb, ltb-true}
 use Rattle.std.proofs.lemmas.List.{take-append-le, length-append, take_at, get_or-replicate}
@@ -20,7 +20,7 @@ use Rattle.table_reads.specs.Memory.{Memory}
 use Rattle.trace_lang.specs.declared.header.Size.TheVariants.{NoRows}
 use Rattle.tlbi_ops.specs.declared.inval.Inval.{Inval}
 use Rattle.tlbi_ops.specs.Operands.{reaches_core}
-use Rattle.walk_spec.specs.Ask.{Ask, done, ask, Fed, ended, lacks, fed_items, fed_end, with_answer}
+use Rattle.walk_spec.specs.Ask.{Ask, done, ask, lacks, fed_items, fed_end, with_answer}
 use Rattle.walk_spec.specs.Needs.{Need, base1, base2, word, WordNeed, needed_item}
 use Rattle.walk_spec.specs.Steps.{End}
 use Rattle.walk_spec.specs.BothStages.{Landing, is_refused1, walk}
@@ -31,8 +31,8 @@ use Rattle.machine_spec.specs.Kept.{View}
 use Rattle.machine_spec.specs.Allowed.{is_earlier, has_word, is_changed}
 use Rattle.machine_spec.specs.Rows.{Row}
 use Rattle.machine_spec.specs.Sets.{Cache, added, touched, filled}
-use Rattle.machine_spec.specs.Served.{Supplied, supplied_by, Place, supply, Stop, came, Reply, pushed, goes_on, serve, served}
-use Rattle.machine_spec.specs.Machine.{Core, World, no_core, killed, delivered_by, delivered, most_held, posted, mailed, mailed_by, finished}
+use Rattle.machine_spec.specs.Served.{Supplied, supplied_by, Place, supply, came, Reply, pushed, goes_on, serve, served}
+use Rattle.machine_spec.specs.Machine.{Core, World, no_core, killed, delivered_by, delivered, most_held, posted, mailed, mailed_by}
 use Rattle.machine_spec.specs.Machine.{Visited, Seat, is_old, is_stale, made_by, visited_by, visited, seat_of, core_of, regs_in, accessed, acted, moved}
 use Rattle.machine_spec.specs.Machine.{opened, after_event, world_after, answer_in, answer_to, step_of, run_of}
 use Rattle.machine_laws.specs.Headline.{core_named, AreOfCores, IsFreshNow, IsFreshFor, RunsWithoutRowsAreFresh}
@@ -52,7 +52,7 @@ fed_reply give t = record { items = fed_items give t; stop = came (fed_end give 
 goes_fed : (give : Need → Option Item) (n : Need) (k : Item → Ask Need Item (End Landing)) (o : Option Item) (next : Item → List Item → Reply)
     → ((i : Item) → next i [] ≡ fed_reply give (k i))
     → goes_on n (supplied_by o) next
-      ≡ record { items = with_answer o [] (λ i. i ∷ fed_items give (k i)); stop = came (with_answer o (lacks n) (λ i. fed_end give (k i))); by = [] }
+    ≡ record { items = with_answer o [] (λ i. i ∷ fed_items give (k i)); stop = came (with_answer o (lacks n) (λ i. fed_end give (k i))); by = [] }
 goes_fed give n k None next h = refl
 goes_fed give n k (Some i) next h = ap (pushed i []) (h i)
 
@@ -161,7 +161,7 @@ visited_bare h c regs m k l a e =
     let same : l.evictions - l.evictions ≡ 0 = omega arith in
     ap (λ (q : Reply). visited_by s a q q.stop) (served_bare regs m k a)
     ∙ ap (λ (x : Cache). visited_with p a (is_old p r.items) (is_stale p a r.items) (x.evictions - l.evictions) x)
-      (nothing_filled h c l [] (made_by p a r (came (fed_end give t))) e)
+    (nothing_filled h c l [] (made_by p a r (came (fed_end give t))) e)
     ∙ ap (λ n. visited_with p a (is_old p r.items) (is_stale p a r.items) n l) same
     ∙ ap (λ b. visited_with p a b (is_stale p a r.items) 0 l) (none_fed (is_earlier k) give (given_now regs (side_of a.va) m k) t)
     ∙ ap (λ b. visited_with p a false b 0 l) (none_fed (is_changed regs (side_of a.va) m) give (given_same regs (side_of a.va) m k) t)
@@ -225,8 +225,8 @@ module _ (h : Header) (log : List Step) (w : World) (all : AllFacts h log w) (no
       let v : View = view_of h log c (side_of a.va) in
       let x : Core = core_of w c in
       let is : answer_in h w c a ≡ fresh_answer (place_of v x.cache.rows) a =
-          ap (λ (u : Visited). u.answer) (visited_fresh (seat_of h w c x) a none (ap (λ (l : Cache). l.rows) b))
-          ∙ ap (λ p. fresh_answer p a) (place_is h log w all c (side_of a.va) lt) in
+      ap (λ (u : Visited). u.answer) (visited_fresh (seat_of h w c x) a none (ap (λ (l : Cache). l.rows) b))
+      ∙ ap (λ p. fresh_answer p a) (place_is h log w all c (side_of a.va) lt) in
       subst (IsFreshNow h log c a) (sym is) record { outcome = refl; first = refl; second = refl; old = refl; stale = refl; evicted = refl }
 
   fresh_one : ((c : ℕ) → c < h.cores → IsBare (core_of w c)) → (e : Event) → core_named e < h.cores → IsFreshFor h log e (answer_to h w e)
@@ -265,7 +265,8 @@ module _ (serves : ServesWell) (makes : MakesWell) (h : Header) (none : h.size �
   bare_first : (c : ℕ) → c < h.cores → IsBare (core_of (opened h) c)
   bare_first c lt = ap (λ (v : Core). v.cache) (get_or-replicate h.cores c no_core no_core lt)
 
-  bare_next : (w : World) (e : Event) → length w.cores ≡ h.cores → ((c : ℕ) → c < h.cores → IsBare (core_of w c)) → (c : ℕ) → c < h.cores → IsBare (core_of (after_event h w e) c)
+  bare_next : (w : World) (e : Event) → length w.cores ≡ h.cores → ((c : ℕ) → c < h.cores → IsBare (core_of w c)) → (c : ℕ) → c < h.cores
+      → IsBare (core_of (after_event h w e) c)
   bare_next w e count b c lt =
       ap (λ (v : Core). v.cache) (each_at (moved h w e) w.cores c no_core (omega (arith, count, lt))) ∙ bare_moved h w none c (core_of w c) (b c lt) e
 
@@ -277,8 +278,7 @@ module _ (serves : ServesWell) (makes : MakesWell) (h : Header) (none : h.size �
           let parts = All-pop (λ d. core_named d < h.cores) (es ++ e ∷ []) es (Some e) refl own in
           let b = before parts.0 in
           let all : AllFacts h (run_of h es) (world_after h es) = facts_of_run serves makes h es parts.0 in
-          rw (run_on h es e, world_on h es e)
-          (
+          rw (run_on h es e, world_on h es e) (
             bare_next (world_after h es) e all.count b.0,
             all_more h (run_of h es) (step_of h (world_after h es) e) b.1 (fresh_one h (run_of h es) (world_after h es) all none b.0 e parts.1),
           )

@@ -1,12 +1,11 @@
 -- A walk reads no moment of an item: on items that are alike but for moments it goes on alike.
-use Rattle.std.proofs.Common.{◌≡◌, ℕ, zero, suc, Bool, true, false, cond, refl, sym, ap, ◌∙◌, subst}
+use Rattle.std.proofs.Common.{◌≡◌, ℕ, zero, suc, Bool, true, false, cond, refl, ap, subst}
 use Rattle.std.specs.Prelude.{Result, Ok, Err}
 use Rattle.geometry.specs.Tables.{most_left}
 use Rattle.sysregs.specs.declared.regs.Config.{Config}
 use Rattle.permissions.specs.Rights.{no_bits}
 use Rattle.fault_codes.specs.declared.fault.Class.TheVariants.{Translation, AddressSize, Permission}
-use Rattle.fault_codes.specs.declared.fault.Stage.TheVariants.{S1, S2}
-use Rattle.fault_codes.specs.declared.fault.Fault.{Fault}
+use Rattle.fault_codes.specs.declared.fault.Stage.TheVariants.{S2}
 use Rattle.trails.specs.declared.item.Item.{Item}
 use Rattle.trails.specs.declared.outcome.Access.{Access}
 use Rattle.table_reads.specs.declared.step.Step.{Step}
@@ -19,9 +18,9 @@ use Rattle.walk_spec.specs.declared.leaf.Leaf2.{Leaf2}
 use Rattle.walk_spec.specs.Ask.{Ask, done, ask, after, go_on, finer}
 use Rattle.walk_spec.specs.Needs.{Regime, Need, base1, base2}
 use Rattle.walk_spec.specs.Steps.{End, stops, reaches, step_then}
-use Rattle.walk_spec.specs.Stage2.{Asked2, fault2, step2, level2, walk2_from, is_refused2, walk2_behind, walk2}
+use Rattle.walk_spec.specs.Stage2.{Asked2, fault2, step2, walk2_from, is_refused2, walk2_behind, walk2}
 use Rattle.walk_spec.specs.Stage1.{Asked, asked2, fault1, step1, entry1, walk1_from, read1, is_readable, read1_by, word_of, stage1_from}
-use Rattle.walk_spec.specs.BothStages.{Landing, landed, judged2, stage2_behind, is_refused1, stage1_behind, stage1_on, stage1_off, stage1, walk_by, asked, walk}
+use Rattle.walk_spec.specs.BothStages.{Landing, landed, judged2, stage2_behind, is_refused1, stage1_behind, stage1_on, stage1_off, stage1, asked, walk}
 
 -- equal but for the moments
 pub record IsAlike (i j : Item) : Type 0 where
@@ -55,11 +54,13 @@ alike_after R S (ask n k) (done b) f g h next = absurd h
 alike_after R S (ask n k) (ask m l) f g h next = (h.0, λ i j e. alike_after R S (k i) (l j) f g (h.1 i j e) next)
 
 -- behind an end that is equal, the same walk
-timeless_after : {N A C : Type 0} (S : C → C → Type 0) (t : Ask N Item A) (f : A → Ask N Item C) → IsTimeless t → ((a : A) → Alike S (f a) (f a)) → Alike S (after t f) (after t f)
+timeless_after : {N A C : Type 0} (S : C → C → Type 0) (t : Ask N Item A) (f : A → Ask N Item C) → IsTimeless t → ((a : A) → Alike S (f a) (f a))
+    → Alike S (after t f) (after t f)
 timeless_after S t f h next = alike_after Equal S t t f f h (λ a b e. subst (λ c. Alike S (f a) (f c)) e (next a))
 
 -- a walk that goes on by place and value of its item
-by_value : {N A : Type 0} (R : A → A → Type 0) (f : ℕ → ℕ → Ask N Item A) → ((p v : ℕ) → Alike R (f p v) (f p v)) → (i j : Item) → IsAlike i j → Alike R (f i.pa i.value) (f j.pa j.value)
+by_value : {N A : Type 0} (R : A → A → Type 0) (f : ℕ → ℕ → Ask N Item A) → ((p v : ℕ) → Alike R (f p v) (f p v)) → (i j : Item) → IsAlike i j
+    → Alike R (f i.pa i.value) (f j.pa j.value)
 by_value R f h i j e = subst (λ v. Alike R (f i.pa i.value) (f j.pa v)) e.value_is (subst (λ p. Alike R (f i.pa i.value) (f p i.value)) e.pa_is (h i.pa i.value))
 
 -- what finds the item of a question: items that are alike, or the same stop
@@ -69,14 +70,16 @@ Found (Ok i) (Err y) = ⊥
 Found (Err x) (Ok j) = ⊥
 Found (Err x) (Err y) = x ≡ y
 
-alike_go : {M X A : Type 0} (stop : X → A) (f g : Item → Ask M Item A) → ((i j : Item) → IsAlike i j → Alike Equal (f i) (g j)) → (x y : Result Item X) → Found x y
+alike_go : {M X A : Type 0} (stop : X → A) (f g : Item → Ask M Item A) → ((i j : Item) → IsAlike i j → Alike Equal (f i) (g j))
+    → (x y : Result Item X) → Found x y
     → Alike Equal (go_on stop f x) (go_on stop g y)
 alike_go stop f g h (Ok i) (Ok j) e = h i j e
 alike_go stop f g h (Ok i) (Err y) e = absurd e
 alike_go stop f g h (Err x) (Ok j) e = absurd e
 alike_go stop f g h (Err x) (Err y) e = ap stop e
 
-alike_finer : {N M X A : Type 0} (stop : X → A) (how : N → Ask M Item (Result Item X)) → ((n : N) → Alike Found (how n) (how n)) → (t u : Ask N Item A) → Alike Equal t u
+alike_finer : {N M X A : Type 0} (stop : X → A) (how : N → Ask M Item (Result Item X)) → ((n : N) → Alike Found (how n) (how n))
+    → (t u : Ask N Item A) → Alike Equal t u
     → Alike Equal (finer stop how t) (finer stop how u)
 alike_finer stop how h (done a) (done b) e = e
 alike_finer stop how h (done a) (ask n k) e = absurd e
@@ -84,7 +87,7 @@ alike_finer stop how h (ask n k) (done b) e = absurd e
 alike_finer stop how h (ask n k) (ask m l) e =
     subst (λ q. Alike Equal (after (how n) (go_on stop (λ i. finer stop how (k i)))) (after (how q) (go_on stop (λ i. finer stop how (l i))))) e.0
     (alike_after Found Equal (how n) (how n) (go_on stop (λ i. finer stop how (k i))) (go_on stop (λ i. finer stop how (l i))) (h n)
-      (λ x y f. alike_go stop (λ i. finer stop how (k i)) (λ i. finer stop how (l i)) (λ i j g. alike_finer stop how h (k i) (l j) (e.1 i j g)) x y f))
+    (λ x y f. alike_go stop (λ i. finer stop how (k i)) (λ i. finer stop how (l i)) (λ i j g. alike_finer stop how h (k i) (l j) (e.1 i j g)) x y f))
 
 alike_if : {N A : Type 0} (R : A → A → Type 0) (b : Bool) (t u : Ask N Item A) → Alike R t t → Alike R u u → Alike R (cond b t u) (cond b t u)
 alike_if R true t u h k = h
@@ -152,7 +155,7 @@ timeless1 : (q : Asked) → IsTimeless (stage1 q)
 timeless1 q =
     alike_if Equal q.regime.config.m (stage1_on q) (stage1_off q)
     (alike_if Equal (is_refused1 q.regime.config q.access) (done (stops (fault1 Translation most_left))) (ask base1 (λ i. stage1_behind q i.value)) refl
-      (refl, by_value Equal (λ p v. stage1_behind q v) (λ p v. timeless1_behind q v)))
+    (refl, by_value Equal (λ p v. stage1_behind q v) (λ p v. timeless1_behind q v)))
     refl
 
 -- BOTH STAGES

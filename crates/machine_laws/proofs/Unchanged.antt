@@ -1,6 +1,6 @@
 -- An allowed answer whose trail memory and registers of now would give again is that of the fresh walk.
-use Rattle.std.proofs.Common.{◌≡◌, ℕ, Bool, true, false, cond, List, [], ◌∷◌, length, refl, sym, ap, ◌∙◌, subst, Option, Some, None}
-use Rattle.std.specs.Prelude.{ℤ, pos, negsuc, ◌&&◌, ◌==◌, nat_lt, option_map}
+use Rattle.std.proofs.Common.{◌≡◌, ℕ, Bool, true, false, cond, List, [], ◌∷◌, length, refl, sym, ap, ◌∙◌, subst, Option, Some}
+use Rattle.std.specs.Prelude.{ℤ, pos, negsuc, option_map}
 use Rattle.std.proofs.lemmas.Bool.{eqb-true}
 use Rattle.geometry.specs.Tables.{level_of}
 use Rattle.sysregs.specs.declared.regs.Regs.{Regs}
@@ -11,7 +11,6 @@ use Rattle.fault_codes.specs.declared.fault.Stage.{Stage}
 use Rattle.fault_codes.specs.declared.fault.Stage.TheVariants.{S1, S2}
 use Rattle.trails.specs.declared.item.Item.{Item}
 use Rattle.trails.specs.declared.item.What.{What}
-use Rattle.trails.specs.declared.item.What.TheVariants.{Base, Word}
 use Rattle.trails.specs.declared.outcome.Access.{Access}
 use Rattle.trails.specs.declared.outcome.Outcome.{Outcome}
 use Rattle.trails.specs.declared.outcome.Outcome.TheVariants.{Mapped, Faulted, Absent, Conflict}
@@ -21,7 +20,7 @@ use Rattle.table_reads.specs.Numbers.{sizes1, sizes2}
 use Rattle.table_reads.specs.Items.{base_item}
 use Rattle.table_reads.specs.Memory.{Memory}
 use Rattle.walk_spec.specs.Ask.{Ask, done, ask, Stands, needs, bad, ends, on, Fed, ended, lacks, Took}
-use Rattle.walk_spec.specs.Needs.{Regime, regime_of, Need, base1, base2, word, WordNeed, fits, fits_base, is_base, stage_eq, level_eq, needed_item}
+use Rattle.walk_spec.specs.Needs.{Regime, regime_of, Need, base1, base2, word, fits, fits_base, level_eq, needed_item}
 use Rattle.walk_spec.specs.Steps.{End}
 use Rattle.walk_spec.specs.BothStages.{Landing, walk}
 use Rattle.walk_spec.specs.Fresh.{start_base1, start_base2, given, fed_outcome, fresh_items, fresh_outcome}
@@ -30,10 +29,10 @@ use Rattle.walk_laws.specs.Shift.{stands}
 use Rattle.walk_laws.proofs.Places.{first_of_and, second_of_and}
 use Rattle.machine_spec.specs.Header.{Header}
 use Rattle.machine_spec.specs.Moments.{memory_after, regs_after}
-use Rattle.machine_spec.specs.Kept.{View, now, regs_when}
-use Rattle.machine_spec.specs.Allowed.{is_conflict, Case, IsEnded, IsLacking, IsRight, case_of}
+use Rattle.machine_spec.specs.Kept.{regs_when}
+use Rattle.machine_spec.specs.Allowed.{is_conflict, IsEnded, IsLacking, IsRight, case_of}
 use Rattle.machine_spec.specs.Unchanged.{IsAsNow, AreAsNow, IsUnchanged, read_at}
-use Rattle.machine_laws.specs.Headline.{IsAsFresh, UnchangedIsFresh}
+use Rattle.machine_laws.specs.Headline.{UnchangedIsFresh}
 use Rattle.machine_laws.proofs.MarksOf.{fits_base1_parts, fits_base2_parts, fits_word_parts}
 use Rattle.machine_laws.proofs.Begins.{regs_now}
 use Rattle.machine_laws.proofs.Timeless.{IsAlike, Alike, Equal, walk_timeless}
@@ -84,17 +83,17 @@ module _ (regs : Regs) (s : Side) (m : Memory) (k : ℕ) where
       let p = fits_base1_parts rg i f in
       let q = base1_parts rg i f in
       ap (λ (j : Item). Some j) (same_item k (base_item k S1 (sizes1 (config_of regs) s) (start_base1 regs s)) i
-        record { stage_is = sym p.1; level_is = sym q.0; what_is = sym p.0; pa_is = sym (q.1 ∙ h); value_is = sym h })
+      record { stage_is = sym p.1; level_is = sym q.0; what_is = sym p.0; pa_is = sym (q.1 ∙ h); value_is = sym h })
   given_read (base2 x) i f h =
       let p = fits_base2_parts rg x i f in
       let q = base2_parts rg x i f in
       ap (λ (j : Item). Some j) (same_item k (base_item k S2 (sizes2 (config_of regs)) (start_base2 regs)) i
-        record { stage_is = sym p.1; level_is = sym q.0; what_is = sym p.0; pa_is = sym (q.1 ∙ h); value_is = sym h })
+      record { stage_is = sym p.1; level_is = sym q.0; what_is = sym p.0; pa_is = sym (q.1 ∙ h); value_is = sym h })
   given_read (word w) i f h =
       let p = fits_word_parts rg w i f in
       ap (option_map (needed_item k w)) h.1
       ∙ ap (λ (j : Item). Some j) (same_item k (needed_item k w i.value) i
-        record { stage_is = sym p.stage; level_is = sym p.level; what_is = sym p.what; pa_is = sym h.0; value_is = refl })
+      record { stage_is = sym p.stage; level_is = sym p.level; what_is = sym p.what; pa_is = sym h.0; value_is = refl })
 
   -- THE WALK AGAIN
 
@@ -118,7 +117,8 @@ module _ (regs : Regs) (s : Side) (m : Memory) (k : ℕ) where
   goes_as false rest e h = not_bad e h
 
   -- a walk that goes on alike takes the items with the moment of now, each of which is given
-  took_again : {A : Type 0} (t u : Ask Need Item A) (xs : List Item) (e : Fed Need A) → Alike Equal t u → on (fits rg) t xs ≡ stands_fed e → AreAsNow regs s m t xs
+  took_again : {A : Type 0} (t u : Ask Need Item A) (xs : List Item) (e : Fed Need A) → Alike Equal t u → on (fits rg) t xs ≡ stands_fed e
+      → AreAsNow regs s m t xs
       → Took (λ n i. given regs s m k n ≡ Some i) u (read_at k xs) e
   took_again (done a) (done b) xs e h st as_now = ends_as a b xs e h st
   took_again (done a) (ask p l) xs e h st as_now = absurd h
@@ -126,8 +126,7 @@ module _ (regs : Regs) (s : Side) (m : Memory) (k : ℕ) where
   took_again (ask n g) (ask p l) [] e h st as_now = needs_as n p e h.0 st
   took_again (ask n g) (ask p l) (i ∷ xs) e h st as_now =
       let b = goes_as (fits rg n i) (on (fits rg) (g i) xs) e st in
-      let alike : IsAlike i (read_now k i) = record { stage_is = refl; level_is = refl; what_is = refl; pa_is = refl; value_is = refl } in
-      (
+      let alike : IsAlike i (read_now k i) = record { stage_is = refl; level_is = refl; what_is = refl; pa_is = refl; value_is = refl } in (
         subst (λ q. given regs s m k q ≡ Some (read_now k i)) h.0 (given_read n i b.0 as_now.0),
         took_again (g i) (l (read_now k i)) xs e (h.1 i (read_now k i) alike) b.1 as_now.1,
       )
