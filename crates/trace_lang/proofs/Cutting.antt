@@ -1,6 +1,11 @@
 -- A list cut at its first element that passes, and what is left to read behind a cut.
-use Rattle.std.proofs.Common.{◌≡◌, ℕ, zero, suc, ◌+◌, ◌-◌, ◌<◌, ◌≤◌, ◌==◌, not, List, [], ◌∷◌, length, filter, take, drop, get_or, Option, Some, None, Bool, true, false, sym, ◌∙◌, ap, refl, arith, add-one}
-use Rattle.std.proofs.lemmas.List.{take_rest}
+use Rattle.std.proofs.Common.{◌≡◌, ℕ, zero, suc, ◌+◌, ◌-◌, ◌<◌, ◌≤◌, ◌==◌, ◌++◌, not, eqb, cond, List, [], ◌∷◌, length, filter, take, drop, get_or, Option, Some, None, Bool, true, false, sym, ◌∙◌, ap, refl, arith, add-one}
+use Rattle.std.proofs.lemmas.List.{take_rest, take-append-drop, length-append}
+use Rattle.std.specs.Prelude.{bytes_eq}
+use Rattle.std.proofs.lemmas.Bool.{both_ways, eqb-true}
+use Rattle.std.proofs.lemmas.Slice.Eq.{bytes_eq-Decides}
+use Rattle.std.proofs.Math.Seq.{drop-append_seam}
+use Rattle.trace_lang.specs.Lines.{without_return}
 use Rattle.std.specs.List.{slice_split, onto_first}
 use Rattle.std.proofs.lemmas.List.Splits.{slice_split-cons_yes, slice_split-cons_no}
 use Rattle.trace_lang.specs.Words.{is_blank}
@@ -28,3 +33,42 @@ left (Some text) = length text + 1
 
 abbrev pub words_behind : Option (List ℕ) → List (List ℕ)
 words_behind rest = filter (λ w. not (length w == 0)) (parts_behind is_blank rest)
+
+-- AN END THAT IS TAKEN OFF
+
+pub stripped : (w s t : List ℕ) → bytes_eq (drop (length w - length s) w) s ≡ true → t ≡ take (length w - length s) w → t ++ s ≡ w
+stripped w s t h e =
+    ap (λ u. u ++ s) e ∙ ap (λ u. take (length w - length s) w ++ u) (sym ((bytes_eq-Decides (drop (length w - length s) w) s).0 h))
+    ∙ take-append-drop (length w - length s) w
+
+last_part : (t s : List ℕ) → drop (length (t ++ s) - length s) (t ++ s) ≡ s
+last_part t s =
+    let n : length (t ++ s) - length s ≡ length t = let l = length-append t s in omega (arith, l) in
+    ap (λ k. drop k (t ++ s)) n ∙ drop-append_seam t s
+
+pub not_stripped : (w s : List ℕ) → bytes_eq (drop (length w - length s) w) s ≡ false → (t : List ℕ) → t ++ s ≡ w → ⊥
+not_stripped w s h t e =
+    both_ways (bytes_eq (drop (length w - length s) w) s) h ((bytes_eq-Decides (drop (length w - length s) w) s).1
+    (ap (λ u. drop (length u - length s) u) (sym e) ∙ last_part t s))
+
+return_off : (text : List ℕ) → without_return (text ++ 0x0d ∷ []) ≡ text
+return_off [] = refl
+return_off (b ∷ []) = refl
+return_off (b ∷ c ∷ text) = ap (λ ys. b ∷ ys) (return_off (c ∷ text))
+
+-- a line with a carriage return at its end
+pub returned : (line s text : List ℕ) → s ≡ 0x0d ∷ [] → text ++ s ≡ line → text ≡ without_return line
+returned line s text h e = sym (ap without_return (sym e ∙ ap (λ u. text ++ u) h) ∙ return_off text)
+
+not_this : (b : ℕ) (line : List ℕ) (t : Bool) → eqb b 0x0d ≡ t → (b ≡ 0x0d → ⊥) → line ≡ cond (eqb b 0x0d) [] line
+not_this b line true h k = absurd (k (eqb-true b 0x0d h))
+not_this b line false h k = rw h refl
+
+no_return : (line : List ℕ) → ((text : List ℕ) → text ++ 0x0d ∷ [] ≡ line → ⊥) → line ≡ without_return line
+no_return [] k = refl
+no_return (b ∷ []) k = not_this b (b ∷ []) (eqb b 0x0d) refl (λ e. k [] (ap (λ x. x ∷ []) (sym e)))
+no_return (b ∷ c ∷ line) k = ap (λ ys. b ∷ ys) (no_return (c ∷ line) (λ t e. k (b ∷ t) (ap (λ ys. b ∷ ys) e)))
+
+-- a line without one
+pub not_returned : (line s : List ℕ) → s ≡ 0x0d ∷ [] → ((text : List ℕ) → text ++ s ≡ line → ⊥) → line ≡ without_return line
+not_returned line s h k = no_return line (λ t e. k t (ap (λ u. t ++ u) h ∙ e))

@@ -29,9 +29,9 @@ pub fn cut_line<'a>(text: &'a [u8]) -> (&'a [u8], Option<&'a [u8]>)
 pub fn without_return<'a>(line: &'a [u8]) -> &'a [u8]
     ensures { result.now ≡ without_return line.now }
 {
-    match line {
-        [text @ .., b'\r'] => text,
-        _ => line,
+    match line.strip_suffix(b"\r".as_slice()) {
+        Some(text) => text,
+        None => line,
     }
 }
 

@@ -1,4 +1,4 @@
-ghost use Rattle.std.specs.Prelude.{◌≡◌, [], ◌∷◌, map, option_map, codes, true};
+ghost use Rattle.std.specs.Prelude.{◌≡◌, [], ◌∷◌, ◌++◌, map, option_map, codes, true};
 ghost use Rattle.trace_lang.specs.Words.{named};
 ghost use Rattle.trace_lang.specs.Events.{verbs, reg_names, op_names, op_text, all_ops, origins, barriers, els, kinds};
 ghost use Rattle.trace_lang.specs.Lines.{sizes, policies};
@@ -125,16 +125,21 @@ fn local_named(word: &[u8]) -> Option<Op>
     None
 }
 
+/// The operation that has this name with IS at its end.
+fn shared_named(word: &[u8]) -> Option<(Op, bool)>
+    ensures { result ≡ named (map (λ op. (op_text op ++ codes "IS", (op, true))) all_ops) word.now }
+{
+    let local = word.strip_suffix(b"IS".as_slice())?;
+    Some((local_named(local)?, true))
+}
+
 /// The operation, and whether the word has IS at its end.
 pub fn operation_named(word: &[u8]) -> Option<(Op, bool)>
     ensures { result ≡ named op_names word.now }
 {
-    if let Some(op) = local_named(word) {
-        return Some((op, false));
-    }
-    match word {
-        [local @ .., b'I', b'S'] => Some((local_named(local)?, true)),
-        _ => None,
+    match local_named(word) {
+        Some(op) => Some((op, false)),
+        None => shared_named(word),
     }
 }
 

@@ -157,7 +157,7 @@ impl Reading {
         let fits = is_size(self.head.ranges.as_slice(), base, size);
         let size = in_range(3, fits, size)?;
         no_word_at(words, 4)?;
-        let base = in_range(2, !self.head.shares_byte((base, size)), base)?;
+        in_range(2, !self.head.shares_byte((base, size)), base)?;
         match self.head.ranges.push((base, size)) {
             Ok(()) => {
                 self.phase = Phase::Ranges;
