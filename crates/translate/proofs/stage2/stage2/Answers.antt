@@ -35,5 +35,5 @@ pub returns-clause-walked : goal.returns-clause-walked
 returns-clause-walked g c =
     let b = begun2 (config_of c.args.under.now.regs) c.args.ipa c.args.ptw c.in-Ok.level (rw c.config-config.ensures.same at c.in-Ok.ensures) in
     let r = rooted2 c.args.under.now.regs c.args.ptw c.in-Ok-root2.from (rw c.regs.ensures at c.in-Ok-root2.ensures.value) in
-    let w = rw (r.1, left_below_of _ (start2_most (config_of c.args.under.now.regs))) at c.walk_granule.ensures.walked in
+    let w = rw (r.1, left_below_of _ (start2_most (config_of c.args.under.now.regs)), c.config-config.ensures.same, c.moment-2.ensures) at c.walk_granule.ensures.walked in
     walked_from2 c.args.under.now (g.S.Supply.memory c.args.supply.now) c.args.ptw c.args.ipa b.0 c.args.trail.now _ (rw (c.regs.ensures, c.moment.ensures) at c.in-Ok-root2.ensures.item) _ _ _ r.0 w
