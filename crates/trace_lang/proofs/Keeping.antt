@@ -27,20 +27,20 @@ use Rattle.trace_lang.specs.Limits.{KeepsLimits, KeepsLimitsIn}
 -- WHAT HOLDS OF EACH VALUE
 
 -- a fact of the first value, and from it one of what follows
-then_with : {A B : Type 0} (P : A → Type 0) (Q : B → Type 0) (r : Result A LineRefusal) (f : A → Result B LineRefusal) → IfOk r P → ((x : A) → P x → IfOk (f x) Q) → IfOk (r >>= f) Q
+pub then_with : {A B : Type 0} (P : A → Type 0) (Q : B → Type 0) (r : Result A LineRefusal) (f : A → Result B LineRefusal) → IfOk r P → ((x : A) → P x → IfOk (f x) Q) → IfOk (r >>= f) Q
 then_with P Q (Ok x) f h k = k x h
 then_with P Q (Err e) f h k = tt
 
-then_any : {A B : Type 0} (Q : B → Type 0) (r : Result A LineRefusal) (f : A → Result B LineRefusal) → ((x : A) → IfOk (f x) Q) → IfOk (r >>= f) Q
+pub then_any : {A B : Type 0} (Q : B → Type 0) (r : Result A LineRefusal) (f : A → Result B LineRefusal) → ((x : A) → IfOk (f x) Q) → IfOk (r >>= f) Q
 then_any Q (Ok x) f k = k x
 then_any Q (Err e) f k = tt
 
-either : {B E : Type 0} (Q : B → Type 0) (b : Bool) (r s : Result B E) → (b ≡ true → IfOk r Q) → (b ≡ false → IfOk s Q) → IfOk (cond b r s) Q
+pub either : {B E : Type 0} (Q : B → Type 0) (b : Bool) (r s : Result B E) → (b ≡ true → IfOk r Q) → (b ≡ false → IfOk s Q) → IfOk (cond b r s) Q
 either Q true r s h k = h refl
 either Q false r s h k = k refl
 
 -- a number that passes a test, and what follows from the test
-then_passes : {B : Type 0} (Q : B → Type 0) (place : ℕ) (passes : Bool) (n : ℕ) (f : ℕ → Result B LineRefusal) → (passes ≡ true → IfOk (f n) Q) → IfOk (in_range place passes n >>= f) Q
+pub then_passes : {B : Type 0} (Q : B → Type 0) (place : ℕ) (passes : Bool) (n : ℕ) (f : ℕ → Result B LineRefusal) → (passes ≡ true → IfOk (f n) Q) → IfOk (in_range place passes n >>= f) Q
 then_passes Q place true n f k = k refl
 then_passes Q place false n f k = tt
 

@@ -2,3 +2,4 @@ pub mod Cutting
 pub mod Naming
 pub mod Keeping
 pub mod Worked
+pub mod Built

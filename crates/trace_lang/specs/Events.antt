@@ -64,7 +64,9 @@ op_text Ripas2e1 = codes "RIPAS2E1"
 op_text Ripas2le1 = codes "RIPAS2LE1"
 
 abbrev pub all_ops : List Op
-all_ops = Vmalle1 ∷ Vae1 ∷ Vaae1 ∷ Vale1 ∷ Vaale1 ∷ Aside1 ∷ Ipas2e1 ∷ Ipas2le1 ∷ Vmalls12e1 ∷ Alle1 ∷ Rvae1 ∷ Rvaae1 ∷ Rvale1 ∷ Rvaale1 ∷ Ripas2e1 ∷ Ripas2le1 ∷ []
+all_ops =
+    Vmalle1 ∷ Vae1 ∷ Vaae1 ∷ Vale1 ∷ Vaale1 ∷ Aside1 ∷ Ipas2e1 ∷ Ipas2le1 ∷ Vmalls12e1 ∷ Alle1
+    ∷ Rvae1 ∷ Rvaae1 ∷ Rvale1 ∷ Rvaale1 ∷ Ripas2e1 ∷ Ripas2le1 ∷ []
 
 -- the local forms, and the forms with IS at their end
 abbrev pub op_names : List (List ℕ × (Op × Bool))

@@ -2,8 +2,15 @@
 use Rattle.std.specs.Prelude.{◌≡◌, ℕ, ◌≤◌, List, [], length}
 use Rattle.trace_lang.specs.declared.refusals.Phase.{Phase}
 use Rattle.trace_lang.specs.declared.refusals.Phase.TheVariants.{Cores, Ranges, Policy as PolicyDue, Events, Ended}
-use Rattle.trace_lang.specs.Traces.{Parts, IsTrace}
+use Rattle.trace_lang.specs.declared.header.Size.TheVariants.{NoRows}
+use Rattle.trace_lang.specs.declared.header.Policy.TheVariants.{Fifo}
+use Rattle.trace_lang.specs.Traces.{Header, Parts, IsTrace}
 use Rattle.trace_lang.specs.Lines.{State}
+
+-- the sizes of caches and the policies that a text may name today: none, and fifo
+pub record IsBuilt (h : Header) : Type 0 where
+  pub size : h.size ≡ NoRows
+  pub policy : h.policy ≡ Fifo
 
 -- before the first event there is none, and before the first range neither
 abbrev pub KeepsLimitsIn : (phase : Phase) (trace : Parts) → Type 0

@@ -48,7 +48,8 @@ is_size earlier b n = is_aligned n && nat_lt 0 n && nat_le (b + n) (2 ^ 52) && n
 abbrev pub range_met : (state : State) (words : List (List ℕ)) → Result State LineRefusal
 range_met s ws =
     let h = s.trace.header in
-    number_at ws 2 >>= (λ b. in_range 2 (is_base b) b >>= (λ b. number_at ws 3 >>= (λ n. in_range 3 (is_size h.ranges b n) n >>= (λ n. no_word_at ws 4 >>= (λ _.
+    number_at ws 2 >>= (λ b. in_range 2 (is_base b) b >>= (λ b.
+    number_at ws 3 >>= (λ n. in_range 3 (is_size h.ranges b n) n >>= (λ n. no_word_at ws 4 >>= (λ _.
     in_range 2 (not (list_any (shares_byte (b, n)) h.ranges)) b >>= (λ _. Ok (with_header s Ranges (record h { ranges = h.ranges ++ (b, n) ∷ [] }))))))))
 
 -- the sizes of the caches that may be named

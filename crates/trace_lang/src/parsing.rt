@@ -2,7 +2,7 @@ ghost use Rattle.std.specs.Prelude.{◌≡◌, ◌≤◌, length, IfOk, Err};
 ghost use Rattle.std.specs.List.{slice_split};
 ghost use Rattle.trace_lang.specs.Words.{is_end};
 ghost use Rattle.trace_lang.specs.Lines.{no_lines, refused_in, lines_met, ended_in, most_text, trace_of};
-ghost use Rattle.trace_lang.specs.Limits.{KeepsLimits};
+ghost use Rattle.trace_lang.specs.Limits.{KeepsLimits, IsBuilt};
 ghost use Rattle.trace_lang.specs.Views.{state_of, GivesTrace};
 
 use crate::cuts::{cut_line, without_return};
@@ -42,6 +42,7 @@ fn read_lines(alloc: Global, bytes: &[u8]) -> Result<Reading, TraceError>
     requires { length bytes.now ≤ most_text }
     ensures read { GivesTrace state_of result (lines_met no_lines 1 (slice_split is_end bytes.now)) }
     ensures limits { IfOk result (λ r. KeepsLimits (state_of r)) }
+    ensures built { IfOk result (λ r. IsBuilt (state_of r).trace.header) }
 {
     let mut reading = Reading::new(alloc);
     let mut words = Vec::new(alloc);
@@ -62,7 +63,8 @@ fn read_lines(alloc: Global, bytes: &[u8]) -> Result<Reading, TraceError>
 
 fn ended(reading: Reading) -> Result<Trace, TraceError>
     requires { KeepsLimits (state_of reading) }
-    ensures { GivesTrace (λ t. t) result (ended_in reading.phase (state_of reading)) }
+    ensures trace { GivesTrace (λ t. t) result (ended_in reading.phase (state_of reading)) }
+    ensures same { IfOk result (λ t. t ≡ (state_of reading).trace) }
 {
     let Reading {
         head,
@@ -87,7 +89,8 @@ fn ended(reading: Reading) -> Result<Trace, TraceError>
 /// then for its words from the left, then for a word too many, and last for what its words say together: a range that
 /// shares a byte with an earlier one, a register field that is not supported, an operation that EL1 may not issue.
 pub fn parse(alloc: Global, bytes: &[u8]) -> Result<Trace, TraceError>
-    ensures { GivesTrace (λ t. t) result (trace_of bytes.now) }
+    ensures trace { GivesTrace (λ t. t) result (trace_of bytes.now) }
+    ensures built { IfOk result (λ t. IsBuilt t.header) }
 {
     if bytes.len() > MOST_BYTES {
         return refused(TraceRefusal::TooLarge {

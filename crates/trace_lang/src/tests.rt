@@ -196,8 +196,7 @@ fn reads_traces(rt: HostRuntime) -> Result<(), Fail> {
         told(alloc, text.as_bytes())?.as_str(),
         "BadNumber { line: 5, place: 3 }"
     );
-    let text =
-        "# blanks and line ends\r\n\tcores  02\n  # two\nmemory 0 0x1000\r\n\
+    let text = "# blanks and line ends\r\n\tcores  02\n  # two\nmemory 0 0x1000\r\n\
  memory\t65536 00000000000000000008 \t\ncaches none\n \t\npolicy fifo\n#store 0 1 1\n\
 store 0x1 65536 18446744073709551615\nend\r\n# more";
     let trace = parse(alloc, text.as_bytes()).ok();

@@ -1,0 +1,96 @@
+-- What a text may name of sizes and policies is what a trace that was read has.
+use Rattle.std.proofs.Common.{◌≡◌, ℕ, ◌+◌, ◌++◌, Bool, true, false, not, cond, List, [], ◌∷◌, length, Option, Some, None, Result, Ok, Err, IfOk, refl, subst}
+use Rattle.std.specs.Prelude.{codes, nat_lt, nat_le, bytes_eq, take, slice_get, ◌-◌}
+use Rattle.std.specs.List.{list_any, list_all}
+use Rattle.trace_lang.specs.declared.header.Size.{Size}
+use Rattle.trace_lang.specs.declared.header.Size.TheVariants.{NoRows}
+use Rattle.trace_lang.specs.declared.header.Policy.{Policy}
+use Rattle.trace_lang.specs.declared.header.Policy.TheVariants.{Fifo}
+use Rattle.trace_lang.specs.declared.refusals.Phase.{Phase}
+use Rattle.trace_lang.specs.declared.refusals.Phase.TheVariants.{Cores, Ranges, Policy as PolicyDue, Events, Ended}
+use Rattle.trace_lang.specs.declared.refusals.LineRefusal.{LineRefusal}
+use Rattle.trace_lang.specs.declared.refusals.LineRefusal.TheVariants.{NotText, LongLine, TooMany}
+use Rattle.trace_lang.specs.declared.refusals.TraceRefusal.{TraceRefusal}
+use Rattle.trace_lang.specs.Traces.{shares_byte, most_ranges, most_events}
+use Rattle.trace_lang.specs.Words.{◌>>=◌, word_or, word_at, number_at, name_at, no_word_at, named, words_of, is_text, in_range}
+use Rattle.trace_lang.specs.Events.{event_of}
+use Rattle.trace_lang.specs.Lines.{State, no_lines, with_header, with_event, cores_met, range_met, sizes, caches_met, policies, policy_met, ranges_met, body_met, met, words_met, line_met, without_return, lines_met, refused_in, most_line}
+use Rattle.trace_lang.specs.Limits.{IsBuilt}
+use Rattle.trace_lang.proofs.Keeping.{then_with, then_any, either}
+
+abbrev Builds : State → Type 0
+Builds s = IsBuilt s.trace.header
+
+read_is : {A : Type 0} (x : A) (text word : List ℕ) (place : ℕ) → IfOk (word_or place (named ((text, x) ∷ []) word)) (λ z. z ≡ x)
+read_is x text word place = by_test (bytes_eq word text)
+  where
+    by_test : (b : Bool) → IfOk (word_or place (cond b (Some x) None)) (λ z. z ≡ x)
+    by_test true = refl
+    by_test false = tt
+
+-- the one name of a table
+name_is : {A : Type 0} (x : A) (text : List ℕ) (ws : List (List ℕ)) (place : ℕ) → IfOk (name_at (named ((text, x) ∷ [])) ws place) (λ z. z ≡ x)
+name_is x text ws place = then_any (λ z. z ≡ x) (word_or place (word_at ws (place - 1))) _ (λ w. read_is x text w place)
+
+caches_built : (s : State) (ws : List (List ℕ)) → Builds s → IfOk (caches_met s ws) Builds
+caches_built s ws h =
+    then_with (λ z. z ≡ NoRows) Builds (name_at (named sizes) ws 2) _ (name_is NoRows _ ws 2) (λ z e.
+    then_any Builds (no_word_at ws 3) (λ _. Ok (with_header s PolicyDue (record s.trace.header { size = z }))) (λ _. record { size = e; policy = h.policy }))
+
+policy_built : (s : State) (ws : List (List ℕ)) → Builds s → IfOk (policy_met s ws) Builds
+policy_built s ws h =
+    then_with (λ p. p ≡ Fifo) Builds (name_at (named policies) ws 2) _ (name_is Fifo _ ws 2) (λ p e.
+    then_any Builds (no_word_at ws 3) (λ _. Ok (with_header s Events (record s.trace.header { policy = p }))) (λ _. record { size = h.size; policy = e }))
+
+cores_built : (s : State) (ws : List (List ℕ)) → Builds s → IfOk (cores_met s ws) Builds
+cores_built s ws h =
+    then_any Builds (number_at ws 2) _ (λ n. then_any Builds (in_range 2 _ n) _ (λ m. then_any Builds (no_word_at ws 3) _ (λ _.
+    record { size = h.size; policy = h.policy })))
+
+range_built : (s : State) (ws : List (List ℕ)) → Builds s → IfOk (range_met s ws) Builds
+range_built s ws h =
+    then_any Builds (number_at ws 2) _ (λ b. then_any Builds (in_range 2 _ b) _ (λ c. then_any Builds (number_at ws 3) _ (λ n. then_any Builds (in_range 3 _ n) _ (λ m.
+    then_any Builds (no_word_at ws 4) _ (λ x. then_any Builds (in_range 2 (not (list_any (shares_byte (c, m)) s.trace.header.ranges)) c)
+    (λ y. Ok (with_header s Ranges (record s.trace.header { ranges = s.trace.header.ranges ++ (c, m) ∷ [] })))
+    (λ y. record { size = h.size; policy = h.policy }))))))
+
+ranges_built : (s : State) (w : List ℕ) (ws : List (List ℕ)) → Builds s → IfOk (ranges_met s w ws) Builds
+ranges_built s w ws h =
+    either Builds (bytes_eq w (codes "memory")) _ _
+    (λ _. either Builds (nat_le most_ranges (length s.trace.header.ranges)) (Err TooMany) (range_met s ws) (λ _. tt) (λ _. range_built s ws h))
+    (λ _. either Builds (bytes_eq w (codes "caches")) (caches_met s ws) _ (λ _. caches_built s ws h) (λ _. tt))
+
+body_built : (s : State) (w : List ℕ) (ws : List (List ℕ)) → Builds s → IfOk (body_met s w ws) Builds
+body_built s w ws h =
+    either Builds (bytes_eq w (codes "end")) _ _
+    (λ _. then_any Builds (no_word_at ws 2) _ (λ _. h))
+    (λ _. either Builds (nat_le most_events (length s.trace.events)) (Err TooMany) _ (λ _. tt) (λ _. then_any Builds (event_of s.trace.header ws) _ (λ e. h)))
+
+met_built : (phase : Phase) (s : State) (w : List ℕ) (ws : List (List ℕ)) → Builds s → IfOk (met phase s w ws) Builds
+met_built Cores s w ws h = either Builds (bytes_eq w (codes "cores")) (cores_met s ws) _ (λ _. cores_built s ws h) (λ _. tt)
+met_built Ranges s w ws h = ranges_built s w ws h
+met_built PolicyDue s w ws h = either Builds (bytes_eq w (codes "policy")) (policy_met s ws) _ (λ _. policy_built s ws h) (λ _. tt)
+met_built Events s w ws h = body_built s w ws h
+met_built Ended s w ws h = tt
+
+words_built : (s : State) (words : List (List ℕ)) → Builds s → IfOk (words_met s words) Builds
+words_built s [] h = h
+words_built s (w ∷ ws) h = either Builds (bytes_eq (take 1 w) (codes "#")) (Ok s) _ (λ _. h) (λ _. met_built s.phase s w (w ∷ ws) h)
+
+line_built : (s : State) (line : List ℕ) → Builds s → IfOk (line_met s line) Builds
+line_built s line h =
+    either Builds (not (list_all is_text line)) (Err NotText) _ (λ _. tt)
+    (λ _. either Builds (nat_lt most_line (length line)) (Err LongLine) (words_met s (words_of line)) (λ _. tt) (λ _. words_built s (words_of line) h))
+
+goes_on : (n : ℕ) (lines : List (List ℕ)) (r : Result State LineRefusal) → IfOk r Builds → ((t : State) → Builds t → IfOk (lines_met t (n + 1) lines) Builds) →
+    IfOk (elim r as (λ _. Result State TraceRefusal) [ Ok t ↦ lines_met t (n + 1) lines | Err why ↦ Err (refused_in n why) ]) Builds
+goes_on n lines (Ok t) h k = k t h
+goes_on n lines (Err why) h k = tt
+
+lines_built : (s : State) (n : ℕ) (lines : List (List ℕ)) → Builds s → IfOk (lines_met s n lines) Builds
+lines_built s n [] h = h
+lines_built s n (line ∷ lines) h = goes_on n lines (line_met s (without_return line)) (line_built s (without_return line) h) (λ t k. lines_built t (n + 1) lines k)
+
+-- a state that lines lead to has them
+pub reached_built : (n : ℕ) (lines : List (List ℕ)) (s : State) → lines_met no_lines n lines ≡ Ok s → IsBuilt s.trace.header
+reached_built n lines s e = subst (λ r. IfOk r Builds) e (lines_built no_lines n lines (record { size = refl; policy = refl }))
