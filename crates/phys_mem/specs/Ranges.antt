@@ -1,6 +1,7 @@
 -- Which lists of ranges are physical memory, and why others aren't (this project's own rules; that a physical address has
 -- at most 52 bits: DDI 0487, FEAT_LPA).
-use Rattle.std.specs.Prelude.{ℕ, ◌+◌, ◌*◌, ◌%◌, ◌^◌, Bool, not, ◌==◌, ◌&&◌, ◌||◌, nat_lt, nat_le, if◌then◌else◌, List, [], ◌∷◌, ◌++◌, length, Option, Some, None}
+use Rattle.std.specs.Prelude.{ℕ, ◌+◌, ◌*◌, ◌%◌, ◌^◌, Bool, not, ◌==◌, ◌&&◌, ◌||◌, nat_lt, nat_le, if◌then◌else◌, List, []}
+use Rattle.std.specs.Prelude.{◌∷◌, ◌++◌, length, Option, Some, None}
 use Rattle.phys_mem.specs.declared.refusal.PhysError.{PhysError}
 use Rattle.phys_mem.specs.declared.refusal.PhysError.TheVariants.{BadRange, Overlap, TooLarge, NoMemory}
 
