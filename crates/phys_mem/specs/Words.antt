@@ -38,7 +38,7 @@ pub record IsWhole (r : ℕ × ℕ) : Type 0 where
   pub some : 8 ≤ r.1
   pub end : r.0 + r.1 ≤ 2 ^ 52
 
--- ranges of whole words, of 64 MiB at most
+-- at most 16 ranges of whole words, of 64 MiB at most
 pub record AreKept (ranges : List (ℕ × ℕ)) : Type 0 where
   pub whole : All IsWhole ranges
   pub few : length ranges ≤ 16
