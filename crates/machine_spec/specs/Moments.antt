@@ -1,8 +1,7 @@
 -- What holds after so many steps: memory, the queues of register writes, and the registers in force. At first all memory
 -- and all registers are 0 and all queues empty. That a write waits until it is settled, and that a queue holds 64, are this
 -- project's own rules (DDI 0487: a write of a System register may take effect late, and by ISB at the latest).
-use Rattle.std.specs.Prelude.{ℕ, ◌+◌, ◌==◌, ◌&&◌, nat_lt, nat_le, if◌then◌else◌, List, [], ◌∷◌, ◌++◌, length, fold}
-use Rattle.std.specs.Prelude.{take, Some, None}
+use Rattle.std.specs.Prelude.{ℕ, ◌==◌, nat_lt, if◌then◌else◌, List, [], ◌∷◌, ◌++◌, length, fold, take}
 use Rattle.sysregs.specs.declared.regs.Regs.{Regs}
 use Rattle.sysregs.specs.declared.regs.Reg.{Reg}
 use Rattle.sysregs.specs.Registers.{zero_regs, set_of}
@@ -11,15 +10,8 @@ use Rattle.trails.specs.declared.event.Event.TheVariants.{Store, Msr, Settle, Is
 use Rattle.trails.specs.declared.step.Step.{Step}
 use Rattle.table_reads.specs.Memory.{Memory}
 use Rattle.machine_spec.specs.Header.{Header}
-
--- a word is there where its eight bytes lie in one range; all are 0
-abbrev pub zeros : (ranges : List (ℕ × ℕ)) → Memory
-zeros [] place = None
-zeros (r ∷ ranges) place = if nat_le r.0 place && nat_le (place + 8) (r.0 + r.1) then Some 0 else zeros ranges place
-
--- memory with another word at a place
-abbrev pub stored_at : (memory : Memory) (pa value : ℕ) → Memory
-stored_at m pa value place = if place == pa then Some value else m place
+-- memory where each word is 0, and memory with another word at a place
+pub use Rattle.phys_mem.specs.Memory.{zeros, stored_at}
 
 -- a store is seen at once
 unfoldable pub stored : (memory : Memory) (event : Event) → Memory

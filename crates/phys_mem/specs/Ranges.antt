@@ -1,6 +1,7 @@
 -- Which lists of ranges are physical memory, and why others aren't (this project's own rules; that a physical address has
 -- at most 52 bits: DDI 0487, FEAT_LPA).
-use Rattle.std.specs.Prelude.{ℕ, ◌+◌, ◌*◌, ◌%◌, ◌^◌, Bool, not, ◌==◌, ◌&&◌, ◌||◌, nat_lt, nat_le, if◌then◌else◌, List, [], ◌∷◌, ◌++◌, length, Option, Some, None}
+use Rattle.std.specs.Prelude.{ℕ, ◌+◌, ◌*◌, ◌%◌, ◌^◌, Bool, not, ◌==◌, ◌&&◌, ◌||◌, nat_lt, nat_le, if◌then◌else◌, List, []}
+use Rattle.std.specs.Prelude.{◌∷◌, ◌++◌, length, Option, Some, None}
 use Rattle.phys_mem.specs.declared.refusal.PhysError.{PhysError}
 use Rattle.phys_mem.specs.declared.refusal.PhysError.TheVariants.{BadRange, Overlap, TooLarge, NoMemory}
 
@@ -41,13 +42,16 @@ bytes_of (r ∷ ranges) = r.1 + bytes_of ranges
 abbrev pub is_too_large : (ranges : List (ℕ × ℕ)) → Bool
 is_too_large ranges = nat_lt 16 (length ranges) || nat_lt (64 * 2 ^ 20) (bytes_of ranges)
 
+-- the size is refused
 abbrev pub refusal_by_size : (too_large : Bool) → Option PhysError
 refusal_by_size too_large = if too_large then Some TooLarge else None
 
+-- an overlap is refused, or else what comes after it
 abbrev pub refusal_by_overlap : (pair : Option (ℕ × ℕ)) (otherwise : Option PhysError) → Option PhysError
 refusal_by_overlap None otherwise = otherwise
 refusal_by_overlap (Some p) otherwise = Some (Overlap p.0 p.1)
 
+-- what is no range is refused, or else what comes after it
 abbrev pub refusal_by_range : (place : Option ℕ) (otherwise : Option PhysError) → Option PhysError
 refusal_by_range None otherwise = otherwise
 refusal_by_range (Some place) otherwise = Some (BadRange place)

@@ -1,5 +1,6 @@
 -- How physical memory is kept: the words of all ranges, one range behind the other (this project's own rule).
-use Rattle.std.specs.Prelude.{◌≡◌, ◌≤◌, ℕ, ◌+◌, ◌-◌, ◌*◌, ◌/◌, ◌%◌, ◌^◌, Bool, ◌&&◌, nat_le, if◌then◌else◌, List, [], ◌∷◌, length, slice_index, Option, Some, None, All}
+use Rattle.std.specs.Prelude.{◌≡◌, ◌≤◌, ℕ, ◌+◌, ◌-◌, ◌*◌, ◌/◌, ◌%◌, ◌^◌, Bool, ◌&&◌, nat_le, if◌then◌else◌}
+use Rattle.std.specs.Prelude.{List, [], ◌∷◌, length, slice_index, Option, Some, None, All}
 use Rattle.phys_mem.specs.Memory.{Memory, is_aligned}
 use Rattle.phys_mem.specs.Ranges.{bytes_of}
 
@@ -37,7 +38,7 @@ pub record IsWhole (r : ℕ × ℕ) : Type 0 where
   pub some : 8 ≤ r.1
   pub end : r.0 + r.1 ≤ 2 ^ 52
 
--- ranges of whole words, of 64 MiB at most
+-- at most 16 ranges of whole words, of 64 MiB at most
 pub record AreKept (ranges : List (ℕ × ℕ)) : Type 0 where
   pub whole : All IsWhole ranges
   pub few : length ranges ≤ 16

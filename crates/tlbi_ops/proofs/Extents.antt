@@ -1,14 +1,11 @@
 -- Where the addresses of an operand end.
-use Rattle.std.proofs.Common.{◌≡◌, ◌≤◌, ◌<◌, ◌+◌, ◌-◌, ◌*◌, ◌/◌, ◌%◌, ◌^◌, ℕ, Bool, true, false, min, Option, Some, None, arith, refl, IfSome, if◌then◌else◌}
+use Rattle.std.proofs.Common.{◌≤◌, ◌<◌, ◌+◌, ◌-◌, ◌^◌, ℕ, min, Option, Some, None, arith, IfSome, if◌then◌else◌}
 use Rattle.bitwords.specs.Fields.{bits_of}
-use Rattle.std.specs.Prelude.{◌==◌, ◌&&◌, ◌||◌}
+use Rattle.std.specs.Prelude.{◌==◌}
 use Rattle.std.proofs.lemmas.Bool.{cond_both}
-use Rattle.sysregs.specs.declared.regs.Regs.{Regs}
-use Rattle.sysregs.specs.declared.regs.Op.{Op}
 use Rattle.tlbi_ops.specs.declared.operands.Names.{Names}
 use Rattle.tlbi_ops.specs.declared.operands.Names.TheVariants.{Everything, PageVa, PageIpa, RangeVa, RangeIpa}
-use Rattle.tlbi_ops.specs.declared.operands.Extent.{Extent}
-use Rattle.tlbi_ops.specs.Operands.{range_granule, names_of, inval_of, extent_by, cut_at, range_with, start_va, start_ipa}
+use Rattle.tlbi_ops.specs.Operands.{range_granule, names_of, inval_of, extent_by, range_with, start_va, start_ipa}
 use Rattle.tlbi_ops.specs.Laws.{end_of, StaysBelow, EndsBelow}
 
 cut_below : (end start count address : ℕ) → start ≤ address → address < start + min count (end - start) → address < end

@@ -3,9 +3,8 @@ use Rattle.std.proofs.Common.{◌≡◌, refl, true, false, Bool, ℕ}
 use Rattle.std.specs.Prelude.{Some, None, Option}
 use Rattle.sysregs.specs.declared.regs.Regs.{Regs}
 use Rattle.sysregs.specs.declared.regs.Op.{Op}
-use Rattle.sysregs.specs.declared.regs.Op.TheVariants.{Vmalle1, Vae1, Vaae1, Vale1, Aside1, Ipas2e1, Vmalls12e1, Alle1, Rvae1, Rvaae1}
+use Rattle.sysregs.specs.declared.regs.Op.TheVariants.{Vmalle1, Vae1, Vale1, Aside1, Ipas2e1, Vmalls12e1, Alle1, Rvae1, Rvaae1}
 use Rattle.sysregs.specs.Registers.{zero_regs}
-use Rattle.fault_codes.specs.declared.fault.Stage.{Stage}
 use Rattle.fault_codes.specs.declared.fault.Stage.TheVariants.{S1, S2}
 use Rattle.tlbi_ops.specs.declared.inval.Inval.{Inval}
 use Rattle.tlbi_ops.specs.declared.inval.Tag.{Tag}

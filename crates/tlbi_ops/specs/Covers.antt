@@ -1,8 +1,8 @@
 -- Which rows an invalidation covers (DDI 0487, AArch64.TLBI).
 use Rattle.std.specs.Prelude.{ℕ, ◌+◌, ◌^◌, Bool, true, false, not, ◌==◌, ◌&&◌, ◌||◌, nat_lt, Option, Some, None}
 use Rattle.sysregs.specs.declared.regs.Op.{Op}
-use Rattle.sysregs.specs.declared.regs.Op.TheVariants.{Vmalle1, Vae1, Vaae1, Vale1, Vaale1, Aside1, Ipas2e1, Ipas2le1, Vmalls12e1, Alle1, Rvae1}
-use Rattle.sysregs.specs.declared.regs.Op.TheVariants.{Rvaae1, Rvale1, Rvaale1, Ripas2e1, Ripas2le1}
+use Rattle.sysregs.specs.declared.regs.Op.TheVariants.{Vmalle1, Vae1, Vaae1, Vale1, Vaale1, Aside1, Ipas2e1, Ipas2le1, Vmalls12e1, Alle1, Rvae1, Rvaae1}
+use Rattle.sysregs.specs.declared.regs.Op.TheVariants.{Rvale1, Rvaale1, Ripas2e1, Ripas2le1}
 use Rattle.fault_codes.specs.declared.fault.Stage.{Stage}
 use Rattle.fault_codes.specs.declared.fault.Stage.TheVariants.{S1, S2}
 use Rattle.tlbi_ops.specs.declared.inval.Inval.{Inval}

@@ -1,11 +1,11 @@
 -- What a TLBI gives (DDI 0487, the TLBI instructions and AArch64.TLBI): its ASID, its addresses, and whom it reaches.
-use Rattle.std.specs.Prelude.{ℕ, ◌+◌, ◌-◌, ◌*◌, ◌^◌, Bool, true, false, not, ◌==◌, ◌&&◌, ◌||◌, min, if◌then◌else◌}
-use Rattle.std.specs.Prelude.{Option, Some, None}
+use Rattle.std.specs.Prelude.{ℕ, ◌+◌, ◌-◌, ◌*◌, ◌^◌, Bool, true, false, ◌==◌, ◌&&◌, ◌||◌, min, if◌then◌else◌, Option}
+use Rattle.std.specs.Prelude.{Some, None}
 use Rattle.bitwords.specs.Fields.{bits_of, bit}
 use Rattle.sysregs.specs.declared.regs.Regs.{Regs}
 use Rattle.sysregs.specs.declared.regs.Op.{Op}
-use Rattle.sysregs.specs.declared.regs.Op.TheVariants.{Vmalle1, Vae1, Vaae1, Vale1, Vaale1, Aside1, Ipas2e1, Ipas2le1, Vmalls12e1, Alle1, Rvae1}
-use Rattle.sysregs.specs.declared.regs.Op.TheVariants.{Rvaae1, Rvale1, Rvaale1, Ripas2e1, Ripas2le1}
+use Rattle.sysregs.specs.declared.regs.Op.TheVariants.{Vmalle1, Vae1, Vaae1, Vale1, Vaale1, Aside1, Ipas2e1, Ipas2le1, Vmalls12e1, Alle1, Rvae1, Rvaae1}
+use Rattle.sysregs.specs.declared.regs.Op.TheVariants.{Rvale1, Rvaale1, Ripas2e1, Ripas2le1}
 use Rattle.sysregs.specs.Registers.{vmid_of, id_in}
 use Rattle.tlbi_ops.specs.declared.inval.Inval.{Inval}
 use Rattle.tlbi_ops.specs.declared.operands.Names.{Names}

@@ -36,6 +36,7 @@ fn names_addresses(rt: HostRuntime) {
             0xf_ffff_ffff_0000,
             0x1_0000,
             Some(16),
+        ),
         (
             Op::Ripas2e1,
             0xc01f_ffff_ffff,
