@@ -1,7 +1,7 @@
 -- Each line keeps the limits of a trace.
-use Rattle.std.proofs.Common.{◌≡◌, ℕ, zero, suc, ◌+◌, ◌<◌, ◌≤◌, Bool, true, false, not, ◌&&◌, cond, List, [], ◌∷◌, ◌++◌, length, Option, Some, None, Result, Ok, Err, IfOk, refl, sym, ap, ◌∙◌, subst, arith, rules, codes, append_assoc, append-nil, length-append, ◌^◌}
+use Rattle.std.proofs.Common.{◌≡◌, ℕ, ◌+◌, ◌<◌, ◌≤◌, Bool, true, false, not, ◌&&◌, cond, List, [], ◌∷◌, ◌++◌, length, Option, Some, None, Result, Ok, Err, IfOk, refl, sym, subst, arith, codes, append_assoc, append-nil, length-append, ◌^◌}
 use Rattle.std.specs.Prelude.{nat_lt, nat_le, bytes_eq, take}
-use Rattle.std.specs.List.{All, list_any, list_all}
+use Rattle.std.specs.List.{list_any, list_all}
 use Rattle.std.proofs.lemmas.Bool.{and_parts, ltb-true, leb-true, leb-false, not-true, both_ways}
 use Rattle.std.proofs.lemmas.List.Elements.{All-nil, All-same, All-push}
 use Rattle.sysregs.specs.declared.regs.Op.{Op}
@@ -9,10 +9,7 @@ use Rattle.sysregs.specs.declared.regs.Field.{Field}
 use Rattle.sysregs.specs.declared.regs.Reg.{Reg}
 use Rattle.sysregs.specs.Refused.{refused_field}
 use Rattle.trails.specs.declared.event.Event.{Event}
-use Rattle.trails.specs.declared.event.Event.TheVariants.{Store, Msr, Settle, Isb, Tlbi, Dsb, Deliver, Access}
-use Rattle.trails.specs.declared.event.Origin.{Origin}
-use Rattle.trace_lang.specs.declared.header.Size.{Size}
-use Rattle.trace_lang.specs.declared.header.Policy.{Policy}
+use Rattle.trails.specs.declared.event.Event.TheVariants.{Msr, Tlbi}
 use Rattle.trace_lang.specs.declared.refusals.Phase.{Phase}
 use Rattle.trace_lang.specs.declared.refusals.Phase.TheVariants.{Cores, Ranges, Policy as PolicyDue, Events, Ended}
 use Rattle.trace_lang.specs.declared.refusals.LineRefusal.{LineRefusal}
@@ -20,7 +17,7 @@ use Rattle.trace_lang.specs.declared.refusals.LineRefusal.TheVariants.{NotText, 
 use Rattle.trace_lang.specs.declared.refusals.TraceRefusal.{TraceRefusal}
 use Rattle.trace_lang.specs.Traces.{Header, Parts, IsTrace, RangeFits, RangesFitBehind, EventFits, is_aligned, is_within, has_operand, may_issue, bytes_in, shares_byte, most_cores, most_ranges, most_events, most_memory}
 use Rattle.trace_lang.specs.Words.{◌>>=◌, in_range, number_at, name_at, no_word_at, named, words_of, is_text}
-use Rattle.trace_lang.specs.Events.{Verb, store, msr, settle, isb, tlbi, dsb, deliver, access, event_of, event_by, core_at, place_at, operand_at, pan_at, supported_by, allowed_from, verbs, reg_names, op_names, origins, barriers, els, kinds}
+use Rattle.trace_lang.specs.Events.{Verb, store, msr, settle, isb, tlbi, dsb, deliver, access, event_of, event_by, core_at, place_at, operand_at, pan_at, supported_by, verbs, reg_names, op_names, origins, barriers, els, kinds}
 use Rattle.trace_lang.specs.Lines.{State, no_lines, with_header, with_event, cores_met, is_base, is_size, range_met, caches_met, policy_met, ranges_met, body_met, met, words_met, line_met, without_return, lines_met, refused_in, most_line, sizes, policies}
 use Rattle.trace_lang.specs.Limits.{KeepsLimits, KeepsLimitsIn}
 

@@ -9,7 +9,7 @@ use Rattle.trails.specs.declared.event.Event.TheVariants.{Store, Msr, Isb, Tlbi,
 use Rattle.trails.specs.declared.event.Origin.TheVariants.{El1, El2}
 use Rattle.trace_lang.specs.declared.header.Size.TheVariants.{NoRows}
 use Rattle.trace_lang.specs.declared.header.Policy.TheVariants.{Fifo}
-use Rattle.trace_lang.specs.declared.refusals.TraceRefusal.TheVariants.{NotText, LongLine, BadWord, BadNumber, OutOfRange, Unsupported, NotAtEl1, TooMany, NoHeader, NoEnd, AfterEnd}
+use Rattle.trace_lang.specs.declared.refusals.TraceRefusal.TheVariants.{BadWord, OutOfRange, Unsupported, NotAtEl1, NoHeader, NoEnd, AfterEnd}
 use Rattle.trace_lang.specs.Traces.{parts_of}
 use Rattle.trace_lang.specs.Lines.{trace_of}
 

@@ -1,6 +1,10 @@
 -- The events of a trace as lines of words. The language is this project's own rule.
+<<<<<<< HEAD
 use Rattle.std.specs.Prelude.{ℕ, ◌++◌, List, [], ◌∷◌, map, length, Option, Some, None, Bool, true, false, not, ◌&&◌, ◌||◌}
 use Rattle.std.specs.Prelude.{◌==◌, nat_lt, codes, if◌then◌else◌, Result, Ok, Err}
+=======
+use Rattle.std.specs.Prelude.{ℕ, ◌++◌, List, [], ◌∷◌, map, length, Option, Some, None, Bool, true, false, ◌&&◌, nat_lt, codes, if◌then◌else◌, Result, Ok, Err}
+>>>>>>> 6cc3760ddeeb5838ab20cf021ffa08fe4b6cee94
 use Rattle.sysregs.specs.declared.regs.Reg.{Reg}
 use Rattle.sysregs.specs.declared.regs.Reg.TheVariants.{SctlrEl1, TcrEl1, Ttbr0El1, Ttbr1El1, MairEl1, HcrEl2, VtcrEl2, VttbrEl2}
 use Rattle.sysregs.specs.declared.regs.Op.{Op}
@@ -20,9 +24,9 @@ use Rattle.trails.specs.declared.event.Barrier.TheVariants.{Nsh, Ish, Sy}
 use Rattle.trails.specs.declared.event.Origin.{Origin}
 use Rattle.trails.specs.declared.event.Origin.TheVariants.{El1 as FromEl1, El2 as FromEl2}
 use Rattle.trace_lang.specs.declared.refusals.LineRefusal.{LineRefusal}
-use Rattle.trace_lang.specs.declared.refusals.LineRefusal.TheVariants.{BadWord, BadNumber, OutOfRange, Unsupported, NotAtEl1}
+use Rattle.trace_lang.specs.declared.refusals.LineRefusal.TheVariants.{Unsupported, NotAtEl1}
 use Rattle.trace_lang.specs.Traces.{Header, is_aligned, is_within, has_operand, may_issue}
-use Rattle.trace_lang.specs.Words.{◌>>=◌, in_range, number_at, name_at, no_word_at, word_at, named}
+use Rattle.trace_lang.specs.Words.{◌>>=◌, in_range, number_at, name_at, no_word_at, named}
 
 -- the words that begin an event
 pub data Verb : Type 0 where

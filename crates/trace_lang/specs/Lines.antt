@@ -1,6 +1,10 @@
 -- A trace as lines: the value of a text, or its first refusal. The language is this project's own rule.
+<<<<<<< HEAD
 use Rattle.std.specs.Prelude.{ℕ, ◌+◌, ◌*◌, ◌^◌, List, [], ◌∷◌, ◌++◌, length, take, Option, Some, None, Bool, true, false, not}
 use Rattle.std.specs.Prelude.{◌&&◌, ◌||◌, ◌==◌, nat_lt, nat_le, bytes_eq, codes, if◌then◌else◌, Result, Ok, Err, slice_index}
+=======
+use Rattle.std.specs.Prelude.{ℕ, ◌+◌, ◌^◌, List, [], ◌∷◌, ◌++◌, length, take, Bool, not, ◌&&◌, ◌==◌, nat_lt, nat_le, bytes_eq, codes, if◌then◌else◌, Result, Ok, Err}
+>>>>>>> 6cc3760ddeeb5838ab20cf021ffa08fe4b6cee94
 use Rattle.std.specs.List.{list_all, list_any, slice_split}
 use Rattle.trails.specs.declared.event.Event.{Event}
 use Rattle.trace_lang.specs.declared.header.Size.{Size}
@@ -15,7 +19,7 @@ use Rattle.trace_lang.specs.declared.refusals.LineRefusal.TheVariants.{Unsupport
 use Rattle.trace_lang.specs.declared.refusals.TraceRefusal.{TraceRefusal}
 use Rattle.trace_lang.specs.declared.refusals.TraceRefusal.TheVariants as refusal
 use Rattle.trace_lang.specs.Traces.{Header, Parts, most_cores, most_ranges, most_events, most_memory, is_aligned, shares_byte, bytes_in}
-use Rattle.trace_lang.specs.Words.{is_blank, is_text, is_end, words_of, ◌>>=◌, word_or, in_range, number_at, name_at, no_word_at, named}
+use Rattle.trace_lang.specs.Words.{is_text, is_end, words_of, ◌>>=◌, in_range, number_at, name_at, no_word_at, named}
 use Rattle.trace_lang.specs.Events.{event_of}
 
 -- what has been read

@@ -1,5 +1,5 @@
 -- What the code's types stand for, and what calls answer beside what is due.
-use Rattle.std.specs.Prelude.{◌≡◌, ℕ, Bool, List, [], ◌∷◌, map, Option, Some, None, Result, Ok, Err}
+use Rattle.std.specs.Prelude.{◌≡◌, ℕ, Bool, List, [], Option, Some, None, Result, Ok, Err}
 use Rattle.std.specs.List.{slice_split}
 use Rattle.trace_lang.specs.declared.refusals.LineRefusal.{LineRefusal}
 use Rattle.trace_lang.specs.declared.refusals.TraceRefusal.{TraceRefusal}
@@ -11,7 +11,7 @@ use Rattle.trace_lang.specs.declared.names.Verb.{Verb as Word}
 use Rattle.trace_lang.specs.declared.names.Verb.TheVariants as word
 use Rattle.trace_lang.specs.declared.reading.Head.{Head}
 use Rattle.trace_lang.specs.declared.reading.Reading.{Reading}
-use Rattle.trace_lang.specs.Traces.{Header, Parts}
+use Rattle.trace_lang.specs.Traces.{Header}
 use Rattle.trace_lang.specs.Events.{Verb, store, msr, settle, isb, tlbi, dsb, deliver, access}
 use Rattle.trace_lang.specs.Lines.{State}
 

@@ -33,6 +33,15 @@ fn repeated(
     Ok(bytes)
 }
 
+/// A text of this size with lines of 200 bytes that are skipped.
+fn comments(alloc: Global, size: usize) -> Result<Vec<u8>, Fail> {
+    let mut bytes = Vec::new(alloc);
+    for i in 0..size {
+        bytes.push(if i % 201 == 200 { b'\n' } else { b'#' })?;
+    }
+    Ok(bytes)
+}
+
 #[test]
 fn refuses_headers(rt: HostRuntime) -> Result<(), Fail> {
     let alloc = rt.alloc();
@@ -196,11 +205,10 @@ fn reads_traces(rt: HostRuntime) -> Result<(), Fail> {
         told(alloc, text.as_bytes())?.as_str(),
         "BadNumber { line: 5, place: 3 }"
     );
-    let text = "# blanks and line ends\r\n\tcores  02\n  # two\nmemory 0 0x1000\r\n\
- memory\t65536 00000000000000000008 \t\ncaches none\n \t\npolicy fifo\n#store 0 1 1\n\
+    let text = "# blanks and line ends\r\n\tcores  02\n  # two\nmemory 0 0x1000\r\n \
+memory\t65536 00000000000000000008 \t\ncaches none\n \t\npolicy fifo\n#store 0 1 1\n\
 store 0x1 65536 18446744073709551615\nend\r\n# more";
-    let trace = parse(alloc, text.as_bytes()).ok();
-    let Some(trace) = trace else {
+    let Ok(trace) = parse(alloc, text.as_bytes()) else {
         return Err(Fail::new("refused"));
     };
     assert_eq!(rt; trace.cores(), 2);
@@ -360,10 +368,7 @@ memory 0xb0 8\nmemory 0xc0 8\nmemory 0xd0 8\nmemory 0xe0 8\nmemory 0xf0 8\n";
         let text = repeated(alloc, first, line, times, last)?;
         assert_eq!(rt; told(alloc, text.as_slice())?.as_str(), want, "{last}");
     }
-    let mut text = vec![in alloc; b'#'; MOST_BYTES]?;
-    for i in (200..MOST_BYTES).step_by(201) {
-        text[i] = b'\n';
-    }
+    let mut text = comments(alloc, MOST_BYTES)?;
     assert_eq!(rt; told(alloc, text.as_slice())?.as_str(), "NoHeader");
     text.push(b'#')?;
     assert_eq!(rt;

@@ -1,4 +1,4 @@
-use Rattle.std.proofs.Common.{arith, ◌≡◌, ◌<◌, ℕ, Bool, true, false, refl}
+use Rattle.std.proofs.Common.{arith, ◌≡◌, Bool, true, false, refl}
 use Rattle.trace_lang.specs.Words.{is_end}
 use Rattle.trace_lang.proofs.Cutting.{cut_here, cut_nowhere}
 use Rattle.trace_lang.proofs.cuts.cut_line.Goals as goal

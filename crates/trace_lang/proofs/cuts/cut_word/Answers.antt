@@ -1,4 +1,4 @@
-use Rattle.std.proofs.Common.{rules, arith, ◌≡◌, true, get_or}
+use Rattle.std.proofs.Common.{arith}
 use Rattle.std.proofs.lemmas.Bool.Decides.{nat_tests}
 use Rattle.trace_lang.specs.Words.{is_blank}
 use Rattle.trace_lang.proofs.Cutting.{cut_here, cut_nowhere}

@@ -1,4 +1,4 @@
-use Rattle.std.proofs.Common.{◌≡◌, ◌+◌, ◌++◌, ◌==◌, not, ℕ, List, length, map, filter, option_map, Option, Some, None}
+use Rattle.std.proofs.Common.{◌≡◌, ◌++◌, map, option_map}
 use Rattle.trace_lang.specs.Words.{words_of}
 use Rattle.trace_lang.proofs.Cutting.{words_behind, left}
 use Rattle.trace_lang.proofs.cuts.words.Given as goal

@@ -1,4 +1,4 @@
-use Rattle.std.proofs.Common.{◌≡◌, drop, map, find}
+use Rattle.std.proofs.Common.{◌≡◌, drop, find}
 use Rattle.std.specs.Prelude.{bytes_eq}
 use Rattle.sysregs.specs.Names.{reg_text}
 use Rattle.trace_lang.specs.Words.{named}

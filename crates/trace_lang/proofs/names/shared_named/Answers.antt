@@ -1,7 +1,7 @@
 use Rattle.std.proofs.Common.{sym, ap, ◌∙◌, option_map}
 use Rattle.trace_lang.specs.Events.{all_ops}
-use Rattle.trace_lang.proofs.Cutting.{stripped, not_stripped}
-use Rattle.trace_lang.proofs.Naming.{with_is, without_is, shared}
+use Rattle.trace_lang.proofs.Cutting.{stripped}
+use Rattle.trace_lang.proofs.Naming.{with_is, shared}
 use Rattle.trace_lang.proofs.names.shared_named.Goals as goal
 
 pub returns : goal.returns

@@ -1,4 +1,4 @@
-use Rattle.std.proofs.Common.{◌∙◌, List, ℕ, Option, ap, sym, option_map}
+use Rattle.std.proofs.Common.{◌∙◌, ap, sym, option_map}
 use Rattle.std.specs.List.{slice_split}
 use Rattle.trace_lang.specs.Words.{is_end}
 use Rattle.trace_lang.specs.Lines.{lines_met}

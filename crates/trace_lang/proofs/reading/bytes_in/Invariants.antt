@@ -1,4 +1,4 @@
-use Rattle.std.proofs.Common.{◌≡◌, ◌^◌, ◌-◌, min, drop, take}
+use Rattle.std.proofs.Common.{◌≡◌, ◌^◌, ◌-◌, min, take}
 use Rattle.trace_lang.specs.Traces.{bytes_in}
 use Rattle.trace_lang.proofs.reading.bytes_in.Given as goal
 
