@@ -1,10 +1,6 @@
 -- The events of a trace as lines of words. The language is this project's own rule.
-<<<<<<< HEAD
-use Rattle.std.specs.Prelude.{ℕ, ◌++◌, List, [], ◌∷◌, map, length, Option, Some, None, Bool, true, false, not, ◌&&◌, ◌||◌}
-use Rattle.std.specs.Prelude.{◌==◌, nat_lt, codes, if◌then◌else◌, Result, Ok, Err}
-=======
-use Rattle.std.specs.Prelude.{ℕ, ◌++◌, List, [], ◌∷◌, map, length, Option, Some, None, Bool, true, false, ◌&&◌, nat_lt, codes, if◌then◌else◌, Result, Ok, Err}
->>>>>>> 6cc3760ddeeb5838ab20cf021ffa08fe4b6cee94
+use Rattle.std.specs.Prelude.{ℕ, ◌++◌, List, [], ◌∷◌, map, length, Option, Some, None, Bool, true, false, ◌&&◌, nat_lt, codes}
+use Rattle.std.specs.Prelude.{if◌then◌else◌, Result, Ok, Err}
 use Rattle.sysregs.specs.declared.regs.Reg.{Reg}
 use Rattle.sysregs.specs.declared.regs.Reg.TheVariants.{SctlrEl1, TcrEl1, Ttbr0El1, Ttbr1El1, MairEl1, HcrEl2, VtcrEl2, VttbrEl2}
 use Rattle.sysregs.specs.declared.regs.Op.{Op}

@@ -1,10 +1,6 @@
 -- A trace as lines: the value of a text, or its first refusal. The language is this project's own rule.
-<<<<<<< HEAD
-use Rattle.std.specs.Prelude.{ℕ, ◌+◌, ◌*◌, ◌^◌, List, [], ◌∷◌, ◌++◌, length, take, Option, Some, None, Bool, true, false, not}
-use Rattle.std.specs.Prelude.{◌&&◌, ◌||◌, ◌==◌, nat_lt, nat_le, bytes_eq, codes, if◌then◌else◌, Result, Ok, Err, slice_index}
-=======
-use Rattle.std.specs.Prelude.{ℕ, ◌+◌, ◌^◌, List, [], ◌∷◌, ◌++◌, length, take, Bool, not, ◌&&◌, ◌==◌, nat_lt, nat_le, bytes_eq, codes, if◌then◌else◌, Result, Ok, Err}
->>>>>>> 6cc3760ddeeb5838ab20cf021ffa08fe4b6cee94
+use Rattle.std.specs.Prelude.{ℕ, ◌+◌, ◌^◌, List, [], ◌∷◌, ◌++◌, length, take, Bool, not, ◌&&◌, ◌==◌, nat_lt, nat_le}
+use Rattle.std.specs.Prelude.{bytes_eq, codes, if◌then◌else◌, Result, Ok, Err}
 use Rattle.std.specs.List.{list_all, list_any, slice_split}
 use Rattle.trails.specs.declared.event.Event.{Event}
 use Rattle.trace_lang.specs.declared.header.Size.{Size}

@@ -1,5 +1,6 @@
 -- The words of a line, and what stands at a place of it. Places count from 1. The forms are this project's own rule.
-use Rattle.std.specs.Prelude.{ℕ, ◌-◌, slice_get, List, [], ◌∷◌, length, filter, Option, Some, None, Bool, not, ◌&&◌, ◌||◌, ◌==◌, nat_lt, nat_le, bytes_eq, if◌then◌else◌, Result, Ok, Err}
+use Rattle.std.specs.Prelude.{ℕ, ◌-◌, slice_get, List, [], ◌∷◌, length, filter, Option, Some, None, Bool, not, ◌&&◌, ◌||◌}
+use Rattle.std.specs.Prelude.{◌==◌, nat_lt, nat_le, bytes_eq, if◌then◌else◌, Result, Ok, Err}
 use Rattle.std.specs.List.{slice_split}
 use Rattle.texts.specs.Numbers.{number_of}
 use Rattle.trace_lang.specs.declared.refusals.LineRefusal.{LineRefusal}
