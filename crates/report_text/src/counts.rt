@@ -1,4 +1,4 @@
-ghost use Rattle.std.specs.Prelude.{◌≡◌};
+ghost use Rattle.std.specs.Prelude.{◌≡◌, ◌<◌, ◌^◌, IfSome};
 ghost use Rattle.machine_spec.specs.Summary.{no_steps, with_event, with_outcome, with_marks, with_answer};
 ghost use Rattle.report_text.specs.Bounds.{CanCount, HasRoom};
 
@@ -74,7 +74,8 @@ impl Counts {
 
     fn marks(&mut self, answer: &Answer)
         requires { CanCount self.old }
-        ensures { self.new ≡ with_marks self.old answer.now }
+        ensures counted { self.new ≡ with_marks self.old answer.now }
+        ensures range { answer.now.evicted < 2 ^ 32 }
     {
         if answer.old {
             self.old_answers += 1;
@@ -88,7 +89,8 @@ impl Counts {
     /// Counts a step.
     pub fn step(&mut self, step: &Step)
         requires { HasRoom self.old }
-        ensures { self.new ≡ with_answer (with_event self.old step.now.event) step.now.answer }
+        ensures counted { self.new ≡ with_answer (with_event self.old step.now.event) step.now.answer }
+        ensures range { IfSome step.now.answer (λ a. a.evicted < 2 ^ 32) }
     {
         self.event(&step.event);
         if let Some(answer) = &step.answer {
