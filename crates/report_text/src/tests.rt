@@ -256,7 +256,7 @@ fn many_accesses(alloc: Global) -> Result<Vec<Step>, AllocError>
     ensures { IfOk result (λ log. ArePrintable log.items × (length log.items ≤ 500)) }
 {
     let mut log = Vec::new(alloc);
-    for _ in 0..500u16 {
+    for _made in 0..500u16 {
         put(&mut log, first_access())?;
     }
     Ok(log)
