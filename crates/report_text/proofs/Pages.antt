@@ -1,10 +1,10 @@
 -- A page: what was handed on of a text, and what waits.
-use Rattle.std.proofs.Common.{◌≡◌, ℕ, ◌+◌, List, [], ◌++◌, length, take, min, Bool, true, false, if◌then◌else◌, Option, Some, None, Result, Ok, Err, IsOk, IsErr, sym, ◌∙◌, ap, refl, append_assoc, append-nil, arith, subst}
+use Rattle.std.proofs.Common.{◌≡◌, ℕ, ◌+◌, List, [], ◌++◌, length, take, min, Bool, true, false, if◌then◌else◌, Option, Some, None, Result, Ok, Err, IsOk, IsErr, sym, ◌∙◌, ap, append_assoc, append-nil, arith, subst}
 use Rattle.std.proofs.Math.Seq.{take-append-add, take-append_seam}
 use Rattle.std.proofs.lemmas.List.{take-append-le}
 use Rattle.std.proofs.lemmas.Grind.{common_steps}
 use Rattle.explain_text.specs.Written.{Appended, Wrote}
-use Rattle.explain_text.proofs.Sinks.{appended_then, appended_none}
+use Rattle.explain_text.proofs.Sinks.{appended_then}
 use Rattle.report_text.specs.Waits.{Handed, Started, Adds, Passes}
 
 -- all that waits is handed on

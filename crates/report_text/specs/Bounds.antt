@@ -1,4 +1,4 @@
--- How far the numbers of a summary have come.
+-- How far the numbers of a summary have come (this project's own rule).
 use Rattle.std.specs.Prelude.{ℕ, ◌-◌, ◌≤◌, ◌^◌}
 use Rattle.machine_spec.specs.Summary.{Summary}
 

@@ -1,4 +1,4 @@
--- How a report ends.
+-- How a report ends (this project's own rule).
 use Rattle.std.specs.Prelude.{ℕ, Result, Ok, Err}
 use Rattle.bitwords.specs.Causes.{Rose}
 use Rattle.report_text.specs.declared.writing.ReportError.{ReportError}

@@ -13,8 +13,10 @@ Started before now text = (k : ℕ) × Appended before now (take k text)
 -- a text comes behind what was handed on and what waits: at Ok all of it is handed on or waits, at Err a first part was
 -- handed on
 abbrev pub Adds : {T E : Type 0} (old new : Option (List ℕ)) (result : Result T E) (waits left text : List ℕ) → Type 0
-Adds old new (Ok _) waits left text = (before : Option (List ℕ)) (front : List ℕ) → Handed before old waits front → Handed before new left (front ++ text)
-Adds old new (Err _) waits left text = (before : Option (List ℕ)) (front : List ℕ) → Handed before old waits front → Started before new (front ++ text)
+Adds old new (Ok _) waits left text =
+    (before : Option (List ℕ)) (front : List ℕ) → Handed before old waits front → Handed before new left (front ++ text)
+Adds old new (Err _) waits left text =
+    (before : Option (List ℕ)) (front : List ℕ) → Handed before old waits front → Started before new (front ++ text)
 
 -- the same without a further text
 abbrev pub Passes : {T E : Type 0} (old new : Option (List ℕ)) (result : Result T E) (waits left : List ℕ) → Type 0

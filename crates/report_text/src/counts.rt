@@ -23,7 +23,16 @@ impl Model for Counts {
 
     ghost Value = { Summary };
 
-    ghost view = { λ s. record { accesses = s.accesses; prefetches = s.prefetches; mapped = s.mapped; faulted = s.faulted; conflicts = s.conflicts; old = s.old_answers; stale = s.stale_answers; evicted = s.evicted } };
+    ghost view = { λ s. record {
+      accesses = s.accesses;
+      prefetches = s.prefetches;
+      mapped = s.mapped;
+      faulted = s.faulted;
+      conflicts = s.conflicts;
+      old = s.old_answers;
+      stale = s.stale_answers;
+      evicted = s.evicted;
+    } };
 }
 
 impl Counts {

@@ -1,6 +1,4 @@
-use Rattle.std.proofs.Common.{rules, arith, subst, ◌≡◌, ◌+◌, ◌-◌, ◌*◌, ◌^◌, ◌∙◌}
-use Rattle.machine_spec.specs.Summary.{Summary}
-use Rattle.report_text.specs.Bounds.{Within}
+use Rattle.std.proofs.Common.{rules, arith, ◌∙◌}
 use Rattle.report_text.proofs.Counting.{starts_within, step_within, summary_more}
 use Rattle.report_text.proofs.Steps.{nothing_yet, step_goes, step_fails, ends}
 use Rattle.report_text.proofs.writing.report.Goals as goal
