@@ -35,3 +35,6 @@ pub mod Sets
 pub mod Quiet
 pub mod Own
 pub mod Outlived
+pub mod NoRows
+pub mod Timeless
+pub mod Unchanged

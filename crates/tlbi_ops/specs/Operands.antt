@@ -8,32 +8,28 @@ use Rattle.sysregs.specs.declared.regs.Op.TheVariants.{Vmalle1, Vae1, Vaae1, Val
 use Rattle.sysregs.specs.declared.regs.Op.TheVariants.{Rvaae1, Rvale1, Rvaale1, Ripas2e1, Ripas2le1}
 use Rattle.sysregs.specs.Registers.{vmid_of, id_in}
 use Rattle.tlbi_ops.specs.declared.inval.Inval.{Inval}
+use Rattle.tlbi_ops.specs.declared.operands.Names.{Names}
+use Rattle.tlbi_ops.specs.declared.operands.Names.TheVariants.{Everything, PageVa, PageIpa, RangeVa, RangeIpa}
+use Rattle.tlbi_ops.specs.declared.operands.Extent.{Extent}
 
 -- what an operation names by its operand
-pub data Names : Type 0 where
-  everything : Names              -- no address
-  page_va : Names                 -- one page by VA[55:12] in bits 43:0
-  page_ipa : Names                -- one page by IPA[51:12] in bits 39:0
-  range_va : Names                -- a range of virtual addresses
-  range_ipa : Names               -- a range of IPAs
-
 abbrev pub names_of : (op : Op) → Names
-names_of Vmalle1 = everything
-names_of Vae1 = page_va
-names_of Vaae1 = page_va
-names_of Vale1 = page_va
-names_of Vaale1 = page_va
-names_of Aside1 = everything
-names_of Ipas2e1 = page_ipa
-names_of Ipas2le1 = page_ipa
-names_of Vmalls12e1 = everything
-names_of Alle1 = everything
-names_of Rvae1 = range_va
-names_of Rvaae1 = range_va
-names_of Rvale1 = range_va
-names_of Rvaale1 = range_va
-names_of Ripas2e1 = range_ipa
-names_of Ripas2le1 = range_ipa
+names_of Vmalle1 = Everything
+names_of Vae1 = PageVa
+names_of Vaae1 = PageVa
+names_of Vale1 = PageVa
+names_of Vaale1 = PageVa
+names_of Aside1 = Everything
+names_of Ipas2e1 = PageIpa
+names_of Ipas2le1 = PageIpa
+names_of Vmalls12e1 = Everything
+names_of Alle1 = Everything
+names_of Rvae1 = RangeVa
+names_of Rvaae1 = RangeVa
+names_of Rvale1 = RangeVa
+names_of Rvaale1 = RangeVa
+names_of Ripas2e1 = RangeIpa
+names_of Ripas2le1 = RangeIpa
 
 -- VAE1, VALE1 and their ranges, and ASIDE1, name an ASID
 abbrev pub names_asid : (op : Op) → Bool
@@ -59,11 +55,6 @@ names_asid Ripas2le1 = false
 abbrev pub asid_named : (registers : Regs) (op : Op) (operand : ℕ) → ℕ
 asid_named r op w = if names_asid op then id_in w (bit r.tcr_el1 36) else 0
 
--- bytes of address space: so many from a start
-pub record Extent : Type 0 where
-  pub start : ℕ
-  pub count : ℕ
-
 -- TG of a range: 4 KB, 16 KB, 64 KB, or the reserved code, with which it covers nothing (this project's own rule)
 abbrev pub range_granule : (operand : ℕ) → Option ℕ
 range_granule w =
@@ -83,6 +74,10 @@ cut_at end start count = record { start = start; count = min count (end - start)
 abbrev pub start_va : (granule operand : ℕ) → ℕ
 start_va g w = let start = bits_of w 36 0 * 2 ^ g in if bit w 36 then start + (2 ^ 56 - 2 ^ (37 + g)) else start
 
+-- the start of a range of IPAs: BaseADDR in granules
+abbrev pub start_ipa : (granule operand : ℕ) → ℕ
+start_ipa g w = bits_of w 36 0 * 2 ^ g
+
 -- a range with this granule
 abbrev pub range_with : (operand : ℕ) (start : ℕ → ℕ) (end : ℕ) (granule : Option ℕ) → Extent
 range_with w start end None = record { start = 0; count = 0 }
@@ -90,19 +85,19 @@ range_with w start end (Some g) = cut_at end (start g) (range_bytes g w)
 
 -- the addresses of an operand
 abbrev pub extent_by : (operand : ℕ) (names : Names) → Extent
-extent_by w everything = record { start = 0; count = 2 ^ 56 }
-extent_by w page_va = record { start = 4096 * bits_of w 43 0; count = 4096 }
-extent_by w page_ipa = record { start = 4096 * bits_of w 39 0; count = 4096 }
-extent_by w range_va = range_with w (λ g. start_va g w) (2 ^ 56) (range_granule w)
-extent_by w range_ipa = range_with w (λ g. bits_of w 36 0 * 2 ^ g) (2 ^ 52) (range_granule w)
+extent_by w Everything = record { start = 0; count = 2 ^ 56 }
+extent_by w PageVa = record { start = 4096 * bits_of w 43 0; count = 4096 }
+extent_by w PageIpa = record { start = 4096 * bits_of w 39 0; count = 4096 }
+extent_by w RangeVa = range_with w (λ g. start_va g w) (2 ^ 56) (range_granule w)
+extent_by w RangeIpa = range_with w (λ g. start_ipa g w) (2 ^ 52) (range_granule w)
 
 -- the granule of a range, and of no other operand
 abbrev pub granule_by : (operand : ℕ) (names : Names) → Option ℕ
-granule_by w everything = None
-granule_by w page_va = None
-granule_by w page_ipa = None
-granule_by w range_va = range_granule w
-granule_by w range_ipa = range_granule w
+granule_by w Everything = None
+granule_by w PageVa = None
+granule_by w PageIpa = None
+granule_by w RangeVa = range_granule w
+granule_by w RangeIpa = range_granule w
 
 -- which local forms HCR_EL2.FB makes broadcast when they are issued at EL1
 abbrev pub is_forced : (op : Op) → Bool
@@ -127,6 +122,10 @@ is_forced Ripas2le1 = false
 abbrev pub forces_broadcast : (registers : Regs) → Bool
 forces_broadcast r = bit r.hcr_el2 9
 
+-- whether every core is reached; shared is the IS form
+abbrev pub is_broadcast : (op : Op) (shared at_el1 : Bool) (registers : Regs) → Bool
+is_broadcast op shared at_el1 r = shared || (at_el1 && forces_broadcast r && is_forced op)
+
 -- what a core's TLBI gives, by its effective registers; shared is the IS form. (More than six parameters: those of the call.)
 unfoldable pub inval_of : (op : Op) (shared at_el1 : Bool) (operand : ℕ) (registers : Regs) (issuer issued : ℕ) → Inval
 inval_of op shared at_el1 w r issuer issued =
@@ -140,7 +139,7 @@ inval_of op shared at_el1 w r issuer issued =
       vmid = vmid_of r;
       op = op;
       issuer = issuer;
-      broadcast = shared || (at_el1 && forces_broadcast r && is_forced op);
+      broadcast = is_broadcast op shared at_el1 r;
     }
 
 -- it reaches its issuer, and every core where it is broadcast

@@ -8,3 +8,5 @@ pub mod Words
 pub mod Events
 pub mod Lines
 pub mod Canonical
+pub mod Views
+pub mod Limits

@@ -1,0 +1,9 @@
+//! Physical memory: ranges of words.
+#![tactic(auto)]
+
+mod checks;
+mod phys;
+mod refusal;
+
+pub use phys::Phys;
+pub use refusal::PhysError;

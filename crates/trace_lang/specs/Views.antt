@@ -1,0 +1,63 @@
+-- What the code's types stand for, and what calls answer beside what is due.
+use Rattle.std.specs.Prelude.{◌≡◌, ℕ, Bool, List, [], ◌∷◌, map, Option, Some, None, Result, Ok, Err}
+use Rattle.std.specs.List.{slice_split}
+use Rattle.trace_lang.specs.declared.refusals.LineRefusal.{LineRefusal}
+use Rattle.trace_lang.specs.declared.refusals.TraceRefusal.{TraceRefusal}
+use Rattle.trace_lang.specs.declared.refusals.TraceError.{TraceError}
+use Rattle.trace_lang.specs.declared.refusals.TraceError.TheVariants as trace
+use Rattle.trace_lang.specs.declared.places.LineError.{LineError}
+use Rattle.trace_lang.specs.declared.places.LineError.TheVariants.{NoMemory, Refused}
+use Rattle.trace_lang.specs.declared.names.Verb.{Verb as Word}
+use Rattle.trace_lang.specs.declared.names.Verb.TheVariants as word
+use Rattle.trace_lang.specs.declared.reading.Head.{Head}
+use Rattle.trace_lang.specs.declared.reading.Reading.{Reading}
+use Rattle.trace_lang.specs.Traces.{Header, Parts}
+use Rattle.trace_lang.specs.Events.{Verb, store, msr, settle, isb, tlbi, dsb, deliver, access}
+use Rattle.trace_lang.specs.Lines.{State}
+
+-- the parts of what stands behind a cut, if there was one
+abbrev pub parts_behind : (is_cut : ℕ → Bool) (rest : Option (List ℕ)) → List (List ℕ)
+parts_behind p None = []
+parts_behind p (Some text) = slice_split p text
+
+-- the verb that the code's name stands for
+abbrev pub verb_of : (name : Word) → Verb
+verb_of word.Store = store
+verb_of word.Msr = msr
+verb_of word.Settle = settle
+verb_of word.Isb = isb
+verb_of word.Tlbi = tlbi
+verb_of word.Dsb = dsb
+verb_of word.Deliver = deliver
+verb_of word.Access = access
+
+abbrev pub header_of : (head : Head) → Header
+header_of h = record { cores = h.cores; ranges = h.ranges.items; size = h.size; policy = h.policy }
+
+abbrev pub state_of : (reading : Reading) → State
+state_of r = record { phase = r.phase; trace = record { header = header_of r.head; events = r.events.items } }
+
+-- an error is the refusal that is due, or want of memory
+abbrev pub Fails : {A : Type 0} → (error : LineError) (due : Result A LineRefusal) → Type 0
+Fails NoMemory due = Unit {0}
+Fails (Refused why) due = due ≡ Err why
+
+-- an answer stands for what is due, unless memory was refused
+abbrev pub Gives : {A B : Type 0} → (view : A → B) (result : Result A LineError) (due : Result B LineRefusal) → Type 0
+Gives view (Ok x) due = due ≡ Ok (view x)
+Gives view (Err e) due = Fails e due
+
+-- after Ok the state is the one that is due, and a refusal is the one that is due
+abbrev pub Steps : {A : Type 0} → (new : State) (result : Result A LineError) (due : Result State LineRefusal) → Type 0
+Steps new (Ok _) due = due ≡ Ok new
+Steps new (Err e) due = Fails e due
+
+-- an error is the refusal that is due, or want of memory
+abbrev pub FailsTrace : {A : Type 0} → (error : TraceError) (due : Result A TraceRefusal) → Type 0
+FailsTrace trace.NoMemory due = Unit {0}
+FailsTrace (trace.Refused why) due = due ≡ Err why
+
+-- an answer stands for what is due of a text, unless memory was refused
+abbrev pub GivesTrace : {A B : Type 0} → (view : A → B) (result : Result A TraceError) (due : Result B TraceRefusal) → Type 0
+GivesTrace view (Ok x) due = due ≡ Ok (view x)
+GivesTrace view (Err e) due = FailsTrace e due

@@ -1,0 +1,215 @@
+ghost use Rattle.std.specs.Prelude.{◌≡◌, [], ◌∷◌, ◌++◌, map, option_map, codes, true};
+ghost use Rattle.trace_lang.specs.Words.{named};
+ghost use Rattle.trace_lang.specs.Events.{verbs, reg_names, op_names, op_text, all_ops, origins, barriers, els, kinds};
+ghost use Rattle.trace_lang.specs.Lines.{sizes, policies};
+ghost use Rattle.trace_lang.specs.Views.{verb_of};
+
+use crate::{Policy, Size};
+use permissions::{El, Kind};
+use sysregs::{Op, Reg};
+use trails::{Barrier, Origin};
+
+/// The words that begin an event.
+#[derive(Clone, Copy, Debug, PartialEq, Eq)]
+pub enum Verb {
+    Store,
+    Msr,
+    Settle,
+    Isb,
+    Tlbi,
+    Dsb,
+    Deliver,
+    Access,
+}
+
+/// All registers.
+const REGS: [Reg; 8] = [
+    Reg::SctlrEl1,
+    Reg::TcrEl1,
+    Reg::Ttbr0El1,
+    Reg::Ttbr1El1,
+    Reg::MairEl1,
+    Reg::HcrEl2,
+    Reg::VtcrEl2,
+    Reg::VttbrEl2,
+];
+
+/// All operations of TLBI.
+const OPS: [Op; 16] = [
+    Op::Vmalle1,
+    Op::Vae1,
+    Op::Vaae1,
+    Op::Vale1,
+    Op::Vaale1,
+    Op::Aside1,
+    Op::Ipas2e1,
+    Op::Ipas2le1,
+    Op::Vmalls12e1,
+    Op::Alle1,
+    Op::Rvae1,
+    Op::Rvaae1,
+    Op::Rvale1,
+    Op::Rvaale1,
+    Op::Ripas2e1,
+    Op::Ripas2le1,
+];
+
+pub fn verb_named(word: &[u8]) -> Option<Verb>
+    ensures { option_map verb_of result ≡ named verbs word.now }
+{
+    if word == b"access".as_slice() {
+        Some(Verb::Access)
+    } else if word == b"store".as_slice() {
+        Some(Verb::Store)
+    } else if word == b"msr".as_slice() {
+        Some(Verb::Msr)
+    } else if word == b"settle".as_slice() {
+        Some(Verb::Settle)
+    } else if word == b"isb".as_slice() {
+        Some(Verb::Isb)
+    } else if word == b"tlbi".as_slice() {
+        Some(Verb::Tlbi)
+    } else if word == b"dsb".as_slice() {
+        Some(Verb::Dsb)
+    } else if word == b"deliver".as_slice() {
+        Some(Verb::Deliver)
+    } else {
+        None
+    }
+}
+
+pub fn register_named(word: &[u8]) -> Option<Reg>
+    ensures { result ≡ named reg_names word.now }
+{
+    for reg in REGS {
+        if word == reg.name().as_bytes() {
+            return Some(reg);
+        }
+    }
+    None
+}
+
+/// The name of an operation without its IS.
+fn op_name(op: Op) -> &'static [u8]
+    ensures { result.now ≡ op_text op }
+{
+    match op {
+        Op::Vmalle1 => b"VMALLE1",
+        Op::Vae1 => b"VAE1",
+        Op::Vaae1 => b"VAAE1",
+        Op::Vale1 => b"VALE1",
+        Op::Vaale1 => b"VAALE1",
+        Op::Aside1 => b"ASIDE1",
+        Op::Ipas2e1 => b"IPAS2E1",
+        Op::Ipas2le1 => b"IPAS2LE1",
+        Op::Vmalls12e1 => b"VMALLS12E1",
+        Op::Alle1 => b"ALLE1",
+        Op::Rvae1 => b"RVAE1",
+        Op::Rvaae1 => b"RVAAE1",
+        Op::Rvale1 => b"RVALE1",
+        Op::Rvaale1 => b"RVAALE1",
+        Op::Ripas2e1 => b"RIPAS2E1",
+        Op::Ripas2le1 => b"RIPAS2LE1",
+    }
+}
+
+/// The operation that has this name without an IS.
+fn local_named(word: &[u8]) -> Option<Op>
+    ensures { result ≡ named (map (λ op. (op_text op, op)) all_ops) word.now }
+{
+    for op in OPS {
+        if word == op_name(op) {
+            return Some(op);
+        }
+    }
+    None
+}
+
+/// The operation that has this name with IS at its end.
+fn shared_named(word: &[u8]) -> Option<(Op, bool)>
+    ensures { result ≡ named (map (λ op. (op_text op ++ codes "IS", (op, true))) all_ops) word.now }
+{
+    let local = word.strip_suffix(b"IS".as_slice())?;
+    Some((local_named(local)?, true))
+}
+
+/// The operation, and whether the word has IS at its end.
+pub fn operation_named(word: &[u8]) -> Option<(Op, bool)>
+    ensures { result ≡ named op_names word.now }
+{
+    match local_named(word) {
+        Some(op) => Some((op, false)),
+        None => shared_named(word),
+    }
+}
+
+pub fn origin_named(word: &[u8]) -> Option<Origin>
+    ensures { result ≡ named origins word.now }
+{
+    if word == b"el1".as_slice() {
+        Some(Origin::El1)
+    } else if word == b"el2".as_slice() {
+        Some(Origin::El2)
+    } else {
+        None
+    }
+}
+
+pub fn barrier_named(word: &[u8]) -> Option<Barrier>
+    ensures { result ≡ named barriers word.now }
+{
+    if word == b"nsh".as_slice() {
+        Some(Barrier::Nsh)
+    } else if word == b"ish".as_slice() {
+        Some(Barrier::Ish)
+    } else if word == b"sy".as_slice() {
+        Some(Barrier::Sy)
+    } else {
+        None
+    }
+}
+
+pub fn level_named(word: &[u8]) -> Option<El>
+    ensures { result ≡ named els word.now }
+{
+    if word == b"el0".as_slice() {
+        Some(El::El0)
+    } else if word == b"el1".as_slice() {
+        Some(El::El1)
+    } else {
+        None
+    }
+}
+
+pub fn kind_named(word: &[u8]) -> Option<Kind>
+    ensures { result ≡ named kinds word.now }
+{
+    if word == b"read".as_slice() {
+        Some(Kind::Read)
+    } else if word == b"write".as_slice() {
+        Some(Kind::Write)
+    } else if word == b"fetch".as_slice() {
+        Some(Kind::Fetch)
+    } else {
+        None
+    }
+}
+
+/// The word `pan`, which says that PAN is set.
+pub fn pan_named(word: &[u8]) -> Option<bool>
+    ensures { result ≡ named ((codes "pan", true) ∷ []) word.now }
+{
+    if word == b"pan".as_slice() { Some(true) } else { None }
+}
+
+pub fn size_named(word: &[u8]) -> Option<Size>
+    ensures { result ≡ named sizes word.now }
+{
+    if word == b"none".as_slice() { Some(Size::NoRows) } else { None }
+}
+
+pub fn policy_named(word: &[u8]) -> Option<Policy>
+    ensures { result ≡ named policies word.now }
+{
+    if word == b"fifo".as_slice() { Some(Policy::Fifo) } else { None }
+}

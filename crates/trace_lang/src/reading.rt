@@ -1,0 +1,270 @@
+ghost use Rattle.std.specs.Prelude.{◌≡◌, ◌+◌, ◌-◌, ◌^◌, ◌<◌, ℕ, map, min, nat_lt, nat_le, ◌&&◌};
+ghost use Rattle.std.specs.List.{list_any};
+ghost use Rattle.trace_lang.specs.Traces.{is_aligned, shares_byte, bytes_in, is_within, most_cores};
+ghost use Rattle.trace_lang.specs.Lines.{State, no_lines, is_base, is_size, cores_met, range_met, caches_met, policy_met, ranges_met, body_met, met, words_met, line_met};
+ghost use Rattle.trace_lang.specs.Views.{header_of, state_of, Steps};
+
+use crate::cuts::{is_plain, words};
+use crate::events::event;
+use crate::names;
+use crate::places::{LineError, in_range, no_word_at, number_at, refused, word_at, word_or};
+use crate::{LineRefusal, Phase, Policy, Size};
+use std::alloc::Global;
+use trails::Event;
+
+const MOST_CORES: u64 = 8;
+
+const MOST_RANGES: usize = 16;
+
+const MOST_EVENTS: usize = 50000;
+
+/// The most bytes of a line without its end.
+const MOST_LINE: usize = 200;
+
+/// Where physical memory ends at most.
+const END_OF_MEMORY: u64 = 1 << 52;
+
+/// The most bytes of all ranges: 64 MiB.
+const MOST_MEMORY: u64 = 1 << 26;
+
+/// What the lines before the events say.
+#[derive(Drop)]
+pub struct Head {
+    pub ranges: Vec<(u64, u64)>,
+    pub policy: Policy,
+    pub size: Size,
+    pub cores: u8,
+}
+
+/// What has been read of a trace.
+#[derive(Drop)]
+pub struct Reading {
+    pub head: Head,
+    pub events: Vec<Event>,
+    pub phase: Phase,
+}
+
+pub fn is_aligned(n: u64) -> bool
+    ensures { result ≡ is_aligned n }
+{
+    n % 8 == 0
+}
+
+fn is_count_of_cores(n: u64) -> bool
+    ensures { result ≡ nat_le 1 n && nat_le n most_cores }
+{
+    n >= 1 && n <= MOST_CORES
+}
+
+fn is_base(base: u64) -> bool
+    ensures { result ≡ is_base base }
+{
+    is_aligned(base) && base < END_OF_MEMORY
+}
+
+/// Whether a byte lies below the end of a range.
+fn is_below_end(place: u64, range: (u64, u64)) -> bool
+    ensures { result ≡ nat_lt place (range.0 + range.1) }
+{
+    place < range.0 || place - range.0 < range.1
+}
+
+fn shares_byte(a: (u64, u64), b: (u64, u64)) -> bool
+    ensures { result ≡ shares_byte a b }
+{
+    is_below_end(a.0, b) && is_below_end(b.0, a)
+}
+
+/// Whether the eight bytes at a place lie in a range.
+fn holds_word(range: (u64, u64), place: u64) -> bool
+    ensures { result ≡ nat_le range.0 place && nat_le (place + 8) (range.0 + range.1) }
+{
+    range.0 <= place && range.1 >= 8 && place - range.0 <= range.1 - 8
+}
+
+/// The bytes of all ranges, or u64::MAX where they are more.
+fn bytes_in(ranges: &[(u64, u64)]) -> u64
+    ensures { result ≡ min (bytes_in ranges.now) (2 ^ 64 - 1) }
+{
+    let mut sum = 0u64;
+    for range in ranges {
+        sum = sum.saturating_add(range.1);
+    }
+    sum
+}
+
+/// Whether a range of this length may begin at `base`, behind other ranges.
+fn is_size(earlier: &[(u64, u64)], base: u64, size: u64) -> bool
+    requires { base < 2 ^ 52 }
+    ensures { result ≡ is_size earlier.now base size }
+{
+    is_aligned(size)
+        && size > 0
+        && size <= END_OF_MEMORY - base
+        && bytes_in(earlier).saturating_add(size) <= MOST_MEMORY
+}
+
+impl Head {
+    /// Whether the eight bytes at a place lie in one range.
+    pub fn is_within(&self, place: u64) -> bool
+        ensures { result ≡ is_within (header_of self.now).ranges place }
+    {
+        self.ranges.iter().any(|range| holds_word(*range, place))
+    }
+
+    /// Whether a range shares a byte with one that stands.
+    fn shares_byte(&self, range: (u64, u64)) -> bool
+        ensures { result ≡ list_any (shares_byte range) (header_of self.now).ranges }
+    {
+        self.ranges.iter().any(|other| shares_byte(range, *other))
+    }
+}
+
+impl Reading {
+    /// Nothing read.
+    pub fn new(alloc: Global) -> Reading
+        ensures { state_of result ≡ no_lines }
+    {
+        Reading {
+            head: Head {
+                ranges: Vec::new(alloc),
+                policy: Policy::Fifo,
+                size: Size::NoRows,
+                cores: 0,
+            },
+            events: Vec::new(alloc),
+            phase: Phase::Cores,
+        }
+    }
+
+    fn cores(&mut self, words: &[&[u8]]) -> Result<(), LineError>
+        ensures { Steps (state_of self.new) result (cores_met (state_of self.old) (map (λ w. w.now) words.now)) }
+    {
+        let n = number_at(words, 2)?;
+        let n = in_range(2, is_count_of_cores(n), n)?;
+        no_word_at(words, 3)?;
+        self.head.cores = n as u8;
+        self.phase = Phase::Ranges;
+        Ok(())
+    }
+
+    fn range(&mut self, words: &[&[u8]]) -> Result<(), LineError>
+        ensures { Steps (state_of self.new) result (range_met (state_of self.old) (map (λ w. w.now) words.now)) }
+    {
+        let base = number_at(words, 2)?;
+        let base = in_range(2, is_base(base), base)?;
+        let size = number_at(words, 3)?;
+        let fits = is_size(self.head.ranges.as_slice(), base, size);
+        let size = in_range(3, fits, size)?;
+        no_word_at(words, 4)?;
+        in_range(2, !self.head.shares_byte((base, size)), base)?;
+        match self.head.ranges.push((base, size)) {
+            Ok(()) => {
+                self.phase = Phase::Ranges;
+                Ok(())
+            }
+            Err(_) => Err(LineError::NoMemory),
+        }
+    }
+
+    fn caches(&mut self, words: &[&[u8]]) -> Result<(), LineError>
+        ensures { Steps (state_of self.new) result (caches_met (state_of self.old) (map (λ w. w.now) words.now)) }
+    {
+        let word = word_at(words, 2)?;
+        let size = word_or(2, names::size_named(word))?;
+        no_word_at(words, 3)?;
+        self.head.size = size;
+        self.phase = Phase::Policy;
+        Ok(())
+    }
+
+    fn policy(&mut self, words: &[&[u8]]) -> Result<(), LineError>
+        ensures { Steps (state_of self.new) result (policy_met (state_of self.old) (map (λ w. w.now) words.now)) }
+    {
+        let word = word_at(words, 2)?;
+        let policy = word_or(2, names::policy_named(word))?;
+        no_word_at(words, 3)?;
+        self.head.policy = policy;
+        self.phase = Phase::Events;
+        Ok(())
+    }
+
+    /// A `memory` line, or `caches`.
+    fn ranges(&mut self, first: &[u8], words: &[&[u8]]) -> Result<(), LineError>
+        ensures { Steps (state_of self.new) result (ranges_met (state_of self.old) first.now (map (λ w. w.now) words.now)) }
+    {
+        if first == b"memory".as_slice() {
+            if self.head.ranges.len() >= MOST_RANGES {
+                return refused(LineRefusal::TooMany);
+            }
+            return self.range(words);
+        }
+        if first == b"caches".as_slice() {
+            return self.caches(words);
+        }
+        refused(LineRefusal::NoHeader)
+    }
+
+    /// `end`, or an event.
+    fn body(&mut self, first: &[u8], words: &[&[u8]]) -> Result<(), LineError>
+        ensures { Steps (state_of self.new) result (body_met (state_of self.old) first.now (map (λ w. w.now) words.now)) }
+    {
+        if first == b"end".as_slice() {
+            no_word_at(words, 2)?;
+            self.phase = Phase::Ended;
+            return Ok(());
+        }
+        if self.events.len() >= MOST_EVENTS {
+            return refused(LineRefusal::TooMany);
+        }
+        let event = event(&self.head, words)?;
+        match self.events.push(event) {
+            Ok(()) => Ok(()),
+            Err(_) => Err(LineError::NoMemory),
+        }
+    }
+
+    /// A line that has words, the first of which is given.
+    fn met(&mut self, first: &[u8], words: &[&[u8]]) -> Result<(), LineError>
+        ensures { Steps (state_of self.new) result (met self.old.phase (state_of self.old) first.now (map (λ w. w.now) words.now)) }
+    {
+        match self.phase {
+            Phase::Cores if first == b"cores".as_slice() => self.cores(words),
+            Phase::Ranges => self.ranges(first, words),
+            Phase::Policy if first == b"policy".as_slice() => self.policy(words),
+            Phase::Events => self.body(first, words),
+            Phase::Ended => refused(LineRefusal::AfterEnd),
+            _ => refused(LineRefusal::NoHeader),
+        }
+    }
+
+    fn words(&mut self, words: &[&[u8]]) -> Result<(), LineError>
+        ensures { Steps (state_of self.new) result (words_met (state_of self.old) (map (λ w. w.now) words.now)) }
+    {
+        match words.first() {
+            None => Ok(()),
+            Some(first) => {
+                if first.first() == Some(&b'#') {
+                    return Ok(());
+                }
+                self.met(first, words)
+            }
+        }
+    }
+
+    /// Reads a line without its end. `room` is for its words.
+    pub fn line<'a>(&mut self, room: &mut Vec<&'a [u8]>, line: &'a [u8]) -> Result<(), LineError>
+        ensures { Steps (state_of self.new) result (line_met (state_of self.old) line.now) }
+    {
+        if !is_plain(line) {
+            return refused(LineRefusal::NotText);
+        }
+        if line.len() > MOST_LINE {
+            return refused(LineRefusal::LongLine);
+        }
+        match words(room, line) {
+            Ok(()) => self.words(room.as_slice()),
+            Err(_) => Err(LineError::NoMemory),
+        }
+    }
+}
