@@ -1,6 +1,6 @@
 -- Which word holds a place, and the memory that words are.
-use Rattle.std.proofs.Common.{◌≡◌, ◌≢◌, ◌≤◌, ◌<◌, ◌+◌, ◌-◌, ◌*◌, ◌%◌, ◌/◌, ◌^◌, ℕ, zero, suc, Bool, true, false, nat_le, nat_eq, List, [], ◌∷◌, length, replicate, slice_set, slice_index_or, Some, None, Option, All, IfSome, refl, sym, ◌∙◌, ap, arith, subst, inl, inr, if◌then◌else◌}
-use Rattle.std.specs.Prelude.{◌==◌, ◌&&◌, slice_index, is_some}
+use Rattle.std.proofs.Common.{◌≡◌, ◌≤◌, ◌<◌, ◌+◌, ◌-◌, ◌*◌, ◌%◌, ◌/◌, ℕ, zero, suc, Bool, true, false, nat_eq, List, [], ◌∷◌, length, replicate, slice_set, slice_index_or, Some, None, Option, All, IfSome, refl, sym, ◌∙◌, ap, arith, inl, inr, if◌then◌else◌}
+use Rattle.std.specs.Prelude.{◌&&◌, slice_index, is_some}
 use Rattle.std.proofs.Math.Path.{fun_ext}
 use Rattle.std.proofs.lemmas.Bool.{cases_Bool, eqb-true, eqb-false}
 use Rattle.std.proofs.Math.Bool.{true≢false}
@@ -8,7 +8,7 @@ use Rattle.std.proofs.lemmas.Bool.Decides.{nat_tests}
 use Rattle.std.proofs.lemmas.Option.{none-some, same_Some}
 use Rattle.std.proofs.lemmas.List.{get_or_read, get_or-set_same, get_or-set_other}
 use Rattle.std.proofs.lemmas.List.Elements.{All-head, All-tail}
-use Rattle.phys_mem.specs.Memory.{Memory, zeros, stored_at, loaded, is_aligned}
+use Rattle.phys_mem.specs.Memory.{zeros, stored_at, loaded, is_aligned}
 use Rattle.phys_mem.specs.Ranges.{bytes_of}
 use Rattle.phys_mem.specs.Words.{IsWhole, Held, holds_word, index_from, index_of, seen_at, memory_of}
 
@@ -20,7 +20,7 @@ index_within first [] place k h e = absurd (none-some k e)
 index_within first (r ∷ ranges) place k h e =
     let one : IsWhole r = All-head IsWhole r ranges h in
     elim (cases_Bool (holds_word r place)) [
-      inl here ↦ let found : first + (place - r.0) / 8 ≡ k = same_Some _ _ (grind (arith, here, e)) in
+      | inl here ↦ let found : first + (place - r.0) / 8 ≡ k = same_Some _ _ (grind (arith, here, e)) in
           (omega arith, grind (arith, nat_tests, here, found, one.length, one.start))
       | inr not_here ↦ let later : index_from (first + r.1 / 8) ranges place ≡ Some k = grind (arith, not_here, e) in
           let rest : (first + r.1 / 8 ≤ k) × (8 * k + 8 ≤ 8 * (first + r.1 / 8) + bytes_of ranges) = index_within (first + r.1 / 8) ranges place k (All-tail IsWhole r ranges h) later in
@@ -40,13 +40,13 @@ one_place first (r ∷ ranges) p q k h a b e f =
     let one : IsWhole r = All-head IsWhole r ranges h in
     let more : All IsWhole ranges = All-tail IsWhole r ranges h in
     elim (cases_Bool (holds_word r p)) [
-      inl here ↦ elim (cases_Bool (holds_word r q)) [
-        inl too ↦ grind (arith, nat_tests, here, too, same_Some (first + (p - r.0) / 8) k (grind (arith, here, e)), same_Some (first + (q - r.0) / 8) k (grind (arith, too, f)), a, b, one.start)
+      | inl here ↦ elim (cases_Bool (holds_word r q)) [
+        | inl too ↦ grind (arith, nat_tests, here, too, same_Some (first + (p - r.0) / 8) k (grind (arith, here, e)), same_Some (first + (q - r.0) / 8) k (grind (arith, too, f)), a, b, one.start)
         | inr other ↦ let later : first + r.1 / 8 ≤ k = (index_within (first + r.1 / 8) ranges q k more (grind (arith, other, f))).0 in
             absurd (grind (arith, nat_tests, here, later, same_Some (first + (p - r.0) / 8) k (grind (arith, here, e)), one.length))
       ]
       | inr not_here ↦ elim (cases_Bool (holds_word r q)) [
-        inl too ↦ let later : first + r.1 / 8 ≤ k = (index_within (first + r.1 / 8) ranges p k more (grind (arith, not_here, e))).0 in
+        | inl too ↦ let later : first + r.1 / 8 ≤ k = (index_within (first + r.1 / 8) ranges p k more (grind (arith, not_here, e))).0 in
             absurd (grind (arith, nat_tests, too, later, same_Some (first + (q - r.0) / 8) k (grind (arith, too, f)), one.length))
         | inr other ↦ one_place (first + r.1 / 8) ranges p q k more a b (grind (arith, not_here, e)) (grind (arith, other, f))
       ]
@@ -128,7 +128,7 @@ unfolding memory_of
 stored h pa value k whole e within =
     let parts : (is_aligned pa ≡ true) × (index_from 0 h.ranges pa ≡ Some k) = aligned_by (is_aligned pa) (index_from 0 h.ranges pa) k e in
     fun_ext (λ p. elim (cases_Bool (nat_eq p pa)) [
-      inl same ↦ let here : p ≡ pa = eqb-true p pa same in
+      | inl same ↦ let here : p ≡ pa = eqb-true p pa same in
           rw same (same_seen h.words (is_aligned p) (index_from 0 h.ranges p) k value (rw here parts.0) (rw here parts.1) within)
       | inr other ↦ rw other (other_seen h.words (is_aligned p) (index_from 0 h.ranges p) k value
           (λ a f. eqb-false p pa other (one_place 0 h.ranges p pa k whole (eqb-true (p % 8) 0 a) (eqb-true (pa % 8) 0 parts.0) f parts.1)))

@@ -1,13 +1,11 @@
 -- Ranges of whole words, and their bytes.
-use Rattle.std.proofs.Common.{◌≡◌, ◌≤◌, ◌<◌, ◌+◌, ◌*◌, ◌%◌, ◌/◌, ◌^◌, ℕ, Bool, true, false, not, nat_lt, nat_le, nat_eq, List, [], ◌∷◌, length, drop, replicate, ◌∙◌, Some, None, Option, All, slice_index_or, refl, sym, ap, arith, if◌then◌else◌}
-use Rattle.std.specs.Prelude.{◌==◌, ◌&&◌}
-use Rattle.std.proofs.lemmas.Bool.{and_parts}
+use Rattle.std.proofs.Common.{◌≡◌, ◌≤◌, ◌<◌, ◌+◌, ◌*◌, ◌%◌, ◌/◌, ◌^◌, ℕ, Bool, true, false, not, List, [], ◌∷◌, length, drop, replicate, ◌∙◌, Some, None, Option, All, slice_index_or, refl, sym, ap, arith, if◌then◌else◌}
 use Rattle.std.proofs.lemmas.Option.{none-some}
 use Rattle.std.proofs.lemmas.Bool.Decides.{nat_tests}
 use Rattle.std.proofs.lemmas.List.{drop_more, drop_all, length-replicate}
-use Rattle.std.proofs.lemmas.List.Elements.{All-nil, All-cons, All-head, All-tail, All-drop}
-use Rattle.phys_mem.specs.Ranges.{is_range, first_place, bad_place, bytes_of}
-use Rattle.phys_mem.specs.Words.{IsWhole, Held, AreKept, IsKept}
+use Rattle.std.proofs.lemmas.List.Elements.{All-nil, All-cons, All-head, All-tail}
+use Rattle.phys_mem.specs.Ranges.{is_range, first_place, bytes_of}
+use Rattle.phys_mem.specs.Words.{IsWhole, AreKept, IsKept}
 
 -- what passes the test is whole words, at least one
 pub whole : (r : ℕ × ℕ) → is_range r ≡ true → IsWhole r
@@ -41,7 +39,7 @@ bytes_bound (r ∷ ranges) h = omega (arith, (All-head IsWhole r ranges h).end, 
 
 -- the bytes so far and those of the next range fit a word
 pub next_fits
-    : (ranges : List (ℕ × ℕ)) (place sum : ℕ) → All IsWhole ranges → length ranges ≤ 16 → place < length ranges → sum + bytes_of (drop place ranges) ≡ bytes_of ranges
+    : (ranges : List (ℕ × ℕ)) (place sum : ℕ) → All IsWhole ranges → length ranges ≤ 1024 → place < length ranges → sum + bytes_of (drop place ranges) ≡ bytes_of ranges
     → sum + (slice_index_or ranges place (0, 0)).1 < 2 ^ 64
 next_fits ranges i sum h few below e =
     let next : bytes_of (drop i ranges) ≡ bytes_of (slice_index_or ranges i (0, 0) ∷ drop (i + 1) ranges) = ap bytes_of (drop_more ranges i (0, 0) below) in

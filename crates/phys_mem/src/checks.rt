@@ -21,11 +21,7 @@ const MOST_BYTES: u64 = 64 << 20;
 fn is_range(start: u64, length: u64) -> bool
     ensures { result ≡ is_range (start, length) }
 {
-    start % WORD == 0
-        && length % WORD == 0
-        && length > 0
-        && length <= END
-        && start <= END - length
+    start % WORD == 0 && length % WORD == 0 && length > 0 && length <= END && start <= END - length
 }
 
 /// The first range that is none.
@@ -80,7 +76,7 @@ fn overlap(ranges: &[(u64, u64)]) -> Option<(usize, usize)>
 /// The bytes of all ranges.
 pub fn bytes_in(ranges: &[(u64, u64)]) -> u64
     requires whole { All IsWhole ranges.now }
-    requires few { length ranges.now ≤ 16 }
+    requires few { length ranges.now ≤ 1024 }
     ensures { result ≡ bytes_of ranges.now }
 {
     let mut bytes = 0;

@@ -7,3 +7,6 @@ mod refusal;
 
 pub use phys::Phys;
 pub use refusal::PhysError;
+
+#[cfg(test)]
+mod tests;

@@ -1,2 +1,4 @@
 pub mod Worked
 pub mod Shifts
+pub mod Extents
+pub mod Wider

@@ -4,8 +4,12 @@
 mod covering;
 mod decoding;
 mod inval;
+pub mod laws;
 mod operands;
 
 pub use covering::covers;
 pub use decoding::decode;
 pub use inval::{Inval, Tag};
+
+#[cfg(test)]
+mod tests;

@@ -185,7 +185,7 @@ ranges_keep : (s : State) (w : List ℕ) (ws : List (List ℕ)) → IsTrace s.tr
 ranges_keep s w ws t e =
     either KeepsLimits (bytes_eq w (codes "memory")) _ _
     (λ _. either KeepsLimits (nat_le most_ranges (length s.trace.header.ranges)) (Err TooMany) (range_met s ws) (λ _. tt)
-        (λ f. range_keeps s ws t e (leb-false most_ranges (length s.trace.header.ranges) f)))
+    (λ f. range_keeps s ws t e (leb-false most_ranges (length s.trace.header.ranges) f)))
     (λ _. either KeepsLimits (bytes_eq w (codes "caches")) (caches_met s ws) _ (λ _. caches_keeps s ws t e) (λ _. tt))
 
 -- LINES
@@ -205,8 +205,8 @@ body_keeps s w ws p t =
     either KeepsLimits (bytes_eq w (codes "end")) _ _
     (λ _. then_any KeepsLimits (no_word_at ws 2) _ (λ _. t))
     (λ _. either KeepsLimits (nat_le most_events (length s.trace.events)) (Err TooMany) _ (λ _. tt) (λ f.
-        then_with (EventFits s.trace.header) KeepsLimits (event_of s.trace.header ws) _ (event_fits s.trace.header ws) (λ e q.
-        subst (λ phase. KeepsLimitsIn phase (with_event s e).trace) (sym p) (with_one s.trace e t (leb-false most_events (length s.trace.events) f) q))))
+    then_with (EventFits s.trace.header) KeepsLimits (event_of s.trace.header ws) _ (event_fits s.trace.header ws) (λ e q.
+    subst (λ phase. KeepsLimitsIn phase (with_event s e).trace) (sym p) (with_one s.trace e t (leb-false most_events (length s.trace.events) f) q))))
 
 met_keeps : (phase : Phase) (s : State) (w : List ℕ) (ws : List (List ℕ)) → s.phase ≡ phase → KeepsLimitsIn phase s.trace → IfOk (met phase s w ws) KeepsLimits
 met_keeps Cores s w ws p h = either KeepsLimits (bytes_eq w (codes "cores")) (cores_met s ws) _ (λ _. cores_keeps s ws h.0 h.1) (λ _. tt)

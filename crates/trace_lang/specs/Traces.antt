@@ -25,6 +25,9 @@ pub record Parts : Type 0 where
   pub header : Header
   pub events : List Event
 
+abbrev pub parts_of : (cores : ℕ) (ranges : List (ℕ × ℕ)) (size : Size) (policy : Policy) (events : List Event) → Parts
+parts_of cores ranges size policy events = record { header = record { cores = cores; ranges = ranges; size = size; policy = policy }; events = events }
+
 abbrev pub most_cores : ℕ
 most_cores = 8
 

@@ -11,7 +11,8 @@ use std::alloc::AllocError;
 pub fn is_plain(line: &[u8]) -> bool
     ensures { result ≡ list_all is_text line.now }
 {
-    line.iter().all(|b| (*b >= 0x20 && *b <= 0x7e) || *b == b'\t')
+    line.iter()
+        .all(|b| (*b >= 0x20 && *b <= 0x7e) || *b == b'\t')
 }
 
 /// The text up to the first line end, and what stands behind that.

@@ -1,6 +1,6 @@
 ghost use Rattle.std.specs.Prelude.{◌≡◌, map};
 ghost use Rattle.trace_lang.specs.Traces.{has_operand, is_for_el1, may_issue};
-ghost use Rattle.trace_lang.specs.Events.{store, msr, settle, isb, tlbi, dsb, deliver, access, core_at, place_at, supported_by, allowed_from, operand_at, pan_at, event_by, event_of};
+ghost use Rattle.trace_lang.specs.Events.{store, msr, tlbi, dsb, access, core_at, place_at, operand_at, pan_at, event_by, event_of};
 ghost use Rattle.trace_lang.specs.Views.{header_of, Gives};
 
 use crate::LineRefusal;
@@ -65,12 +65,7 @@ fn may_issue(from: Origin, op: Op) -> bool
         (Origin::El2, _) => true,
         (
             Origin::El1,
-            Op::Ipas2e1
-            | Op::Ipas2le1
-            | Op::Vmalls12e1
-            | Op::Alle1
-            | Op::Ripas2e1
-            | Op::Ripas2le1,
+            Op::Ipas2e1 | Op::Ipas2le1 | Op::Vmalls12e1 | Op::Alle1 | Op::Ripas2e1 | Op::Ripas2le1,
         ) => false,
         (Origin::El1, _) => true,
     }

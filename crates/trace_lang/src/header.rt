@@ -13,7 +13,5 @@ pub enum Size {
 pub enum Policy {
     Lru,
     Fifo,
-    Random {
-        start: u64,
-    },
+    Random { start: u64 },
 }

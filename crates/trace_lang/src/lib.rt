@@ -15,3 +15,6 @@ pub use header::{Policy, Size};
 pub use parsing::{MOST_BYTES, parse};
 pub use refusals::{LineRefusal, Phase, TraceError, TraceRefusal};
 pub use trace::Trace;
+
+#[cfg(test)]
+mod tests;

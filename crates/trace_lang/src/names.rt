@@ -54,6 +54,7 @@ const OPS: [Op; 16] = [
     Op::Ripas2le1,
 ];
 
+/// The verb that a word is.
 pub fn verb_named(word: &[u8]) -> Option<Verb>
     ensures { option_map verb_of result ≡ named verbs word.now }
 {
@@ -78,6 +79,7 @@ pub fn verb_named(word: &[u8]) -> Option<Verb>
     }
 }
 
+/// The register that has this name in capitals.
 pub fn register_named(word: &[u8]) -> Option<Reg>
     ensures { result ≡ named reg_names word.now }
 {
@@ -143,6 +145,7 @@ pub fn operation_named(word: &[u8]) -> Option<(Op, bool)>
     }
 }
 
+/// The exception level that issues a TLBI.
 pub fn origin_named(word: &[u8]) -> Option<Origin>
     ensures { result ≡ named origins word.now }
 {
@@ -155,6 +158,7 @@ pub fn origin_named(word: &[u8]) -> Option<Origin>
     }
 }
 
+/// Which accesses a DSB waits for.
 pub fn barrier_named(word: &[u8]) -> Option<Barrier>
     ensures { result ≡ named barriers word.now }
 {
@@ -169,6 +173,7 @@ pub fn barrier_named(word: &[u8]) -> Option<Barrier>
     }
 }
 
+/// The exception level of an access.
 pub fn level_named(word: &[u8]) -> Option<El>
     ensures { result ≡ named els word.now }
 {
@@ -181,6 +186,7 @@ pub fn level_named(word: &[u8]) -> Option<El>
     }
 }
 
+/// What an access does.
 pub fn kind_named(word: &[u8]) -> Option<Kind>
     ensures { result ≡ named kinds word.now }
 {
@@ -199,17 +205,31 @@ pub fn kind_named(word: &[u8]) -> Option<Kind>
 pub fn pan_named(word: &[u8]) -> Option<bool>
     ensures { result ≡ named ((codes "pan", true) ∷ []) word.now }
 {
-    if word == b"pan".as_slice() { Some(true) } else { None }
+    if word == b"pan".as_slice() {
+        Some(true)
+    } else {
+        None
+    }
 }
 
+/// The size of the caches that a word names.
 pub fn size_named(word: &[u8]) -> Option<Size>
     ensures { result ≡ named sizes word.now }
 {
-    if word == b"none".as_slice() { Some(Size::NoRows) } else { None }
+    if word == b"none".as_slice() {
+        Some(Size::NoRows)
+    } else {
+        None
+    }
 }
 
+/// The policy of the caches that a word names.
 pub fn policy_named(word: &[u8]) -> Option<Policy>
     ensures { result ≡ named policies word.now }
 {
-    if word == b"fifo".as_slice() { Some(Policy::Fifo) } else { None }
+    if word == b"fifo".as_slice() {
+        Some(Policy::Fifo)
+    } else {
+        None
+    }
 }

@@ -82,9 +82,10 @@ fn ended(reading: Reading) -> Result<Trace, TraceError>
     }
 }
 
-/// Reads a trace of at most `MOST_BYTES` bytes, or tells the first refusal: that of the first line that has one, and of
-/// a line the first in the order of `LineRefusal`, but for its words, which are read from the left (this project's own
-/// rule).
+/// Reads a trace of at most `MOST_BYTES` bytes, or tells its first refusal (this project's own rule). Lines are read in
+/// order, and one is refused first for a byte that is no text or for more than 200 bytes, then where no such line is due,
+/// then for its words from the left, then for a word too many, and last for what its words say together: a range that
+/// shares a byte with an earlier one, a register field that is not supported, an operation that EL1 may not issue.
 pub fn parse(alloc: Global, bytes: &[u8]) -> Result<Trace, TraceError>
     ensures { GivesTrace (λ t. t) result (trace_of bytes.now) }
 {

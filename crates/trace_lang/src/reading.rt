@@ -1,14 +1,14 @@
 ghost use Rattle.std.specs.Prelude.{◌≡◌, ◌+◌, ◌-◌, ◌^◌, ◌<◌, ℕ, map, min, nat_lt, nat_le, ◌&&◌};
 ghost use Rattle.std.specs.List.{list_any};
 ghost use Rattle.trace_lang.specs.Traces.{is_aligned, shares_byte, bytes_in, is_within, most_cores};
-ghost use Rattle.trace_lang.specs.Lines.{State, no_lines, is_base, is_size, cores_met, range_met, caches_met, policy_met, ranges_met, body_met, met, words_met, line_met};
+ghost use Rattle.trace_lang.specs.Lines.{no_lines, is_base, is_size, cores_met, range_met, caches_met, policy_met};
+ghost use Rattle.trace_lang.specs.Lines.{ranges_met, body_met, met, words_met, line_met};
 ghost use Rattle.trace_lang.specs.Views.{header_of, state_of, Steps};
 
 use crate::cuts::{is_plain, words};
 use crate::events::event;
-use crate::names;
 use crate::places::{LineError, in_range, no_word_at, number_at, refused, word_at, word_or};
-use crate::{LineRefusal, Phase, Policy, Size};
+use crate::{LineRefusal, Phase, Policy, Size, names};
 use std::alloc::Global;
 use trails::Event;
 

@@ -1,5 +1,5 @@
 ghost use Rattle.std.specs.Prelude.{◌≡◌};
-ghost use Rattle.trace_lang.specs.Traces.{IsTrace};
+ghost use Rattle.trace_lang.specs.Traces.{IsTrace, parts_of};
 
 use crate::{Policy, Size};
 use std::marker::Model;
@@ -18,20 +18,26 @@ pub struct Trace {
 }
 
 impl Model for Trace {
-    ghost use Rattle.trace_lang.specs.Traces.{Parts, IsTrace};
+    ghost use Rattle.trace_lang.specs.Traces.{Parts, IsTrace, parts_of};
 
     ghost Value = { Parts };
 
-    ghost view = { λ t. record { header = record { cores = t.cores; ranges = t.ranges.items; size = t.size; policy = t.policy }; events = t.events.items } };
+    ghost view = { λ t. parts_of t.cores t.ranges.items t.size t.policy t.events.items };
 
-    ghost invariant = { λ t. IsTrace (record { header = record { cores = t.cores; ranges = t.ranges.items; size = t.size; policy = t.policy }; events = t.events.items }) };
+    ghost invariant = { λ t. IsTrace (parts_of t.cores t.ranges.items t.size t.policy t.events.items) };
 }
 
 impl Trace {
     /// The trace of these parts.
-    pub fn of(cores: u8, ranges: Vec<(u64, u64)>, size: Size, policy: Policy, events: Vec<Event>) -> Trace
-        requires { IsTrace (record { header = record { cores = cores; ranges = ranges.items; size = size; policy = policy }; events = events.items }) }
-        ensures { result ≡ record { header = record { cores = cores; ranges = ranges.items; size = size; policy = policy }; events = events.items } }
+    pub fn of(
+        cores: u8,
+        ranges: Vec<(u64, u64)>,
+        size: Size,
+        policy: Policy,
+        events: Vec<Event>,
+    ) -> Trace
+        requires { IsTrace (parts_of cores ranges.items size policy events.items) }
+        ensures { result ≡ parts_of cores ranges.items size policy events.items }
     {
         Trace {
             ranges,

@@ -9,6 +9,6 @@ returns-in_err-index c =
 pub returns : goal.returns
 returns c =
     rw (← c.self.view_is) (loaded_read _ c.args.pa c.in_ok-index.index _
-        (rw (← c.as_slice.ensures.value, ← c.index_of.ensures.is) (c.in_ok-index.was))
-        (omega (arith, c.self.invariant.all, rw c.as_slice.ensures.value at c.in_ok-index.ensures.within))
-        c.index.ensures)
+    (rw (← c.as_slice.ensures.value, ← c.index_of.ensures.is) (c.in_ok-index.was))
+    (omega (arith, c.self.invariant.all, rw c.as_slice.ensures.value at c.in_ok-index.ensures.within))
+    c.index.ensures)

@@ -11,5 +11,5 @@ returns-clause-there c = rw (← c.self.view_is) (there_by _ c.args.pa (Some c.i
 pub returns-clause-after : goal.returns-clause-after
 returns-clause-after c =
     rw (← c.self.view_is) (stored _ c.args.pa c.args.value c.in-Some.index c.self.invariant.kept.whole
-        (rw (← c.as_slice.ensures.value, ← c.index_of.ensures.is) c.in-Some.is)
-        (omega (arith, c.self.invariant.all, rw c.as_slice.ensures.value at c.in-Some.ensures.within)))
+    (rw (← c.as_slice.ensures.value, ← c.index_of.ensures.is) c.in-Some.is)
+    (omega (arith, c.self.invariant.all, rw c.as_slice.ensures.value at c.in-Some.ensures.within)))
