@@ -1,0 +1,86 @@
+-- The report of a run, from its log. Its form is this project's own rule.
+use Rattle.std.specs.Prelude.{ℕ, ◌+◌, List, [], ◌∷◌, ◌++◌, true, flat_map, codes, decimal, Option, Some, None}
+use Rattle.std.specs.List.{All}
+use Rattle.trails.specs.declared.item.Item.{Item}
+use Rattle.trails.specs.declared.outcome.Access.{Access}
+use Rattle.trails.specs.declared.event.Event.{Event}
+use Rattle.trails.specs.declared.event.Event.TheVariants.{Store, Msr, Settle, Isb, Tlbi, Dsb, Deliver, Access as AccessOf, Prefetch}
+use Rattle.trails.specs.declared.step.Answer.{Answer}
+use Rattle.trails.specs.declared.step.Step.{Step}
+use Rattle.texts.specs.Texts.{joined_text}
+use Rattle.explain_text.specs.Texts.{item_text}
+use Rattle.explain_text.specs.Explained.{access_text, printed, outcome_text, HasText}
+use Rattle.machine_spec.specs.Summary.{Summary, summary}
+
+-- the front of an event's line: the number of its step, counted from 0 over all steps, and its core
+abbrev pub front_text : (number core : ℕ) → List ℕ
+front_text n core = joined_text (codes "event " ∷ decimal n ∷ codes " core " ∷ decimal core ∷ codes " " ∷ [])
+
+-- the line of an event, as `event 8 core 0 access 0x40201abc el1 read asid 0x0 vmid 0x0`
+abbrev pub event_text : (number core : ℕ) (word : List ℕ) (access : Access) (asid vmid : ℕ) → List ℕ
+event_text n core word access asid vmid = front_text n core ++ (access_text word access asid vmid ++ codes "\n")
+
+-- the items of a second trail, which a conflict has, behind the line `or`
+abbrev pub second_text : (second : Option (List Item)) → List ℕ
+second_text None = []
+second_text (Some items) = codes "or\n" ++ flat_map (item_text true) items
+
+-- the lines of an answer: the items of its first trail with their moments, those of a second one, and the outcome
+abbrev pub answer_text : (answer : Answer) → List ℕ
+answer_text a = flat_map (item_text true) a.first ++ (second_text a.second ++ outcome_text true a.outcome)
+
+-- the lines of an event that is answered, with its word
+abbrev pub answered_text : (number core : ℕ) (word : List ℕ) (access : Access) (answer : Option Answer) → List ℕ
+answered_text n core word access None = []
+answered_text n core word access (Some a) = event_text n core word access a.asid a.vmid ++ answer_text a
+
+-- the lines of an event with its answer: only accesses and prefetches have some
+abbrev pub lines_of : (number : ℕ) (event : Event) (answer : Option Answer) → List ℕ
+lines_of n (Store core pa value) a = []
+lines_of n (Msr core reg value) a = []
+lines_of n (Settle core) a = []
+lines_of n (Isb core) a = []
+lines_of n (Tlbi core from op shared operand) a = []
+lines_of n (Dsb core kind) a = []
+lines_of n (Deliver core) a = []
+lines_of n (AccessOf core access) a = answered_text n core (codes "access") access a
+lines_of n (Prefetch core access) a = answered_text n core (codes "prefetch") access a
+
+-- the lines of a step
+abbrev pub step_text : (number : ℕ) (step : Step) → List ℕ
+step_text n s = lines_of n s.event s.answer
+
+-- the lines of steps from a number on
+unfoldable pub steps_text : (number : ℕ) (log : List Step) → List ℕ
+steps_text n [] = []
+steps_text n (s ∷ log) = step_text n s ++ steps_text (n + 1) log
+
+-- the front of the summary line: how many accesses and prefetches there were, and how they came out
+abbrev pub outcomes_text : (summary : Summary) → List ℕ
+outcomes_text s =
+    joined_text
+    (codes "summary accesses " ∷ decimal s.accesses ∷ codes " prefetches " ∷ decimal s.prefetches ∷ codes " mapped " ∷ decimal s.mapped ∷
+    codes " faulted " ∷ decimal s.faulted ∷ codes " conflicts " ∷ decimal s.conflicts ∷ [])
+
+-- its end: how many answers were old and stale, and how many rows were evicted
+abbrev pub marks_text : (summary : Summary) → List ℕ
+marks_text s =
+    joined_text
+    (codes " old " ∷ decimal s.old ∷ codes " stale " ∷ decimal s.stale ∷ codes " evicted " ∷ decimal s.evicted ∷ codes "\n" ∷ [])
+
+-- the summary line
+abbrev pub summary_text : (summary : Summary) → List ℕ
+summary_text s = outcomes_text s ++ marks_text s
+
+-- the report of a log: the lines of each step in order, and the summary line
+abbrev pub report_text : (log : List Step) → List ℕ
+report_text log = steps_text 0 log ++ summary_text (summary log)
+
+-- an answer can be printed: if its outcome is a fault, or a word that memory lacks, it has a status code
+abbrev pub IsPrintable : (answer : Option Answer) → Type 0
+IsPrintable None = Unit {0}
+IsPrintable (Some a) = HasText (printed true a.outcome)
+
+-- each answer of a log can be printed
+abbrev pub ArePrintable : (log : List Step) → Type 0
+ArePrintable log = All (λ s. IsPrintable s.answer) log

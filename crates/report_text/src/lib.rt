@@ -1,0 +1,12 @@
+//! The report of a run, written from its log.
+#![tactic(auto)]
+
+mod counts;
+mod lines;
+mod page;
+mod writing;
+
+pub use writing::{ReportError, report};
+
+#[cfg(test)]
+mod tests;
