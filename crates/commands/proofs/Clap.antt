@@ -9,9 +9,9 @@ use Rattle.clap.specs.Faults.{fault_of, is_simple_and_free, turn_fault, walk_fau
 use Rattle.clap.specs.declared.error.kind.ErrorKind.{ErrorKind}
 use Rattle.clap.specs.declared.error.kind.ErrorKind.TheVariants.{MissingRequiredArgument, UnknownArgument}
 use Rattle.clap.proofs.OnLiterals.{clap_on_literals}
-use Rattle.commands.specs.Asked.{RawWords, ExplainWords}
-use Rattle.commands.specs.Command.{is_plain, raw_of, explain_of, el_of, kind_of, access_with}
-use Rattle.commands.specs.Clap.{raw_app, explain_app, number_by, raw_by, explain_by, pan_by}
+use Rattle.commands.specs.Asked.{RawWords, ExplainWords, RunWords}
+use Rattle.commands.specs.Command.{is_plain, raw_of, explain_of, run_of, el_of, kind_of, access_with}
+use Rattle.commands.specs.Clap.{raw_app, explain_app, run_app, run_by, number_by, raw_by, explain_by, pan_by}
 
 pub raw_simple : is_simple raw_app ≡ true
 unfolding clap_on_literals
@@ -28,6 +28,14 @@ explain_simple = refl
 pub explain_free : is_simple_and_free explain_app ≡ true
 unfolding clap_on_literals
 explain_free = refl
+
+pub run_simple : is_simple run_app ≡ true
+unfolding clap_on_literals
+run_simple = refl
+
+pub run_free : is_simple_and_free run_app ≡ true
+unfolding clap_on_literals
+run_free = refl
 
 -- plain words, taken apart
 pub data Plain : List Text → Type 0 where
@@ -60,6 +68,9 @@ raw_names = codes "IMAGE" ∷ codes "TCR" ∷ codes "TTBR0" ∷ codes "VA" ∷ [
 abbrev pub explain_names : List Text
 explain_names = codes "REGS" ∷ codes "DUMP" ∷ codes "VA" ∷ codes "EL" ∷ codes "KIND" ∷ codes "pan" ∷ []
 
+abbrev pub run_names : List Text
+run_names = codes "TRACE" ∷ []
+
 -- a command by these texts
 abbrev pub raw_by_texts : List (Option Text) → Option RawWords
 raw_by_texts (image ∷ tcr ∷ ttbr0 ∷ va ∷ []) = raw_by image (number_by tcr) (number_by ttbr0) (number_by va)
@@ -70,12 +81,19 @@ explain_by_texts (registers ∷ dump ∷ va ∷ el ∷ kind ∷ pan ∷ []) =
     explain_by registers dump (access_with (number_by va) (option_and_then el_of el) (option_and_then kind_of kind) (pan_by pan))
 explain_by_texts _ = None
 
+abbrev pub run_by_texts : List (Option Text) → Option RunWords
+run_by_texts (trace ∷ []) = run_by trace
+run_by_texts _ = None
+
 -- a command by its matches
 abbrev pub raw_in : List Row → Option RawWords
 raw_in rows = raw_by_texts (texts_of raw_names rows)
 
 abbrev pub explain_in : List Row → Option ExplainWords
 explain_in rows = explain_by_texts (texts_of explain_names rows)
+
+abbrev pub run_in : List Row → Option RunWords
+run_in rows = run_by_texts (texts_of run_names rows)
 
 a_fault : {A : Type 0} (k : A) (ks : List A) {l : List A} → l ≡ k ∷ ks → l ≡ [] → ⊥
 a_fault k ks e f = let bad : k ∷ ks ≡ [] = sym e ∙ f in cc
@@ -256,3 +274,40 @@ explain_long (a ∷ b ∷ c ∷ d ∷ []) h = absurd (omega arith)
 explain_long (a ∷ b ∷ c ∷ d ∷ e ∷ []) h = absurd (omega arith)
 explain_long (a ∷ b ∷ c ∷ d ∷ e ∷ f ∷ []) h = absurd (omega arith)
 explain_long (a ∷ b ∷ c ∷ d ∷ e ∷ f ∷ g ∷ rest) h = refl
+
+-- `run`
+
+run_has_0 : fault_of run_app ([]) ≡ MissingRequiredArgument ∷ []
+unfolding clap_on_literals
+run_has_0 = refl
+
+run_has_1 : (x1 : ℕ) (t1 : List ℕ)
+    → eqb x1 45 ≡ false →
+    fault_of run_app ((x1 ∷ t1) ∷ []) ≡ []
+unfolding clap_on_literals
+run_has_1 x1 t1 h1 = rw h1 (rw h1 refl)
+
+run_reads_1 : (x1 : ℕ) (t1 : List ℕ)
+    → eqb x1 45 ≡ false →
+    texts_of run_names (matches_of run_app ((x1 ∷ t1) ∷ [])) ≡ Some (x1 ∷ t1) ∷ []
+unfolding clap_on_literals
+run_reads_1 x1 t1 h1 = rw h1 (rw h1 refl)
+
+run_meets_more : (x1 x2 : ℕ) (t1 t2 : List ℕ)
+    → eqb x1 45 ≡ false → eqb x2 45 ≡ false →
+    first_fault run_app ((x1 ∷ t1) ∷ (x2 ∷ t2) ∷ []) ≡ UnknownArgument ∷ []
+unfolding clap_on_literals
+run_meets_more x1 x2 t1 t2 h1 h2 = simp h1 (simp h2)
+
+-- where there is no fault, the matches are what the words say
+pub run_read : (words : List Text) → Plain words → fault_of run_app words ≡ [] → run_in (matches_of run_app words) ≡ run_of words
+run_read _ none e = absurd (a_fault MissingRequiredArgument [] (run_has_0) e)
+run_read _ (one x1 t1 _ h1 none) e = ap run_by_texts (run_reads_1 x1 t1 h1)
+run_read _ (one x1 t1 _ h1 (one x2 t2 _ h2 p)) e =
+    absurd (a_fault UnknownArgument [] (fault_first run_app ((x1 ∷ t1) ∷ (x2 ∷ t2) ∷ []) _ UnknownArgument refl (run_meets_more x1 x2 t1 t2 h1 h2)) e)
+
+-- where there is a fault, the words are not those of `run`
+pub run_refused : (words : List Text) → Plain words → (fault_of run_app words ≡ [] → ⊥) → run_of words ≡ None
+run_refused _ none f = refl
+run_refused _ (one x1 t1 _ h1 none) f = absurd (f (run_has_1 x1 t1 h1))
+run_refused _ (one x1 t1 _ h1 (one x2 t2 _ h2 p)) f = refl

@@ -3,8 +3,9 @@ use Rattle.std.specs.Prelude.{ℕ, List}
 use Rattle.trails.specs.declared.outcome.Access.{Access}
 use Rattle.commands.specs.declared.raw.RawArgs.{RawArgs}
 use Rattle.commands.specs.declared.explain.ExplainArgs.{ExplainArgs}
+use Rattle.commands.specs.declared.run.RunArgs.{RunArgs}
 use Rattle.commands.specs.declared.command.Command.{Command}
-use Rattle.commands.specs.declared.command.Command.TheVariants.{Raw as RawCommand, Explain as ExplainCommand}
+use Rattle.commands.specs.declared.command.Command.TheVariants.{Raw as RawCommand, Explain as ExplainCommand, Run as RunCommand}
 
 -- an EL1 read over an image is asked for: the image's name, the two registers and the virtual address
 pub record RawWords : Type 0 where
@@ -19,10 +20,15 @@ pub record ExplainWords : Type 0 where
   pub dump : List ℕ
   pub access : Access
 
+-- a run is asked for: the name of the trace
+pub record RunWords : Type 0 where
+  pub trace : List ℕ
+
 -- what is asked for, command by command
 pub data Asked : Type 0 where
   Raw : RawWords → Asked
   Explain : ExplainWords → Asked
+  Run : RunWords → Asked
 
 -- what the code's arguments say
 abbrev pub raw_words_of : RawArgs → RawWords
@@ -31,7 +37,11 @@ raw_words_of args = record { image = args.image.now; tcr = args.tcr; ttbr0 = arg
 abbrev pub explain_words_of : ExplainArgs → ExplainWords
 explain_words_of args = record { registers = args.registers.now; dump = args.dump.now; access = args.access }
 
+abbrev pub run_words_of : RunArgs → RunWords
+run_words_of args = record { trace = args.trace.now }
+
 -- what the code's command says
 abbrev pub asked_of : Command → Asked
 asked_of (RawCommand args) = Raw (raw_words_of args)
 asked_of (ExplainCommand args) = Explain (explain_words_of args)
+asked_of (RunCommand args) = Run (run_words_of args)

@@ -7,7 +7,7 @@ use Rattle.clap.specs.Matches.{found_of}
 use Rattle.clap.specs.declared.parser.matches.ArgMatches.{ArgMatches}
 use Rattle.trails.specs.declared.outcome.Access.{Access}
 use Rattle.texts.specs.Numbers.{number_of}
-use Rattle.commands.specs.Asked.{RawWords, ExplainWords}
+use Rattle.commands.specs.Asked.{RawWords, ExplainWords, RunWords}
 use Rattle.commands.specs.Command.{raw_with, el_of, kind_of, pan_of, access_with, explain_with}
 
 -- an argument that has to be there
@@ -28,6 +28,9 @@ explain_app =
     with_rule (with_rule (with_rule (with_rule (with_rule (with_rule (bare (codes "explain"))
     (needed (codes "REGS"))) (needed (codes "DUMP"))) (needed (codes "VA"))) (needed (codes "EL"))) (needed (codes "KIND")))
     (new_rule (codes "pan"))
+
+abbrev pub run_app : App
+run_app = with_rule (bare (codes "run")) (needed (codes "TRACE"))
 
 -- what a command makes of words: nothing where it finds a fault in them, else its matches
 abbrev pub IsMatched : (app : App) (words : List Text) (matches : Option ArgMatches) → Type 0
@@ -59,3 +62,8 @@ abbrev pub explain_by : (registers dump : Option Text) (access : Option Access) 
 explain_by (Some registers) (Some dump) access = explain_with registers dump access
 explain_by (Some registers) None access = None
 explain_by None dump access = None
+
+-- `run` by the text of its file
+abbrev pub run_by : (trace : Option Text) → Option RunWords
+run_by (Some trace) = Some (record { trace = trace })
+run_by None = None

@@ -8,7 +8,7 @@ use Rattle.permissions.specs.declared.bits.Kind.{Kind}
 use Rattle.permissions.specs.declared.bits.Kind.TheVariants.{Read, Write, Fetch}
 use Rattle.trails.specs.declared.outcome.Access.{Access}
 use Rattle.texts.specs.Numbers.{number_of}
-use Rattle.commands.specs.Asked.{RawWords, ExplainWords, Asked, Raw, Explain}
+use Rattle.commands.specs.Asked.{RawWords, ExplainWords, RunWords, Asked, Raw, Explain, Run}
 
 -- not empty, and no `-` in front
 abbrev pub is_plain : (word : List ℕ) → Bool
@@ -55,12 +55,18 @@ explain_of (registers ∷ dump ∷ va ∷ el ∷ kind ∷ pan ∷ []) =
     explain_with registers dump (access_with (number_of va) (el_of el) (kind_of kind) (pan_of pan))
 explain_of _ = None
 
+-- the word behind `run`: TRACE
+abbrev pub run_of : (words : List (List ℕ)) → Option RunWords
+run_of (trace ∷ []) = Some (record { trace = trace })
+run_of _ = None
+
 -- the first word names the command
 abbrev pub named : (words : List (List ℕ)) → Option Asked
 named [] = None
 named (name ∷ rest) =
     if bytes_eq name (codes "raw") then option_map Raw (raw_of rest)
-    else (if bytes_eq name (codes "explain") then option_map Explain (explain_of rest) else None)
+    else (if bytes_eq name (codes "explain") then option_map Explain (explain_of rest)
+    else (if bytes_eq name (codes "run") then option_map Run (run_of rest) else None))
 
 -- a command and its arguments, all words plain
 abbrev pub command_of : (words : List (List ℕ)) → Option Asked

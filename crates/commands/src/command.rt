@@ -5,6 +5,7 @@ ghost use Rattle.commands.specs.Command.{command_of, is_plain, named};
 
 use crate::explain::{ExplainArgs, explain};
 use crate::raw::{RawArgs, raw};
+use crate::run::{RunArgs, run};
 use bitwords::NoMemory;
 use std::alloc::Global;
 
@@ -13,6 +14,7 @@ use std::alloc::Global;
 pub enum Command<'a> {
     Raw(RawArgs<'a>),
     Explain(ExplainArgs<'a>),
+    Run(RunArgs<'a>),
 }
 
 fn plain(word: &str) -> bool
@@ -44,13 +46,15 @@ fn named_command(alloc: Global, words: &[String]) -> Result<Option<Command<'_>>,
         Ok(raw(alloc, rest)?.map(Command::Raw))
     } else if name.as_str() == "explain" {
         Ok(explain(alloc, rest)?.map(Command::Explain))
+    } else if name.as_str() == "run" {
+        Ok(run(alloc, rest)?.map(Command::Run))
     } else {
         Ok(None)
     }
 }
 
-/// What the words after the program's name ask for: `raw IMAGE TCR TTBR0 VA` or `explain REGS DUMP VA EL KIND [pan]`.
-/// None where they are no command. An empty word, or one that begins with `-`, stands in none.
+/// What the words after the program's name ask for: `raw IMAGE TCR TTBR0 VA`,
+/// `explain REGS DUMP VA EL KIND [pan]` or `run TRACE`. None where they are no command. An empty word, or one that begins with `-`, stands in none.
 pub fn read_command(alloc: Global, words: &[String]) -> Result<Option<Command<'_>>, NoMemory>
     ensures { IfOk result (λ command. option_map asked_of command ≡ command_of (map string_bytes words.now)) }
 {

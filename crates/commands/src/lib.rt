@@ -5,10 +5,12 @@ mod command;
 mod explain;
 mod matched;
 mod raw;
+mod run;
 
 pub use command::{Command, read_command};
 pub use explain::ExplainArgs;
 pub use raw::RawArgs;
+pub use run::RunArgs;
 
 #[cfg(test)]
 mod tests;

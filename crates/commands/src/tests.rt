@@ -1,4 +1,4 @@
-use crate::{Command, ExplainArgs, RawArgs, read_command};
+use crate::{Command, ExplainArgs, RawArgs, RunArgs, read_command};
 use permissions::{El, Kind};
 use std::alloc::{AllocError, Global};
 use std::test::Fail;
@@ -51,7 +51,11 @@ fn commands(rt: HostRuntime) -> Result<(), Fail> {
         ("raw image 0x10 0x1000 -1", None),
         ("raw image 0x10 0x1000 --", None),
         ("raw --help 0x10 0x1000 0x0", None),
-        ("run trace", None),
+        ("run explain", Some(Command::Run(RunArgs { trace: "explain" }))),
+        ("run", None),
+        ("run trace trace", None),
+        ("run -", None),
+        ("running trace", None),
         ("", None),
         ("explain r d 7  read", None),
     ] {

@@ -6,12 +6,14 @@ use Rattle.reg_file.specs.RegisterFile.{regs_of}
 use Rattle.dump_file.specs.Held.{Holding, Untold, Absent, Bytes, Reading, ReadFails, IsMissing}
 use Rattle.dump_file.specs.DumpOf.{dump_of}
 use Rattle.explain_text.specs.Written.{Writing, WriteFails, Got, GotPrefix, GotNothing}
-use Rattle.commands.specs.Asked.{Asked, Raw, Explain}
+use Rattle.trace_lang.specs.Lines.{trace_of}
+use Rattle.commands.specs.Asked.{Asked, Raw, Explain, Run}
 use Rattle.vmsa.specs.Raw.{IsRawText}
 use Rattle.vmsa.specs.Explain.{IsExplainText}
+use Rattle.vmsa.specs.Run.{IsRunText}
 use Rattle.vmsa.specs.ErrText.{err_text}
 use Rattle.vmsa.specs.declared.status.Why.{Why}
-use Rattle.vmsa.specs.declared.status.Why.TheVariants.{Word, Regs, Dump}
+use Rattle.vmsa.specs.declared.status.Why.TheVariants.{Word, Regs, Dump, Trace}
 use Rattle.vmsa.specs.declared.status.Status.{Status}
 use Rattle.vmsa.specs.declared.status.Status.TheVariants.{Done, Usage, NoFile, Refused, ReadFault, WriteFault, NoMemory}
 
@@ -22,6 +24,7 @@ pub data Form : Type 0 where
   AsImage : Form
   AsRegisters : Form
   AsDump : Form
+  AsTrace : Form
 
 -- a file that a command names
 pub record Named : Type 0 where
@@ -32,16 +35,19 @@ pub record Named : Type 0 where
 abbrev pub words_refusal : Asked → Option Why
 words_refusal (Raw a) = option_map (λ field. Word (record { reg = TcrEl1; field = field })) (refused_field TcrEl1 a.tcr)
 words_refusal (Explain a) = None
+words_refusal (Run a) = None
 
 -- the files of a command, in the order in which they are read
 abbrev pub files_of : Asked → List Named
 files_of (Raw a) = record { form = AsImage; name = a.image } ∷ []
 files_of (Explain a) = record { form = AsRegisters; name = a.registers } ∷ record { form = AsDump; name = a.dump } ∷ []
+files_of (Run a) = record { form = AsTrace; name = a.trace } ∷ []
 
 -- the text that a command gives over its files
 abbrev pub IsTextOf : (holds : List ℕ → Holding) → Asked → (text : List ℕ) → Type 0
 IsTextOf holds (Raw a) text = IsRawText (holds a.image) a text
 IsTextOf holds (Explain a) text = IsExplainText (holds a.registers) (holds a.dump) a.access text
+IsTextOf holds (Run a) text = IsRunText (holds a.trace) text
 
 -- File by file.
 
@@ -50,16 +56,18 @@ abbrev pub reason : {A E : Type 0} → (E → Why) → Result A E → Option Why
 reason why (Ok x) = None
 reason why (Err e) = Some (why e)
 
--- what bytes are refused for: a register file and a dump by their first refusals, an image for nothing
+-- what bytes are refused for: a register file, a dump and a trace by their first refusals, an image for nothing
 abbrev pub refusal_in : Form → (bytes : List ℕ) → Option Why
 refusal_in AsImage bytes = None
 refusal_in AsRegisters bytes = reason Regs (regs_of bytes)
 refusal_in AsDump bytes = reason Dump (dump_of bytes)
+refusal_in AsTrace bytes = reason Trace (trace_of bytes)
 
 -- a reason for which a file of this form may be refused
 abbrev pub IsOf : Form → Why → Type 0
 IsOf AsRegisters (Regs why) = Unit {0}
 IsOf AsDump (Dump why) = Unit {0}
+IsOf AsTrace (Trace why) = Unit {0}
 IsOf _ why = ⊥
 
 -- a file is there and isn't refused, as far as that is told

@@ -2,21 +2,24 @@
 use Rattle.std.specs.Prelude.{ℕ, List, Result, Ok, Err}
 use Rattle.walk_spec.specs.Walked.{HasLine}
 use Rattle.explain_text.specs.Explained.{explain_text}
+use Rattle.report_text.specs.Report.{report_text, ArePrintable}
 use Rattle.vmsa.specs.Texts.{raw_text}
 use Rattle.vmsa.specs.Answers.{Due}
 use Rattle.vmsa.specs.declared.answer.Answer.{Answer}
-use Rattle.vmsa.specs.declared.answer.Answer.TheVariants.{Raw, Explain}
+use Rattle.vmsa.specs.declared.answer.Answer.TheVariants.{Raw, Explain, Run}
 use Rattle.vmsa.specs.declared.status.Status.{Status}
 
 -- the text of an answer
 abbrev pub answer_text : Answer → List ℕ
 answer_text (Raw va walked) = raw_text va walked.trail walked.outcome
 answer_text (Explain regs access walked) = explain_text regs access walked.trail walked.outcome
+answer_text (Run machine) = report_text machine.log
 
--- its outcome has a line
+-- its outcomes have lines
 abbrev pub IsPrintable : Answer → Type 0
 IsPrintable (Raw va walked) = HasLine walked.outcome
 IsPrintable (Explain regs access walked) = HasLine walked.outcome
+IsPrintable (Run machine) = ArePrintable machine.log
 
 -- an answer's text, or a refusal
 abbrev pub due_of : Result Answer Status → Due

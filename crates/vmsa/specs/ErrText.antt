@@ -10,8 +10,10 @@ use Rattle.dump_file.specs.declared.refusal.DumpField.{DumpField}
 use Rattle.dump_file.specs.declared.refusal.DumpField.TheVariants.{Class, Encoding, Kind, Machine, EntrySize}
 use Rattle.dump_file.specs.declared.refusal.DumpRefusal.{DumpRefusal}
 use Rattle.dump_file.specs.declared.refusal.DumpRefusal.TheVariants.{NotElf, WrongKind, BadTable, TooMany, PastEnd}
+use Rattle.trace_lang.specs.declared.refusals.TraceRefusal.{TraceRefusal}
+use Rattle.trace_lang.specs.declared.refusals.TraceRefusal.TheVariants as trace
 use Rattle.vmsa.specs.declared.status.Why.{Why}
-use Rattle.vmsa.specs.declared.status.Why.TheVariants.{Word, Regs, Dump}
+use Rattle.vmsa.specs.declared.status.Why.TheVariants.{Word, Regs, Dump, Trace}
 use Rattle.vmsa.specs.declared.status.Status.{Status}
 use Rattle.vmsa.specs.declared.status.Status.TheVariants.{Done, Usage, NoFile, Refused, ReadFault, WriteFault, NoMemory}
 
@@ -44,11 +46,35 @@ dump_text BadTable = codes "bad table"
 dump_text TooMany = codes "too many segments"
 dump_text (PastEnd segment) = joined_text (codes "segment " ∷ decimal segment ∷ codes " past end" ∷ [])
 
+-- a refusal of a line of a trace
+abbrev pub line_why : (line : ℕ) (text : List ℕ) → List ℕ
+line_why n text = joined_text (codes "line " ∷ decimal n ∷ codes ": " ∷ text ∷ [])
+
+-- a refusal of a word of a line
+abbrev pub word_why : (line : ℕ) (text : List ℕ) (place : ℕ) → List ℕ
+word_why n text place = line_why n (text ++ decimal place)
+
+-- why a trace is refused
+abbrev pub trace_text : TraceRefusal → List ℕ
+trace_text (trace.TooLarge size) = codes "too large"
+trace_text (trace.NotText n) = line_why n (codes "not text")
+trace_text (trace.LongLine n) = line_why n (codes "long line")
+trace_text (trace.BadWord n place) = word_why n (codes "bad word ") place
+trace_text (trace.BadNumber n place) = word_why n (codes "bad number ") place
+trace_text (trace.OutOfRange n place) = word_why n (codes "out of range ") place
+trace_text (trace.Unsupported n at) = line_why n (codes "unsupported " ++ field_name_text at)
+trace_text (trace.NotAtEl1 n) = line_why n (codes "not at el1")
+trace_text (trace.TooMany n) = line_why n (codes "too many")
+trace_text trace.NoHeader = codes "no header"
+trace_text trace.NoEnd = codes "no end"
+trace_text (trace.AfterEnd n) = line_why n (codes "after end")
+
 -- what is refused, and why
 abbrev pub why_text : Why → List ℕ
 why_text (Word at) = codes "raw: unsupported " ++ field_name_text at
 why_text (Regs why) = codes "registers: " ++ registers_text why
 why_text (Dump why) = codes "dump: " ++ dump_text why
+why_text (Trace why) = codes "trace: " ++ trace_text why
 
 -- a line that begins with the program's name
 abbrev pub line_text : (text : List ℕ) → List ℕ
@@ -58,7 +84,8 @@ line_text text = joined_text (codes "vmsa: " ∷ text ∷ codes "\n" ∷ [])
 abbrev pub usage_text : List ℕ
 usage_text =
     joined_text
-    (codes "usage: vmsa raw IMAGE TCR TTBR0 VA\n" ∷ codes "usage: vmsa explain REGS DUMP VA EL KIND [pan]\n" ∷ [])
+    (codes "usage: vmsa raw IMAGE TCR TTBR0 VA\n" ∷ codes "usage: vmsa explain REGS DUMP VA EL KIND [pan]\n" ∷
+    codes "usage: vmsa run TRACE\n" ∷ [])
 
 -- the lines of a status, for standard error
 abbrev pub err_text : Status → List ℕ

@@ -2,7 +2,7 @@ ghost use Rattle.std.specs.Prelude.{◌≡◌, ◌≤◌, ◌+◌, ◌++◌, len
 ghost use Rattle.bitwords.specs.Causes.{HasCause};
 ghost use Rattle.explain_text.specs.Written.{Wrote};
 ghost use Rattle.texts.specs.declared.line.TheConstants.{LINE};
-ghost use Rattle.vmsa.specs.ErrText.{field_name_text, registers_text, wrong_text, dump_text, why_text, line_text, err_text};
+ghost use Rattle.vmsa.specs.ErrText.{field_name_text, registers_text, wrong_text, dump_text, line_why, word_why, trace_text, why_text, line_text, err_text};
 
 use crate::status::{Status, Why};
 use dump_file::{DumpField, DumpRefusal};
@@ -10,6 +10,7 @@ use explain_text::{Sink, WriteFailed};
 use reg_file::RegRefusal;
 use sysregs::Unsupported;
 use texts::Line;
+use trace_lang::TraceRefusal;
 
 /// `REG.FIELD`.
 fn field_name(line: &mut Line, at: &Unsupported)
@@ -82,6 +83,28 @@ fn dump(line: &mut Line, why: DumpRefusal)
             line.text(b"segment ");
         }
     }
+}
+
+/// Puts the number of a line of a trace before the refusal that stands.
+fn in_line(line: &mut Line, number: u32)
+    requires { 27 + length line.old ≤ LINE }
+    ensures text { line.new ≡ line_why number line.old }
+    ensures room { length line.new ≤ 27 + length line.old }
+{
+    line.text(b": ");
+    line.decimal(number as u64);
+    line.text(b"line ");
+}
+
+/// A refusal of a line.
+fn line_refusal(line: &mut Line, number: u32, text: &[u8])
+    requires empty { line.old ≡ [] }
+    requires short { length text.now ≤ 20 }
+    ensures text { line.new ≡ line_why number text.now }
+    ensures room { length line.new ≤ 47 }
+{
+    line.text(text);
+    in_line(line, number);
 }
 
 /// What is refused, and why.

@@ -5,6 +5,7 @@ use dump_file::DumpRefusal;
 use reg_file::{Name, RegRefusal};
 use std::alloc::Global;
 use sysregs::Unsupported;
+use trace_lang::TraceRefusal;
 
 /// Why what is asked for is refused.
 #[derive(Debug, Drop)]
@@ -15,6 +16,8 @@ pub enum Why {
     Regs { why: RegRefusal },
     /// The dump is refused.
     Dump { why: DumpRefusal },
+    /// The trace is refused.
+    Trace { why: TraceRefusal },
 }
 
 /// How a call of the program ends.
@@ -52,6 +55,16 @@ impl From<DumpRefusal> for Status {
     {
         Status::Refused {
             why: Why::Dump { why },
+        }
+    }
+}
+
+impl From<TraceRefusal> for Status {
+    fn from(why: TraceRefusal) -> Status
+        ensures { result ≡ Status.Refused (Why.Trace why) }
+    {
+        Status::Refused {
+            why: Why::Trace { why },
         }
     }
 }
