@@ -24,6 +24,7 @@ use Rattle.walk_spec.specs.Fresh.{start_base2}
 use Rattle.walk_spec.specs.Walked.{ReadsWord, Walked}
 use Rattle.walk_spec.proofs.Walks.{walked_done, walked_ends, walked_goes, walked_weaker}
 use Rattle.stage2_walk.specs.declared.walk.From2.{From2}
+use Rattle.translate.specs.Checked.{RegsAt}
 use Rattle.translate.specs.Parts.{refusal, begin2_of, root2_of}
 use Rattle.translate.specs.Deep.{Reads2, asked2_of, Walked2}
 use Rattle.translate.proofs.Choices.{on_with, off_with, ok_by, err_by}
@@ -46,31 +47,31 @@ rooted2 regs p from h = ok_by (is_too_large (sizes2 (config_of regs)) (start_bas
 pub refused_root2 : (regs : Regs) (p : Bool) (f : Fault) → Err f ≡ root2_of regs p → (is_too_large (sizes2 (config_of regs)) (start_base2 regs) ≡ true) × (f ≡ refusal S2 p AddressSize)
 refused_root2 regs p f h = err_by (is_too_large (sizes2 (config_of regs)) (start_base2 regs)) (refusal S2 p AddressSize) f (first2 regs) h
 
-module _ (regs : Regs) (m : Told) (p : Bool) (ipa : ℕ) where
+module _ (under : RegsAt) (m : Told) (p : Bool) (ipa : ℕ) where
   abbrev q : Asked2
-  q = asked2_of regs p ipa
+  q = asked2_of under.regs p ipa
 
   abbrev base : Item
-  base = base_item 0 S2 (sizes2 (config_of regs)) (start_base2 regs)
+  base = base_item under.moment S2 (sizes2 (config_of under.regs)) (start_base2 under.regs)
 
-  word_reads : (n : Need) (i : Item) → ReadsWord 0 m n i → Reads2 regs m n i
+  word_reads : (n : Need) (i : Item) → ReadsWord under.moment m n i → Reads2 under m n i
   word_reads base1 i h = absurd h
   word_reads (base2 _) i h = absurd h
   word_reads (word w) i h = h
 
   -- the IPA is refused
-  pub walked_refused2 : (F : Type 0) (old new : List Item) (s : Result Leaf2 Stop) → is_refused2 (config_of regs) ipa ≡ true → new ≡ old → s ≡ Err (FaultStop (refusal S2 p Translation)) → Walked2 m F regs p ipa old new s
+  pub walked_refused2 : (F : Type 0) (old new : List Item) (s : Result Leaf2 Stop) → is_refused2 (config_of under.regs) ipa ≡ true → new ≡ old → s ≡ Err (FaultStop (refusal S2 p Translation)) → Walked2 m F under p ipa old new s
   walked_refused2 F old new s h n e =
-      subst (λ t. Walked (Reads2 regs m) m F t old new s) (sym (on_with (is_refused2 (config_of regs) ipa) h (done (stops (fault2 q Translation most_left))) (ask (base2 ipa) (λ i. walk2_behind q i.value)))) (walked_done (Reads2 regs m) m F (stops (fault2 q Translation most_left)) old new s n e)
+      subst (λ t. Walked (Reads2 under m) m F t old new s) (sym (on_with (is_refused2 (config_of under.regs) ipa) h (done (stops (fault2 q Translation most_left))) (ask (base2 ipa) (λ i. walk2_behind q i.value)))) (walked_done (Reads2 under m) m F (stops (fault2 q Translation most_left)) old new s n e)
 
-  module _ (ok : is_refused2 (config_of regs) ipa ≡ false) (old mid : List Item) (kept : mid ≡ old ++ base ∷ []) where
+  module _ (ok : is_refused2 (config_of under.regs) ipa ≡ false) (old mid : List Item) (kept : mid ≡ old ++ base ∷ []) where
     asks : walk2 q ≡ ask (base2 ipa) (λ i. walk2_behind q i.value)
-    asks = off_with (is_refused2 (config_of regs) ipa) ok (done (stops (fault2 q Translation most_left))) (ask (base2 ipa) (λ i. walk2_behind q i.value))
+    asks = off_with (is_refused2 (config_of under.regs) ipa) ok (done (stops (fault2 q Translation most_left))) (ask (base2 ipa) (λ i. walk2_behind q i.value))
 
     -- the base is too large
-    pub walked_large2 : (F : Type 0) (s : Result Leaf2 Stop) → is_too_large (sizes2 (config_of regs)) (start_base2 regs) ≡ true → s ≡ Err (FaultStop (refusal S2 p AddressSize)) → Walked2 m F regs p ipa old mid s
-    walked_large2 F s h e = walked_ends (Reads2 regs m) m F _ (base2 ipa) _ base (stops (fault2 q AddressSize most_left)) old mid s asks kept refl (on_with _ h _ _) e
+    pub walked_large2 : (F : Type 0) (s : Result Leaf2 Stop) → is_too_large (sizes2 (config_of under.regs)) (start_base2 under.regs) ≡ true → s ≡ Err (FaultStop (refusal S2 p AddressSize)) → Walked2 m F under p ipa old mid s
+    walked_large2 F s h e = walked_ends (Reads2 under m) m F _ (base2 ipa) _ base (stops (fault2 q AddressSize most_left)) old mid s asks kept refl (on_with _ h _ _) e
 
     -- the walk goes on from the base
-    pub walked_from2 : (F : Type 0) (new : List Item) (s : Result Leaf2 Stop) → is_too_large (sizes2 (config_of regs)) (start_base2 regs) ≡ false → Walked (ReadsWord 0 m) m F (walk2_from q (sizes2 (config_of regs)).start (start_base2 regs)) mid new s → Walked2 m F regs p ipa old new s
-    walked_from2 F new s h w = walked_goes (Reads2 regs m) m F F _ (base2 ipa) _ base _ old mid new s asks kept refl (off_with _ h _ _) (λ f. f) (walked_weaker (ReadsWord 0 m) (Reads2 regs m) m F word_reads _ mid new s w)
+    pub walked_from2 : (F : Type 0) (new : List Item) (s : Result Leaf2 Stop) → is_too_large (sizes2 (config_of under.regs)) (start_base2 under.regs) ≡ false → Walked (ReadsWord under.moment m) m F (walk2_from q (sizes2 (config_of under.regs)).start (start_base2 under.regs)) mid new s → Walked2 m F under p ipa old new s
+    walked_from2 F new s h w = walked_goes (Reads2 under m) m F F _ (base2 ipa) _ base _ old mid new s asks kept refl (off_with _ h _ _) (λ f. f) (walked_weaker (ReadsWord under.moment m) (Reads2 under m) m F word_reads _ mid new s w)

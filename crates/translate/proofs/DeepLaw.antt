@@ -2,7 +2,6 @@
 use Rattle.std.proofs.Common.{◌≡◌, ℕ, ◌≤◌, List, [], ◌∷◌, ◌++◌, refl, ap, ◌∙◌, arith, Ok, Err, Result, true}
 use Rattle.std.specs.Prelude.{ℤ, IfErr}
 use Rattle.bitwords.specs.Causes.{Rose}
-use Rattle.sysregs.specs.declared.regs.Regs.{Regs}
 use Rattle.sysregs.specs.declared.regs.Side.{Side}
 use Rattle.sysregs.specs.Registers.{config_of}
 use Rattle.sysregs.specs.Sides.{side_of}
@@ -25,6 +24,7 @@ use Rattle.walk_spec.specs.Walked.{LacksFor, result_of, HasLineStop}
 use Rattle.walk_spec.proofs.Finer.{Walks, StopsBy, TellsEnd, ran_finer, Keeps, ran_keeps}
 use Rattle.stage1_walk.specs.Gave.{by_entry, Walked1, answer_of, HasCode}
 use Rattle.stage1_walk.proofs.OnEntries.{last_same}
+use Rattle.translate.specs.Checked.{RegsAt}
 use Rattle.translate.specs.Deep.{Reads2, StopTells, DeepGave, WalkedFrom1}
 use Rattle.translate.specs.declared.deep.Deep.{Deep}
 
@@ -34,7 +34,7 @@ module _ {S : Type 0} (memory : S → Told) (faults : S → ℕ) (keeps : S → 
 
   -- what each answer keeps
   pub record Stays (s t : Deep S) : Type 0 where
-    pub regs : t.under.now ≡ s.under.now
+    pub same_under : t.under.now ≡ s.under.now
     pub same_reference : t.supply.ghost_name ≡ s.supply.ghost_name
     pub same : memory t.supply.now ≡ memory s.supply.now
     pub later : faults s.supply.now ≤ faults t.supply.now
@@ -42,21 +42,21 @@ module _ {S : Type 0} (memory : S → Told) (faults : S → ℕ) (keeps : S → 
 
   stays_keeps : ((s : S) → keeps s s) → ((a b c : S) → keeps a b → keeps b c → keeps a c) → Keeps (by_entry gives) Stays
   stays_keeps here then = record {
-    here = λ s. record { regs = refl; same_reference = refl; same = refl; later = omega arith; kept = here s.supply.now };
-    then = λ a b d h k. record { regs = k.regs ∙ h.regs; same_reference = k.same_reference ∙ h.same_reference; same = k.same ∙ h.same; later = omega (arith, h.later, k.later); kept = then a.supply.now b.supply.now d.supply.now h.kept k.kept };
-    each = λ s e items r t h. record { regs = h.regs; same_reference = h.same_reference; same = h.same; later = h.later; kept = h.kept };
+    here = λ s. record { same_under = refl; same_reference = refl; same = refl; later = omega arith; kept = here s.supply.now };
+    then = λ a b d h k. record { same_under = k.same_under ∙ h.same_under; same_reference = k.same_reference ∙ h.same_reference; same = k.same ∙ h.same; later = omega (arith, h.later, k.later); kept = then a.supply.now b.supply.now d.supply.now h.kept k.kept };
+    each = λ s e items r t h. record { same_under = h.same_under; same_reference = h.same_reference; same = h.same; later = h.later; kept = h.kept };
   }
 
   -- what a walk over the supply keeps of it
-  pub deep_stays : ((s : S) → keeps s s) → ((a b c : S) → keeps a b → keeps b c → keeps a c) → (regs : Regs) (a : Access) (left : ℕ) (table : Table1) (s t : Deep S) (old new : List Item) (r : Result Leaf1 Stop) → Walked1 gives (asked (config_of regs) true a) left table s old new r t → Stays s t
-  deep_stays here then regs a left table s t old new r w = ran_keeps (λ i. i.value) (by_entry gives) Stays (stays_keeps here then) _ s w.more w.end t w.ran
+  pub deep_stays : ((s : S) → keeps s s) → ((a b c : S) → keeps a b → keeps b c → keeps a c) → (under : RegsAt) (a : Access) (left : ℕ) (table : Table1) (s t : Deep S) (old new : List Item) (r : Result Leaf1 Stop) → Walked1 gives (asked (config_of under.regs) true a) left table s old new r t → Stays s t
+  deep_stays here then under a left table s t old new r w = ran_keeps (λ i. i.value) (by_entry gives) Stays (stays_keeps here then) _ s w.more w.end t w.ran
 
-  module _ (regs : Regs) (side : Side) (m : Told) (f0 : ℕ) where
+  module _ (under : RegsAt) (side : Side) (m : Told) (f0 : ℕ) where
     abbrev pub how : Entry1 → Ask Need Item (Result Item Fault)
-    how = word_of (regime_of (config_of regs) side)
+    how = word_of (regime_of (config_of under.regs) side)
 
     pub record Kept (s : Deep S) : Type 0 where
-      pub regs_are : s.under.now ≡ regs
+      pub under_is : s.under.now ≡ under
       pub memory_is : memory s.supply.now ≡ m
       pub more : f0 ≤ faults s.supply.now
 
@@ -71,22 +71,22 @@ module _ {S : Type 0} (memory : S → Told) (faults : S → ℕ) (keeps : S → 
     stop_tells s' x f a b (lacks (word w)) h t = (ap Err t, misses_weaker m w.place _ _ (rose_weaker f0 f (faults s'.supply.now) (faults s'.supply.now) a (omega arith)) h)
 
     kept_then : (s s' : Deep S) → Kept s → s'.under.now ≡ s.under.now → memory s'.supply.now ≡ memory s.supply.now → faults s.supply.now ≤ faults s'.supply.now → Kept s'
-    kept_then s s' k u e l = record { regs_are = u ∙ k.regs_are; memory_is = e ∙ k.memory_is; more = omega (arith, l, k.more) }
+    kept_then s s' k u e l = record { under_is = u ∙ k.under_is; memory_is = e ∙ k.memory_is; more = omega (arith, l, k.more) }
 
-    word_law : (s : Deep S) (e : Entry1) (front : List Item) (i : Item) (s' : Deep S) → Kept s → by_entry gives s e (front ++ i ∷ []) (Ok i.value) s' → Took (Reads2 regs m) (how e) (front ++ i ∷ []) (ended (Ok i)) × Kept s'
+    word_law : (s : Deep S) (e : Entry1) (front : List Item) (i : Item) (s' : Deep S) → Kept s → by_entry gives s e (front ++ i ∷ []) (Ok i.value) s' → Took (Reads2 under m) (how e) (front ++ i ∷ []) (ended (Ok i)) × Kept s'
     word_law s e front i s' k h =
         let w = h.had side e refl refl in
         let j = last_same front w.0 i w.1 w.2 in
-        let t : Took (Reads2 regs m) (how e) (front ++ i ∷ []) (ended (Ok i)) = rw (← k.regs_are, ← k.memory_is) (rw (← j) at w.4) in
-        (t, kept_then s s' k h.regs h.same h.later)
+        let t : Took (Reads2 under m) (how e) (front ++ i ∷ []) (ended (Ok i)) = rw (← k.under_is, ← k.memory_is) (rw (← j) at w.4) in
+        (t, kept_then s s' k h.same_under h.same h.later)
 
-    stop_law : (s : Deep S) (e : Entry1) (items : List Item) (x : Stop) (s' : Deep S) → Kept s → by_entry gives s e items (Err x) s' → (d : Fed Need (Result Item Fault)) × Took (Reads2 regs m) (how e) items d × StopsBy stops (Tells s') x d
+    stop_law : (s : Deep S) (e : Entry1) (items : List Item) (x : Stop) (s' : Deep S) → Kept s → by_entry gives s e items (Err x) s' → (d : Fed Need (Result Item Fault)) × Took (Reads2 under m) (how e) items d × StopsBy stops (Tells s') x d
     stop_law s e items x s' k h =
         let w = h.had side e refl refl in
-        let t : Took (Reads2 regs m) (how e) items w.0 = rw (← k.regs_are, ← k.memory_is) w.1 in
+        let t : Took (Reads2 under m) (how e) items w.0 = rw (← k.under_is, ← k.memory_is) w.1 in
         (w.0, t, stop_tells s' x (faults s.supply.now) k.more h.later w.0 (rw k.memory_is at w.2) w.3)
 
-    pub law : Walks stops (λ i. i.value) (by_entry gives) (Reads2 regs m) how Kept Tells
+    pub law : Walks stops (λ i. i.value) (by_entry gives) (Reads2 under m) how Kept Tells
     law = record { word = word_law; stop = stop_law }
 
     told : (s' : Deep S) (end : Result (End Leaf1) Stop) (e : Fed Need (End Leaf1)) → TellsEnd (Tells s') end e → (answer_of end ≡ result_of e) × LacksFor m (Rose f0 (faults s'.supply.now)) e
@@ -95,13 +95,13 @@ module _ {S : Type 0} (memory : S → Told) (faults : S → ℕ) (keeps : S → 
     told s' (Err x) e h = h
 
   -- stage 1 over the supply is stage 1 with the stage 2 of its words
-  pub deep_walked : (regs : Regs) (a : Access) (left : ℕ) (table : Table1) (s s' : Deep S) (old new : List Item) (r : Result Leaf1 Stop) → s.under.now ≡ regs → Walked1 gives (asked (config_of regs) true a) left table s old new r s' → WalkedFrom1 (memory s.supply.now) (Rose (faults s.supply.now) (faults s'.supply.now)) regs a left table old new r
-  deep_walked regs a left table s s' old new r u w =
+  pub deep_walked : (under : RegsAt) (a : Access) (left : ℕ) (table : Table1) (s s' : Deep S) (old new : List Item) (r : Result Leaf1 Stop) → s.under.now ≡ under → Walked1 gives (asked (config_of under.regs) true a) left table s old new r s' → WalkedFrom1 (memory s.supply.now) (Rose (faults s.supply.now) (faults s'.supply.now)) under a left table old new r
+  deep_walked under a left table s s' old new r u w =
       let m = memory s.supply.now in
       let f0 = faults s.supply.now in
-      let k : Kept regs (side_of a.va) m f0 s = record { regs_are = u; memory_is = refl; more = omega arith } in
-      let d = ran_finer stops (λ i. i.value) (by_entry gives) (Reads2 regs m) (how regs (side_of a.va) m f0) (Kept regs (side_of a.va) m f0) (Tells regs (side_of a.va) m f0) (law regs (side_of a.va) m f0) _ s w.more w.end s' k w.ran in
-      let q = told regs (side_of a.va) m f0 s' w.end d.0 d.2 in
+      let k : Kept under (side_of a.va) m f0 s = record { under_is = u; memory_is = refl; more = omega arith } in
+      let d = ran_finer stops (λ i. i.value) (by_entry gives) (Reads2 under m) (how under (side_of a.va) m f0) (Kept under (side_of a.va) m f0) (Tells under (side_of a.va) m f0) (law under (side_of a.va) m f0) _ s w.more w.end s' k w.ran in
+      let q = told under (side_of a.va) m f0 s' w.end d.0 d.2 in
       record { more = w.more; end = d.0; grown = w.grown; took = d.1; cause = q.1; answer = w.answer ∙ q.0 }
 
 -- a stop of a walk that lacks only words is no conflict

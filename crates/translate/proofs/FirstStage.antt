@@ -31,6 +31,7 @@ use Rattle.walk_spec.specs.Walked.{ReadsNow, Walked}
 use Rattle.walk_spec.proofs.Walks.{walked_done, walked_ends, walked_goes, walked_weaker}
 use Rattle.stage1_walk.specs.declared.walk.From1.{From1}
 use Rattle.translate.specs.declared.begin.Begin1.TheVariants.{Off, On}
+use Rattle.translate.specs.Checked.{RegsAt}
 use Rattle.translate.specs.Parts.{refusal, begin1_on, begin1_of, root1_of}
 use Rattle.translate.specs.Deep.{Reads2, WalkedFrom1, WalkedOn1, WalkedStage1, leaf_answer}
 use Rattle.translate.proofs.Choices.{on_with, off_with, ok_by, err_by}
@@ -76,55 +77,55 @@ rooted1 regs s from h = ok_by (is_too_large (sizes1 (config_of regs) s) (start_b
 pub refused_root1 : (regs : Regs) (s : Side) (f : Fault) → Err f ≡ root1_of regs s → (is_too_large (sizes1 (config_of regs) s) (start_base1 regs s) ≡ true) × (f ≡ refusal S1 false AddressSize)
 refused_root1 regs s f h = err_by (is_too_large (sizes1 (config_of regs) s) (start_base1 regs s)) (refusal S1 false AddressSize) f (first1 regs s) h
 
-module _ (regs : Regs) (a : Access) (m : Told) where
+module _ (under : RegsAt) (a : Access) (m : Told) where
   abbrev pub q : Asked
-  q = asked (config_of regs) true a
+  q = asked (config_of under.regs) true a
 
   abbrev pub reads : Need → Item → Type 0
-  reads = ReadsNow regs (side_of a.va) 0 m
+  reads = ReadsNow under.regs (side_of a.va) under.moment m
 
   abbrev first_item : Item
-  first_item = base_item 0 S1 (sizes1 (config_of regs) (side_of a.va)) (start_base1 regs (side_of a.va))
+  first_item = base_item under.moment S1 (sizes1 (config_of under.regs) (side_of a.va)) (start_base1 under.regs (side_of a.va))
 
   -- what is read behind the base of stage 1 is read now
-  pub read_now : (n : Need) (i : Item) → Reads2 regs m n i → reads n i
+  pub read_now : (n : Need) (i : Item) → Reads2 under m n i → reads n i
   read_now base1 i h = absurd h
   read_now (base2 _) i h = h
   read_now (word w) i h = h
 
-  module _ (ok : is_refused1 (config_of regs) a ≡ false) (mid : List Item) (kept : mid ≡ first_item ∷ []) where
+  module _ (ok : is_refused1 (config_of under.regs) a ≡ false) (mid : List Item) (kept : mid ≡ first_item ∷ []) where
     asks : stage1_on q ≡ ask base1 (λ i. stage1_behind q i.value)
-    asks = off_with (is_refused1 (config_of regs) a) ok (done (stops (fault1 Translation most_left))) (ask base1 (λ i. stage1_behind q i.value))
+    asks = off_with (is_refused1 (config_of under.regs) a) ok (done (stops (fault1 Translation most_left))) (ask base1 (λ i. stage1_behind q i.value))
 
     -- the base is too large
-    pub walked_large1 : (F : Type 0) (s : Result Leaf1 Stop) → is_too_large (sizes1 (config_of regs) (side_of a.va)) (start_base1 regs (side_of a.va)) ≡ true → s ≡ Err (FaultStop (refusal S1 false AddressSize)) → WalkedOn1 m F regs a mid s
+    pub walked_large1 : (F : Type 0) (s : Result Leaf1 Stop) → is_too_large (sizes1 (config_of under.regs) (side_of a.va)) (start_base1 under.regs (side_of a.va)) ≡ true → s ≡ Err (FaultStop (refusal S1 false AddressSize)) → WalkedOn1 m F under a mid s
     walked_large1 F s h e = walked_ends reads m F _ base1 _ first_item (stops (fault1 AddressSize most_left)) [] mid s asks kept refl (on_with _ h _ _) e
 
     -- the walk goes on from the base
-    pub walked_from1 : (F : Type 0) (new : List Item) (s : Result Leaf1 Stop) → is_too_large (sizes1 (config_of regs) (side_of a.va)) (start_base1 regs (side_of a.va)) ≡ false → WalkedFrom1 m F regs a (sizes1 (config_of regs) (side_of a.va)).start record { address = start_base1 regs (side_of a.va); bits = no_bits } mid new s → WalkedOn1 m F regs a new s
+    pub walked_from1 : (F : Type 0) (new : List Item) (s : Result Leaf1 Stop) → is_too_large (sizes1 (config_of under.regs) (side_of a.va)) (start_base1 under.regs (side_of a.va)) ≡ false → WalkedFrom1 m F under a (sizes1 (config_of under.regs) (side_of a.va)).start record { address = start_base1 under.regs (side_of a.va); bits = no_bits } mid new s → WalkedOn1 m F under a new s
     walked_from1 F new s h w =
-        walked_goes reads m F F _ base1 _ first_item _ [] mid new s asks kept refl (off_with _ h _ _) (λ f. f) (walked_weaker (Reads2 regs m) reads m F read_now _ mid new s w)
+        walked_goes reads m F F _ base1 _ first_item _ [] mid new s asks kept refl (off_with _ h _ _) (λ f. f) (walked_weaker (Reads2 under m) reads m F read_now _ mid new s w)
 
   -- stage 1 is refused
-  refused_at : (F : Type 0) (old new : List Item) (f : Fault) (b : Bool) → Err f ≡ (if b then begin1_on (config_of regs) a else (if is_refused_off (config_of regs) a then Err (refusal S1 false AddressSize) else Ok (Off (a.va % 2 ^ 52)))) → new ≡ old → Walked reads m F (if b then stage1_on q else stage1_off q) old new (Err (FaultStop f))
+  refused_at : (F : Type 0) (old new : List Item) (f : Fault) (b : Bool) → Err f ≡ (if b then begin1_on (config_of under.regs) a else (if is_refused_off (config_of under.regs) a then Err (refusal S1 false AddressSize) else Ok (Off (a.va % 2 ^ 52)))) → new ≡ old → Walked reads m F (if b then stage1_on q else stage1_off q) old new (Err (FaultStop f))
   refused_at F old new f true h n =
-      let k = err_by (is_refused1 (config_of regs) a) (refusal S1 false Translation) f _ h in
-      subst (λ t. Walked reads m F t old new (Err (FaultStop f))) (sym (on_with (is_refused1 (config_of regs) a) k.0 (done (stops (fault1 Translation most_left))) (ask base1 (λ i. stage1_behind q i.value)))) (walked_done reads m F (stops (fault1 Translation most_left)) old new (Err (FaultStop f)) n (ap (λ x. Err (FaultStop x)) k.1))
+      let k = err_by (is_refused1 (config_of under.regs) a) (refusal S1 false Translation) f _ h in
+      subst (λ t. Walked reads m F t old new (Err (FaultStop f))) (sym (on_with (is_refused1 (config_of under.regs) a) k.0 (done (stops (fault1 Translation most_left))) (ask base1 (λ i. stage1_behind q i.value)))) (walked_done reads m F (stops (fault1 Translation most_left)) old new (Err (FaultStop f)) n (ap (λ x. Err (FaultStop x)) k.1))
   refused_at F old new f false h n =
-      let k = err_by (is_refused_off (config_of regs) a) (refusal S1 false AddressSize) f _ h in
-      subst (λ (t : End Leaf1). Walked reads m F (done t) old new (Err (FaultStop f))) (sym (on_with (is_refused_off (config_of regs) a) k.0 (stops (fault1 AddressSize most_left)) (reaches (off_leaf (config_of regs) a)))) (walked_done reads m F (stops (fault1 AddressSize most_left)) old new (Err (FaultStop f)) n (ap (λ x. Err (FaultStop x)) k.1))
+      let k = err_by (is_refused_off (config_of under.regs) a) (refusal S1 false AddressSize) f _ h in
+      subst (λ (t : End Leaf1). Walked reads m F (done t) old new (Err (FaultStop f))) (sym (on_with (is_refused_off (config_of under.regs) a) k.0 (stops (fault1 AddressSize most_left)) (reaches (off_leaf (config_of under.regs) a)))) (walked_done reads m F (stops (fault1 AddressSize most_left)) old new (Err (FaultStop f)) n (ap (λ x. Err (FaultStop x)) k.1))
 
-  pub stage_refused : (F : Type 0) (new : List Item) (f : Fault) → Err f ≡ begin1_of (config_of regs) a → new ≡ [] → WalkedStage1 m F regs a new (Err (FaultStop f))
-  stage_refused F new f h n = refused_at F [] new f (config_of regs).m h n
+  pub stage_refused : (F : Type 0) (new : List Item) (f : Fault) → Err f ≡ begin1_of (config_of under.regs) a → new ≡ [] → WalkedStage1 m F under a new (Err (FaultStop f))
+  stage_refused F new f h n = refused_at F [] new f (config_of under.regs).m h n
 
   -- stage 1 is off
-  pub stage_off : (F : Type 0) (new : List Item) → ((config_of regs).m ≡ false) × (is_refused_off (config_of regs) a ≡ false) → new ≡ [] → WalkedStage1 m F regs a new (Ok None)
+  pub stage_off : (F : Type 0) (new : List Item) → ((config_of under.regs).m ≡ false) × (is_refused_off (config_of under.regs) a ≡ false) → new ≡ [] → WalkedStage1 m F under a new (Ok None)
   stage_off F new h n =
-      let s : stage1_off q ≡ done (reaches (off_leaf (config_of regs) a)) = ap done (off_with (is_refused_off (config_of regs) a) h.1 (stops (fault1 AddressSize most_left)) (reaches (off_leaf (config_of regs) a))) in
-      let t = off_with (config_of regs).m h.0 (stage1_on q) (stage1_off q) in
-      subst (λ t. Walked reads m F t [] new (Ok (off_leaf (config_of regs) a))) (sym t) (subst (λ t. Walked reads m F t [] new (Ok (off_leaf (config_of regs) a))) (sym s) (walked_done reads m F (reaches (off_leaf (config_of regs) a)) [] new (Ok (off_leaf (config_of regs) a)) n refl))
+      let s : stage1_off q ≡ done (reaches (off_leaf (config_of under.regs) a)) = ap done (off_with (is_refused_off (config_of under.regs) a) h.1 (stops (fault1 AddressSize most_left)) (reaches (off_leaf (config_of under.regs) a))) in
+      let t = off_with (config_of under.regs).m h.0 (stage1_on q) (stage1_off q) in
+      subst (λ t. Walked reads m F t [] new (Ok (off_leaf (config_of under.regs) a))) (sym t) (subst (λ t. Walked reads m F t [] new (Ok (off_leaf (config_of under.regs) a))) (sym s) (walked_done reads m F (reaches (off_leaf (config_of under.regs) a)) [] new (Ok (off_leaf (config_of under.regs) a)) n refl))
 
   -- stage 1 is on
-  pub stage_on : (F : Type 0) (new : List Item) (r : Result Leaf1 Stop) (s : Result (Option Leaf1) Stop) → (config_of regs).m ≡ true → leaf_answer (config_of regs) a s ≡ r → WalkedOn1 m F regs a new r → WalkedStage1 m F regs a new s
+  pub stage_on : (F : Type 0) (new : List Item) (r : Result Leaf1 Stop) (s : Result (Option Leaf1) Stop) → (config_of under.regs).m ≡ true → leaf_answer (config_of under.regs) a s ≡ r → WalkedOn1 m F under a new r → WalkedStage1 m F under a new s
   stage_on F new r s h e w =
-      subst (λ t. Walked reads m F t [] new (leaf_answer (config_of regs) a s)) (sym (on_with (config_of regs).m h (stage1_on q) (stage1_off q))) (subst (λ r. Walked reads m F (stage1_on q) [] new r) (sym e) w)
+      subst (λ t. Walked reads m F t [] new (leaf_answer (config_of under.regs) a s)) (sym (on_with (config_of under.regs).m h (stage1_on q) (stage1_off q))) (subst (λ r. Walked reads m F (stage1_on q) [] new r) (sym e) w)

@@ -30,14 +30,15 @@ use Rattle.walk_spec.specs.Stage1.{word_of, stage1_from}
 use Rattle.walk_spec.specs.BothStages.{asked, stage1, stage1_on}
 use Rattle.walk_spec.specs.Fresh.{start_base2}
 use Rattle.walk_spec.specs.Walked.{ReadsWord, ReadsNow, LacksFor, Walked}
+use Rattle.translate.specs.Checked.{RegsAt}
 use Rattle.translate.specs.Parts.{leaf1_or_off}
 use Rattle.translate.specs.declared.deep.Deep.{Deep}
 
--- an item behind the base of stage 1: the base of stage 2 of the registers, or a word, read at moment 0
-abbrev pub Reads2 : (regs : Regs) (told : Told) (need : Need) (item : Item) → Type 0
-Reads2 regs m base1 i = ⊥
-Reads2 regs m (base2 _) i = i ≡ base_item 0 S2 (sizes2 (config_of regs)) (start_base2 regs)
-Reads2 regs m (word w) i = ReadsWord 0 m (word w) i
+-- an item behind the base of stage 1: the base of stage 2 of the registers, or a word, read at the moment
+abbrev pub Reads2 : (under : RegsAt) (told : Told) (need : Need) (item : Item) → Type 0
+Reads2 u m base1 i = ⊥
+Reads2 u m (base2 _) i = i ≡ base_item u.moment S2 (sizes2 (config_of u.regs)) (start_base2 u.regs)
+Reads2 u m (word w) i = ReadsWord u.moment m (word w) i
 
 -- what stage 2 is asked under registers
 abbrev pub asked2_of : (regs : Regs) (s1ptw : Bool) (ipa : ℕ) → Asked2
@@ -45,13 +46,13 @@ asked2_of regs s1ptw ipa = record { config = config_of regs; sizes = sizes2 (con
 
 -- Stage 2 was walked for an IPA. (More than six parameters: what the supply tells, the walk, and the trail before and
 -- after.)
-abbrev pub Walked2 : (told : Told) (failed : Type 0) (regs : Regs) (s1ptw : Bool) (ipa : ℕ) (old new : List Item)
+abbrev pub Walked2 : (told : Told) (failed : Type 0) (under : RegsAt) (s1ptw : Bool) (ipa : ℕ) (old new : List Item)
     (result : Result Leaf2 Stop) → Type 0
-Walked2 told failed regs s1ptw ipa old new r = Walked (Reads2 regs told) told failed (walk2 (asked2_of regs s1ptw ipa)) old new r
+Walked2 told failed u s1ptw ipa old new r = Walked (Reads2 u told) told failed (walk2 (asked2_of u.regs s1ptw ipa)) old new r
 
--- stage 1 at moment 0
-abbrev pub walker1 : Walker
-walker1 = record { moment = 0; stage = S1; s1ptw = false }
+-- stage 1 at a moment
+abbrev pub walker1 : (moment : ℕ) → Walker
+walker1 k = record { moment = k; stage = S1; s1ptw = false }
 
 -- how a stop tells the end of a word's walk
 abbrev pub StopTells : (stop : Stop) (end : Fed Need (Result Item Fault)) → Type 0
@@ -62,35 +63,35 @@ StopTells x (lacks (base2 _)) = ⊥
 StopTells x (lacks (word w)) = x ≡ Absent w.stage (level_of w.left) w.place w.s1ptw
 
 -- A word was had by a walk: the last item that was taken is the word's, or the walk stopped.
-abbrev pub HadWord : (regs : Regs) (told : Told) (failed : Type 0) (t : Ask Need Item (Result Item Fault)) (items : List Item)
+abbrev pub HadWord : (under : RegsAt) (told : Told) (failed : Type 0) (t : Ask Need Item (Result Item Fault)) (items : List Item)
     (result : Result ℕ Stop) → Type 0
-HadWord regs m failed t items (Ok v) =
-    (front : List Item) × (i : Item) × (items ≡ front ++ i ∷ []) × (v ≡ i.value) × Took (Reads2 regs m) t items (ended (Ok i))
-HadWord regs m failed t items (Err x) =
-    (e : Fed Need (Result Item Fault)) × Took (Reads2 regs m) t items e × LacksFor m failed e × StopTells x e
+HadWord u m failed t items (Ok v) =
+    (front : List Item) × (i : Item) × (items ≡ front ++ i ∷ []) × (v ≡ i.value) × Took (Reads2 u m) t items (ended (Ok i))
+HadWord u m failed t items (Err x) =
+    (e : Fed Need (Result Item Fault)) × Took (Reads2 u m) t items e × LacksFor m failed e × StopTells x e
 
--- What the supply gives for a level and a place: it stays the same supply under the same registers, and the word was
+-- What the supply gives for a level and a place: it stays the same supply under the same registers and moment, and the word was
 -- had, for whatever entry of that level and place. (More than six parameters: the supply and its meanings, and the call.)
 pub record DeepGave {S : Type 0} (memory : S → Told) (faults : S → ℕ) (keeps : S → S → Type 0) (s : Deep S) (level : ℤ) (place : ℕ)
     (items : List Item) (r : Result ℕ Stop) (t : Deep S) : Type 0 where
-  pub regs : t.under.now ≡ s.under.now
+  pub same_under : t.under.now ≡ s.under.now
   pub same_reference : t.supply.ghost_name ≡ s.supply.ghost_name
   pub same : memory t.supply.now ≡ memory s.supply.now
   pub later : faults s.supply.now ≤ faults t.supply.now
   pub kept : keeps s.supply.now t.supply.now
   pub had : (side : Side) (e : Entry1) → level_of e.left ≡ level → e.place ≡ place
       → HadWord s.under.now (memory s.supply.now) (Rose (faults s.supply.now) (faults t.supply.now))
-      (word_of (regime_of (config_of s.under.now) side) e) items r
+      (word_of (regime_of (config_of s.under.now.regs) side) e) items r
 
 -- Stage 1 was walked from a table, with the stage 2 of its words. (More than six parameters, as above.)
-abbrev pub WalkedFrom1 : (told : Told) (failed : Type 0) (regs : Regs) (access : Access) (left : ℕ) (table : Table1) (old new : List Item)
+abbrev pub WalkedFrom1 : (told : Told) (failed : Type 0) (under : RegsAt) (access : Access) (left : ℕ) (table : Table1) (old new : List Item)
     (result : Result Leaf1 Stop) → Type 0
-WalkedFrom1 told failed regs a left table old new r =
-    Walked (Reads2 regs told) told failed (stage1_from (asked (config_of regs) true a) left table) old new r
+WalkedFrom1 told failed u a left table old new r =
+    Walked (Reads2 u told) told failed (stage1_from (asked (config_of u.regs) true a) left table) old new r
 
 -- Stage 1 was walked from its base. (More than six parameters, as above.)
-abbrev pub WalkedOn1 : (told : Told) (failed : Type 0) (regs : Regs) (access : Access) (new : List Item) (result : Result Leaf1 Stop) → Type 0
-WalkedOn1 told failed regs a new r = Walked (ReadsNow regs (side_of a.va) 0 told) told failed (stage1_on (asked (config_of regs) true a)) [] new r
+abbrev pub WalkedOn1 : (told : Told) (failed : Type 0) (under : RegsAt) (access : Access) (new : List Item) (result : Result Leaf1 Stop) → Type 0
+WalkedOn1 told failed u a new r = Walked (ReadsNow u.regs (side_of a.va) u.moment told) told failed (stage1_on (asked (config_of u.regs) true a)) [] new r
 
 -- what stage 1 answers, on or off, as a leaf
 abbrev pub leaf_answer : (config : Config) (access : Access) (answer : Result (Option Leaf1) Stop) → Result Leaf1 Stop
@@ -98,9 +99,9 @@ leaf_answer c a (Ok l) = Ok (leaf1_or_off c a l)
 leaf_answer c a (Err stop) = Err stop
 
 -- stage 1 was walked, on or off
-abbrev pub WalkedStage1 : (told : Told) (failed : Type 0) (regs : Regs) (access : Access) (new : List Item) (result : Result (Option Leaf1) Stop) → Type 0
-WalkedStage1 told failed regs a new r =
-    Walked (ReadsNow regs (side_of a.va) 0 told) told failed (stage1 (asked (config_of regs) true a)) [] new (leaf_answer (config_of regs) a r)
+abbrev pub WalkedStage1 : (told : Told) (failed : Type 0) (under : RegsAt) (access : Access) (new : List Item) (result : Result (Option Leaf1) Stop) → Type 0
+WalkedStage1 told failed u a new r =
+    Walked (ReadsNow u.regs (side_of a.va) u.moment told) told failed (stage1 (asked (config_of u.regs) true a)) [] new (leaf_answer (config_of u.regs) a r)
 
 -- how an access comes out by an answer or a stop
 abbrev pub outcome_by : (answer : Result Outcome Stop) → Outcome

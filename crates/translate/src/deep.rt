@@ -29,12 +29,12 @@ pub struct Deep<'a, S> {
     supply: &'a mut S,
 }
 
-/// Stage 1 at moment 0.
-fn walker1() -> Walker
-    ensures { result ≡ walker1 }
+/// Stage 1 at a moment.
+fn walker1(moment: u32) -> Walker
+    ensures { result ≡ walker1 moment }
 {
     Walker {
-        moment: 0,
+        moment,
         stage: Stage::S1,
         s1ptw: false,
     }
@@ -45,8 +45,9 @@ impl<'a, S: Supply> Supply1 for Deep<'a, S> {
 
     fn word_at(&mut self, level: i8, ipa: u64, trail: &mut Trail) -> Result<u64, Stop> {
         let config = self.under.config();
+        let walker = walker1(self.under.moment());
         if !config.vm {
-            return read(&walker1(), level, ipa, self.supply, trail);
+            return read(&walker, level, ipa, self.supply, trail);
         }
         let leaf = match stage2(self.under, ipa, true, self.supply, trail) {
             Ok(leaf) => leaf,
@@ -55,7 +56,7 @@ impl<'a, S: Supply> Supply1 for Deep<'a, S> {
         if let Err(fault) = descriptor_read(config, &leaf) {
             return Err(Stop::Fault { fault });
         }
-        read(&walker1(), level, leaf.pa, self.supply, trail)
+        read(&walker, level, leaf.pa, self.supply, trail)
     }
 }
 
@@ -89,8 +90,8 @@ fn walk_kept<S: Supply>(
     trail: &mut Trail,
 ) -> Result<Leaf1, Stop>
     requires under { deep.old.under.now ≡ under.now }
-    requires accepted { IsFalse (is_refused1 (config_of under.now) access.now) }
-    requires table { IsTableOf (config_of under.now) (side_of access.now.va) from.now }
+    requires accepted { IsFalse (is_refused1 (config_of under.now.regs) access.now) }
+    requires table { IsTableOf (config_of under.now.regs) (side_of access.now.va) from.now }
     requires room { length trail.old + most_per_word * (left_below from.now.level + 1) ≤ most_items }
     ensures same_reference { deep.new.supply.ghost_name ≡ deep.old.supply.ghost_name }
     ensures same { S.memory deep.new.supply.now ≡ S.memory deep.old.supply.now }
@@ -112,8 +113,8 @@ pub(crate) fn stage1_from<S: Supply>(
     supply: &mut S,
     trail: &mut Trail,
 ) -> Result<Leaf1, Stop>
-    requires accepted { IsFalse (is_refused1 (config_of under.now) access.now) }
-    requires table { IsTableOf (config_of under.now) (side_of access.now.va) from.now }
+    requires accepted { IsFalse (is_refused1 (config_of under.now.regs) access.now) }
+    requires table { IsTableOf (config_of under.now.regs) (side_of access.now.va) from.now }
     requires room { length trail.old + most_per_word * (left_below from.now.level + 1) ≤ most_items }
     ensures same { S.memory supply.new ≡ S.memory supply.old }
     ensures later { S.faults supply.old ≤ S.faults supply.new }

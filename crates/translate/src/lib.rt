@@ -14,7 +14,7 @@ mod whole;
 
 pub use begin::Begin1;
 pub use replayed::Replay;
-pub use whole::translate;
+pub use whole::{translate, translate_at};
 
 #[cfg(test)]
 mod tests;

@@ -28,9 +28,9 @@ fn stage1_on<S: Supply>(
     supply: &mut S,
     trail: &mut Trail,
 ) -> Result<Leaf1, Stop>
-    requires accepted { IsFalse (is_refused1 (config_of under.now) access.now) }
+    requires accepted { IsFalse (is_refused1 (config_of under.now.regs) access.now) }
     requires side { side ≡ side_of access.now.va }
-    requires level { level ≡ level_of (sizes1 (config_of under.now) (side_of access.now.va)).start }
+    requires level { level ≡ level_of (sizes1 (config_of under.now.regs) (side_of access.now.va)).start }
     requires empty { trail.old ≡ [] }
     ensures same { S.memory supply.new ≡ S.memory supply.old }
     ensures later { S.faults supply.old ≤ S.faults supply.new }
@@ -39,7 +39,7 @@ fn stage1_on<S: Supply>(
     ensures line { IfErr result HasLineStop }
     ensures walked { WalkedOn1 (S.memory supply.old) (Rose (S.faults supply.old) (S.faults supply.new)) under.now access.now trail.new result }
 {
-    let from = match root1(under.regs(), under.config(), side, level, 0, trail) {
+    let from = match root1(under.regs(), under.config(), side, level, under.moment(), trail) {
         Ok(from) => from,
         Err(fault) => return Err(Stop::Fault { fault }),
     };
@@ -59,7 +59,7 @@ pub(crate) fn stage1<S: Supply>(
     ensures kept { S.keeps supply.old supply.new }
     ensures most { length trail.new + most_items2 ≤ most_items }
     ensures line { IfErr result HasLineStop }
-    ensures on { IfOk result (λ leaf. IsTrue (config_of under.now).m ↔ IsSome leaf) }
+    ensures on { IfOk result (λ leaf. IsTrue (config_of under.now.regs).m ↔ IsSome leaf) }
     ensures walked { WalkedStage1 (S.memory supply.old) (Rose (S.faults supply.old) (S.faults supply.new)) under.now access.now trail.new result }
 {
     let (side, level) = match begin1(under.config(), access) {

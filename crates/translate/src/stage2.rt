@@ -19,29 +19,43 @@ use table_reads::Supply;
 use trails::{Stop, Trail};
 use walk_spec::Leaf2;
 
+/// What stage 2 is asked: an IPA in bytes, whether it is the place of a stage 1 descriptor, and the moment of the items.
+#[derive(Drop)]
+struct Asked<'a> {
+    config: &'a Config,
+    ipa: u64,
+    s1ptw: bool,
+    moment: u32,
+}
+
 /// The walk from a table, by the granule of stage 2.
 fn walk_granule<S: Supply>(
-    config: &Config,
+    asked: &Asked,
     from: &From2,
-    ipa: u64,
-    ptw: bool,
     supply: &mut S,
     trail: &mut Trail,
 ) -> Result<Leaf2, Stop>
-    requires config { InRange config.now }
-    requires accepted { IsFalse (is_refused2 config.now ipa) }
-    requires table { IsTableOf config.now from.now }
+    requires config { InRange asked.now.config.now }
+    requires accepted { IsFalse (is_refused2 asked.now.config.now asked.now.ipa) }
+    requires table { IsTableOf asked.now.config.now from.now }
     requires room { length trail.old + left_below from.now.level < most_items }
     ensures same { S.memory supply.new ≡ S.memory supply.old }
     ensures later { S.faults supply.old ≤ S.faults supply.new }
     ensures kept { S.keeps supply.old supply.new }
     ensures most { length trail.new ≤ length trail.old + left_below from.now.level + 1 }
     ensures line { IfErr result HasLineStop }
-    ensures sound { IfOk result (IsSoundLeaf ipa) }
+    ensures sound { IfOk result (IsSoundLeaf asked.now.ipa) }
     ensures walked { WalkedFrom (S.memory supply.old) (Rose (S.faults supply.old) (S.faults supply.new))
-        (record { config = config.now; ipa = ipa; s1ptw = ptw; moment = 0; from = from.now }) trail.old trail.new result }
+        (record { config = asked.now.config.now; ipa = asked.now.ipa; s1ptw = asked.now.s1ptw; moment = asked.now.moment; from = from.now })
+        trail.old trail.new result }
 {
-    case_table!(granule config.tg2; walk2::<_, S>(config, from, ipa, ptw, 0, supply, trail))
+    let Asked {
+        config,
+        ipa,
+        s1ptw,
+        moment,
+    } = *asked;
+    case_table!(granule config.tg2; walk2::<_, S>(config, from, ipa, s1ptw, moment, supply, trail))
 }
 
 /// Stage 2 for an IPA. `ptw` marks the place of a stage 1 descriptor.
@@ -67,9 +81,15 @@ pub(crate) fn stage2<S: Supply>(
         Ok(level) => level,
         Err(fault) => return Err(Stop::Fault { fault }),
     };
-    let from = match root2(under.regs(), config, level, ptw, 0, trail) {
+    let from = match root2(under.regs(), config, level, ptw, under.moment(), trail) {
         Ok(from) => from,
         Err(fault) => return Err(Stop::Fault { fault }),
     };
-    walk_granule(config, &from, ipa, ptw, supply, trail)
+    let asked = Asked {
+        config,
+        ipa,
+        s1ptw: ptw,
+        moment: under.moment(),
+    };
+    walk_granule(&asked, &from, supply, trail)
 }

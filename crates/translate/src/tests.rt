@@ -16,13 +16,13 @@ use crate::tests::reached::REACHED;
 use crate::tests::refused::REFUSED;
 use crate::tests::sizes::SIZES;
 use crate::tests::worked::WORKED;
-use crate::{Replay, translate};
+use crate::{Replay, translate, translate_at};
 use stage2_walk::{Replay2, replay2};
 use std::process::Abort;
 use sysregs::fields::{check_reg, config};
 use sysregs::{Reg, Regs};
 use table_reads::Supply;
-use trails::{Outcome, What};
+use trails::{Item, Outcome, What};
 
 /// The first word of a place.
 fn first(words: &[(u64, u64)], pa: u64) -> Option<u64>
@@ -91,6 +91,26 @@ fn expect(rt: &impl Abort, case: &Case) -> usize {
     found.len()
 }
 
+/// Asserts that a translation at moment 7 has the same items and end, with that moment in each item.
+fn expect_later(rt: &impl Abort, case: &Case) {
+    assert!(rt; are_accepted(&case.regs), "{}", case.name);
+    let mut supply = Words {
+        words: case.words,
+        asked: 0,
+    };
+    let (outcome, trail) = translate_at(&case.regs, &case.access(), 7, &mut supply);
+    let found = trail.items();
+    for (item, given) in found.iter().zip(case.items) {
+        let wanted = Item {
+            moment: 7,
+            ..given.item()
+        };
+        assert_eq!(rt; *item, wanted, "{}", case.name);
+    }
+    assert_eq!(rt; found.len(), case.items.len(), "{}", case.name);
+    assert_eq!(rt; outcome, case.outcome.outcome(), "{}", case.name);
+}
+
 /// Asserts that a trail is replayed to the end of its walk by all its items, unless a word was lacking, and that its base
 /// alone needs more where it is of stage 1. It answers how many items there are.
 fn expect_again(rt: &impl Abort, case: &Case) -> usize {
@@ -149,6 +169,7 @@ fn translations(rt: HostRuntime) {
     ] {
         for case in table {
             longest = expect(&rt, case).max(longest);
+            expect_later(&rt, case);
             let again = expect_again(&rt, case);
             if again == 30 {
                 expect_output(&rt, case, 0x5abc);

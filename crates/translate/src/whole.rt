@@ -39,7 +39,7 @@ fn whole<S: Supply>(
     ensures kept { S.keeps supply.old supply.new }
     ensures line { IfOk result HasLine }
     ensures stop { IfErr result HasLineStop }
-    ensures walked { WalkedWhole under.now access.now 0 (S.memory supply.old) (Rose (S.faults supply.old) (S.faults supply.new))
+    ensures walked { WalkedWhole under.now.regs access.now under.now.moment (S.memory supply.old) (Rose (S.faults supply.old) (S.faults supply.new))
         trail.new (outcome_by result) }
 {
     let config = under.config();
@@ -81,6 +81,31 @@ fn stopped(stop: Stop) -> Outcome
     }
 }
 
+/// The walk of an access through both stages: how it comes out, and the items that it used, all of moment `now`. Where
+/// the supply tells its memory and does not fail, both are those of the fresh walk. It is never a conflict, and a fault
+/// has a status code.
+pub fn translate_at<S: Supply>(
+    regs: &Regs,
+    access: &Access,
+    now: u32,
+    supply: &mut S,
+) -> (Outcome, Trail)
+    requires accepted { AreAccepted regs.now }
+    ensures same { S.memory supply.new ≡ S.memory supply.old }
+    ensures later { S.faults supply.old ≤ S.faults supply.new }
+    ensures kept { S.keeps supply.old supply.new }
+    ensures line { HasLine result.0 }
+    ensures walked { WalkedWhole regs.now access.now now (S.memory supply.old) (Rose (S.faults supply.old) (S.faults supply.new)) result.1 result.0 }
+    ensures fresh { IsFresh regs.now access.now now (S.memory supply.old) (Rose (S.faults supply.old) (S.faults supply.new)) result.1 result.0 }
+{
+    let mut trail = Trail::none();
+    let outcome = match whole(&Under::of(regs, now), access, supply, &mut trail) {
+        Ok(outcome) => outcome,
+        Err(stop) => stopped(stop),
+    };
+    (outcome, trail)
+}
+
 /// The walk of an access through both stages: how it comes out, and the items that it used, all of moment 0. Where the
 /// supply tells its memory and does not fail, both are those of the fresh walk. It is never a conflict, and a fault has
 /// a status code.
@@ -93,10 +118,5 @@ pub fn translate<S: Supply>(regs: &Regs, access: &Access, supply: &mut S) -> (Ou
     ensures walked { WalkedWhole regs.now access.now 0 (S.memory supply.old) (Rose (S.faults supply.old) (S.faults supply.new)) result.1 result.0 }
     ensures fresh { IsFresh regs.now access.now 0 (S.memory supply.old) (Rose (S.faults supply.old) (S.faults supply.new)) result.1 result.0 }
 {
-    let mut trail = Trail::none();
-    let outcome = match whole(&Under::of(regs), access, supply, &mut trail) {
-        Ok(outcome) => outcome,
-        Err(stop) => stopped(stop),
-    };
-    (outcome, trail)
+    translate_at(regs, access, 0, supply)
 }

@@ -14,14 +14,14 @@ returns-then-not-config-clause-walked g c =
 
 pub returns-in-Err-stage2-clause-walked : goal.returns-in-Err-stage2-clause-walked
 returns-in-Err-stage2-clause-walked g c =
-    let o = (rw c.as_ref.ensures.value at c.output-out.ensures) ∙ out_same (config_of c.args.under.now) c.args.access.now c.in-Ok.leaf in
+    let o = (rw c.as_ref.ensures.value at c.output-out.ensures) ∙ out_same (config_of c.args.under.now.regs) c.args.access.now c.in-Ok.leaf in
     let w = rw (o, c.in-Ok.ensures.same) at c.in-Err-stage2.ensures.walked in
     whole_stop2 c.args.under.now c.args.access.now (g.S.Supply.memory c.args.supply.now) _ c.in-Ok.leaf _ c.in-Ok.ensures.walked _ _
     (rose_weaker _ _ _ _ c.in-Ok.ensures.later (omega arith)) (rw c.config-config.ensures.same at c.if-not-config.false) _ c.in-Err-stage2.stop w
 
 pub returns-clause-walked : goal.returns-clause-walked
 returns-clause-walked g c =
-    let o = (rw c.as_ref.ensures.value at c.output-out.ensures) ∙ out_same (config_of c.args.under.now) c.args.access.now c.in-Ok.leaf in
+    let o = (rw c.as_ref.ensures.value at c.output-out.ensures) ∙ out_same (config_of c.args.under.now.regs) c.args.access.now c.in-Ok.leaf in
     let w = rw (o, c.in-Ok.ensures.same) at c.in-Ok-stage2.ensures.walked in
     whole_ends c.args.under.now c.args.access.now (g.S.Supply.memory c.args.supply.now) _ c.in-Ok.leaf _ c.in-Ok.ensures.walked _ _
     (rose_weaker _ _ _ _ c.in-Ok.ensures.later (omega arith)) (rw c.config-config.ensures.same at c.if-not-config.false) _ c.in-Ok-stage2.leaf _ w

@@ -7,7 +7,7 @@ use Rattle.translate.proofs.deep.DeepSupply1.word_at.Goals as goal
 pub returns-then-not-config-clause-gave : goal.returns-then-not-config-clause-gave
 returns-then-not-config-clause-gave g c =
     let flat = rw c.config-config.ensures.same at c.if-not-config.true in
-    let read = rw (c.walker1.ensures, to_z-of_z _ _ c.ranges.level) at c.read.ensures.read in
+    let read = rw (c.walker1-walker.ensures, c.moment.ensures, to_z-of_z _ _ c.ranges.level) at c.read.ensures.read in
     gave_deep g.S.Supply.memory g.S.Supply.faults g.S.Supply.keeps c.args.self.now _ c.args.level c.args.ipa _ _ _ refl refl c.read.ensures.same c.read.ensures.later c.read.ensures.kept (had_flat _ _ _ c.args.level _ _ _ _ flat read)
 
 pub returns-in-Err-clause-gave : goal.returns-in-Err-clause-gave
@@ -26,7 +26,7 @@ pub returns-clause-gave : goal.returns-clause-gave
 returns-clause-gave g c =
     let on = rw c.config-config.ensures.same at c.if-not-config.false in
     let readable = rw c.config-config.ensures.same at c.in_default.ensures in
-    let read = rw (c.walker1-2.ensures, to_z-of_z _ _ c.ranges.level, c.in-Ok.ensures.same) at c.read-2.ensures.read in
+    let read = rw (c.walker1-walker.ensures, c.moment.ensures, to_z-of_z _ _ c.ranges.level, c.in-Ok.ensures.same) at c.read-2.ensures.read in
     gave_deep g.S.Supply.memory g.S.Supply.faults g.S.Supply.keeps c.args.self.now _ c.args.level c.args.ipa _ _ _ refl refl
     (c.read-2.ensures.same ∙ c.in-Ok.ensures.same)
     (omega (arith, c.in-Ok.ensures.later, c.read-2.ensures.later))
