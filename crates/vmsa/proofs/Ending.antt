@@ -3,7 +3,7 @@ use Rattle.std.proofs.Common.{◌≡◌, ℕ, ◌≤◌, List, ◌∷◌, Option
 use Rattle.std.specs.Result.{IsErrAnd}
 use Rattle.table_reads.proofs.Weaker.{rose_weaker}
 use Rattle.dump_file.specs.Held.{Holding, Untold, Absent, Bytes, Reading, IsMissingBy}
-use Rattle.commands.specs.Asked.{Asked, Raw, Explain}
+use Rattle.commands.specs.Asked.{Asked, Raw, Explain, Run}
 use Rattle.vmsa.specs.Answers.{Named, words_refusal, IsRefusedBy, Stops, MayEndBy, MayEnd, IsDue}
 use Rattle.vmsa.specs.Due.{due_of}
 use Rattle.vmsa.specs.declared.answer.Answer.{Answer}
@@ -20,6 +20,7 @@ pub memory_due : (r : Reading) (asked : Option Asked) → IsDue r asked (Err NoM
 memory_due r None = inr refl
 memory_due r (Some (Raw a)) = by_words r (words_refusal (Raw a)) _ _
 memory_due r (Some (Explain a)) = inl tt
+memory_due r (Some (Run a)) = inl tt
 
 missing_weaker : (h : Holding) (m n o : ℕ) → m ≤ n → IsMissingBy h n o → IsMissingBy h m o
 missing_weaker Untold m n o l k = rose_weaker m n o o l (omega arith) k

@@ -3,11 +3,13 @@ use Rattle.std.proofs.Common.{ℕ, List, [], ◌∷◌, refl, ap}
 use Rattle.dump_file.specs.Held.{Holding, Untold, Absent, Bytes}
 use Rattle.sysregs.specs.declared.regs.Regs.{Regs as Registers}
 use Rattle.trails.specs.declared.outcome.Access.{Access}
-use Rattle.commands.specs.Asked.{Asked, Raw, Explain, RawWords}
+use Rattle.commands.specs.Asked.{Asked, Raw, Explain, Run, RawWords}
 use Rattle.vmsa.specs.Raw.{IsRawText}
 use Rattle.vmsa.specs.Explain.{AreRegisters, IsTextOver}
-use Rattle.vmsa.specs.Answers.{Named, AsImage, AsRegisters, AsDump, files_of, IsTextOf, reason, PassesBy}
-use Rattle.vmsa.specs.declared.status.Why.TheVariants.{Regs, Dump}
+use Rattle.trace_lang.specs.Traces.{Parts}
+use Rattle.vmsa.specs.Run.{IsTraceOf}
+use Rattle.vmsa.specs.Answers.{Named, AsImage, AsRegisters, AsDump, AsTrace, files_of, IsTextOf, reason, PassesBy}
+use Rattle.vmsa.specs.declared.status.Why.TheVariants.{Regs, Dump, Trace}
 
 -- files pass, as far as they tell
 abbrev pub PassAll : (holds : List ℕ → Holding) → List Named → Type 0
@@ -29,7 +31,13 @@ dump_passes Untold regs access text t = tt
 dump_passes Absent regs access text t = t
 dump_passes (Bytes bytes) regs access text t = ap (reason Dump) t.1
 
+trace_passes : (h : Holding) (t : Parts) → IsTraceOf h t → PassesBy h AsTrace
+trace_passes Untold t k = tt
+trace_passes Absent t k = k
+trace_passes (Bytes bytes) t k = ap (reason Trace) k
+
 -- command by command
 pub text_passes : (holds : List ℕ → Holding) (a : Asked) (text : List ℕ) → IsTextOf holds a text → PassAll holds (files_of a)
 text_passes holds (Raw a) text t = (image_passes (holds a.image) a text t, tt)
 text_passes holds (Explain a) text t = (registers_pass (holds a.registers) t.0 t.1, (dump_passes (holds a.dump) t.0 a.access text t.2, tt))
+text_passes holds (Run a) text t = (trace_passes (holds a.trace) t.0 t.1, tt)

@@ -1,5 +1,5 @@
 -- What the code has before anything is written, as what is due.
-use Rattle.std.specs.Prelude.{ℕ, List, Result, Ok, Err}
+use Rattle.std.specs.Prelude.{ℕ, ◌≤◌, ◌^◌, List, length, Result, Ok, Err}
 use Rattle.walk_spec.specs.Walked.{HasLine}
 use Rattle.explain_text.specs.Explained.{explain_text}
 use Rattle.report_text.specs.Report.{report_text, ArePrintable}
@@ -15,11 +15,17 @@ answer_text (Raw va walked) = raw_text va walked.trail walked.outcome
 answer_text (Explain regs access walked) = explain_text regs access walked.trail walked.outcome
 answer_text (Run machine) = report_text machine.log
 
--- its outcomes have lines
+-- its outcomes have lines, and its steps are counted in 32 bits
 abbrev pub IsPrintable : Answer → Type 0
 IsPrintable (Raw va walked) = HasLine walked.outcome
 IsPrintable (Explain regs access walked) = HasLine walked.outcome
-IsPrintable (Run machine) = ArePrintable machine.log
+IsPrintable (Run machine) = ArePrintable machine.log × (length machine.log ≤ 2 ^ 32)
+
+-- the answer of one walk
+abbrev pub IsOfWalk : Answer → Type 0
+IsOfWalk (Raw va walked) = Unit {0}
+IsOfWalk (Explain regs access walked) = Unit {0}
+IsOfWalk (Run machine) = ⊥
 
 -- an answer's text, or a refusal
 abbrev pub due_of : Result Answer Status → Due

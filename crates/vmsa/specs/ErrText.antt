@@ -52,17 +52,17 @@ line_why n text = joined_text (codes "line " ∷ decimal n ∷ codes ": " ∷ te
 
 -- a refusal of a word of a line
 abbrev pub word_why : (line : ℕ) (text : List ℕ) (place : ℕ) → List ℕ
-word_why n text place = line_why n (text ++ decimal place)
+word_why n text place = joined_text (codes "line " ∷ decimal n ∷ codes ": " ∷ text ∷ codes " " ∷ decimal place ∷ [])
 
 -- why a trace is refused
 abbrev pub trace_text : TraceRefusal → List ℕ
 trace_text (trace.TooLarge size) = codes "too large"
 trace_text (trace.NotText n) = line_why n (codes "not text")
 trace_text (trace.LongLine n) = line_why n (codes "long line")
-trace_text (trace.BadWord n place) = word_why n (codes "bad word ") place
-trace_text (trace.BadNumber n place) = word_why n (codes "bad number ") place
-trace_text (trace.OutOfRange n place) = word_why n (codes "out of range ") place
-trace_text (trace.Unsupported n at) = line_why n (codes "unsupported " ++ field_name_text at)
+trace_text (trace.BadWord n place) = word_why n (codes "bad word") place
+trace_text (trace.BadNumber n place) = word_why n (codes "bad number") place
+trace_text (trace.OutOfRange n place) = word_why n (codes "out of range") place
+trace_text (trace.Unsupported n at) = line_why n (codes "unsupported ") ++ field_name_text at
 trace_text (trace.NotAtEl1 n) = line_why n (codes "not at el1")
 trace_text (trace.TooMany n) = line_why n (codes "too many")
 trace_text trace.NoHeader = codes "no header"

@@ -10,6 +10,7 @@ pub mod Supplies
 pub mod Texts
 pub mod Raw
 pub mod Explain
+pub mod Run
 pub mod Keeping
 pub mod Status
 pub mod Answers

@@ -4,9 +4,11 @@ ghost use Rattle.explain_text.specs.Written.{Wrote};
 ghost use Rattle.explain_text.specs.Texts.{item_text};
 ghost use Rattle.walk_spec.specs.Walked.{HasLine};
 ghost use Rattle.vmsa.specs.Texts.{raw_access_text, raw_mapped_text, raw_outcome_text, raw_text};
-ghost use Rattle.vmsa.specs.Due.{answer_text, IsPrintable};
+ghost use Rattle.vmsa.specs.Due.{answer_text, IsPrintable, IsOfWalk};
 
 use explain_text::{QuietMemory, Sink, WriteFailed, absent_line, explain, fault_line, item_lines};
+use machine::Machine;
+use report_text::report;
 use std::alloc::Global;
 use sysregs::Regs;
 use texts::Line;
@@ -32,6 +34,10 @@ pub enum Answer {
         regs: Regs,
         access: Access,
         walked: Walked,
+    },
+    /// A trace that was run to its end.
+    Run {
+        machine: Machine,
     },
 }
 
@@ -101,9 +107,10 @@ fn raw_lines<O: Sink>(out: &mut O, va: u64, walked: &Walked) -> Result<(), Write
     raw_walk_lines(out, walked)
 }
 
-/// The text of an answer, line by line.
-fn lines<O: Sink>(out: &mut O, answer: &Answer) -> Result<(), WriteFailed>
-    requires { IsPrintable answer.now }
+/// The text of a walk, line by line.
+fn walk_lines<O: Sink>(out: &mut O, answer: &Answer) -> Result<(), WriteFailed>
+    requires walk { IsOfWalk answer.now }
+    requires printable { IsPrintable answer.now }
     ensures text { Wrote (O.written out.old) (O.written out.new) result (answer_text answer.now) }
     ensures cause { HasCause (O.faults out.old) (O.faults out.new) result }
 {
@@ -114,22 +121,36 @@ fn lines<O: Sink>(out: &mut O, answer: &Answer) -> Result<(), WriteFailed>
             access,
             walked,
         } => explain(out, regs, access, &walked.outcome, &walked.trail),
+        Answer::Run { .. } => unreachable!(),
     }
 }
 
-/// The bytes of a page that a whole answer fits into: a line of an item has 83 at most, and there are 42.
+/// The bytes of a page that the text of a walk fits into: a line of an item has 83 at most, and there are 42.
 const PAGE: usize = 4096;
 
-/// Writes the text of an answer at once, or line by line where memory for the whole is refused.
+/// Writes the text of a walk at once, or line by line where memory for the whole is refused.
+fn put_walk<O: Sink>(alloc: Global, out: &mut O, answer: &Answer) -> Result<(), WriteFailed>
+    requires walk { IsOfWalk answer.now }
+    requires printable { IsPrintable answer.now }
+    ensures text { Wrote (O.written out.old) (O.written out.new) result (answer_text answer.now) }
+    ensures cause { HasCause (O.faults out.old) (O.faults out.new) result }
+{
+    let mut page = QuietMemory::with_room(alloc, PAGE);
+    let _ = walk_lines(&mut page, answer);
+    if page.lost {
+        return walk_lines(out, answer);
+    }
+    out.put(page.bytes.as_slice())
+}
+
+/// Writes the text of an answer: of a walk at once, and of a run in pages.
 pub fn put_answer<O: Sink>(alloc: Global, out: &mut O, answer: &Answer) -> Result<(), WriteFailed>
     requires { IsPrintable answer.now }
     ensures text { Wrote (O.written out.old) (O.written out.new) result (answer_text answer.now) }
     ensures cause { HasCause (O.faults out.old) (O.faults out.new) result }
 {
-    let mut page = QuietMemory::with_room(alloc, PAGE);
-    let _ = lines(&mut page, answer);
-    if page.lost {
-        return lines(out, answer);
+    match answer {
+        Answer::Raw { .. } | Answer::Explain { .. } => put_walk(alloc, out, answer),
+        Answer::Run { machine } => report(alloc, out, machine.log()),
     }
-    out.put(page.bytes.as_slice())
 }

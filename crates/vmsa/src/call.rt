@@ -10,6 +10,7 @@ use crate::answer::{Answer, put_answer};
 use crate::explain::explain;
 use crate::raw::raw;
 use crate::refusals::error_line;
+use crate::run::run;
 use crate::status::Status;
 use commands::{Command, read_command};
 use dump_file::Files;
@@ -26,6 +27,7 @@ fn due<F: Files>(alloc: Global, words: &[String], files: &mut F) -> Result<Answe
         Ok(None) => Err(Status::Usage),
         Ok(Some(Command::Raw(asked))) => raw(alloc, &asked, files),
         Ok(Some(Command::Explain(asked))) => explain(alloc, &asked, files),
+        Ok(Some(Command::Run(asked))) => run(alloc, &asked, files),
     }
 }
 
@@ -80,3 +82,5 @@ pub fn vmsa<F: Files, O: Sink, E: Sink>(
 mod explain_tests;
 #[cfg(test)]
 mod raw_tests;
+#[cfg(test)]
+mod run_tests;

@@ -20,6 +20,7 @@ mod explain;
 mod image;
 mod raw;
 mod refusals;
+mod run;
 mod status;
 
 use crate::call::vmsa;

@@ -85,26 +85,54 @@ fn dump(line: &mut Line, why: DumpRefusal)
     }
 }
 
-/// Puts the number of a line of a trace before the refusal that stands.
-fn in_line(line: &mut Line, number: u32)
-    requires { 27 + length line.old ≤ LINE }
-    ensures text { line.new ≡ line_why number line.old }
-    ensures room { length line.new ≤ 27 + length line.old }
+/// A refusal of a line of a trace.
+fn trace_line(line: &mut Line, number: u32, text: &[u8])
+    requires { 27 + length text.now + length line.old ≤ LINE }
+    ensures text { line.new ≡ line_why number text.now ++ line.old }
+    ensures room { length line.new ≤ 27 + length text.now + length line.old }
 {
+    line.text(text);
     line.text(b": ");
     line.decimal(number as u64);
     line.text(b"line ");
 }
 
-/// A refusal of a line.
-fn line_refusal(line: &mut Line, number: u32, text: &[u8])
-    requires empty { line.old ≡ [] }
-    requires short { length text.now ≤ 20 }
-    ensures text { line.new ≡ line_why number text.now }
-    ensures room { length line.new ≤ 47 }
+/// A refusal of a word of a line.
+fn trace_word(line: &mut Line, number: u32, text: &[u8], place: u32)
+    requires { 48 + length text.now + length line.old ≤ LINE }
+    ensures text { line.new ≡ word_why number text.now place ++ line.old }
+    ensures room { length line.new ≤ 48 + length text.now + length line.old }
 {
-    line.text(text);
-    in_line(line, number);
+    line.decimal(place as u64);
+    line.text(b" ");
+    trace_line(line, number, text);
+}
+
+/// Why a trace is refused.
+fn trace(line: &mut Line, why: &TraceRefusal)
+    requires { 60 + length line.old ≤ LINE }
+    ensures text { line.new ≡ trace_text why.now ++ line.old }
+    ensures room { length line.new ≤ 60 + length line.old }
+{
+    match *why {
+        TraceRefusal::TooLarge { .. } => line.text(b"too large"),
+        TraceRefusal::NotText { line: n } => trace_line(line, n, b"not text"),
+        TraceRefusal::LongLine { line: n } => trace_line(line, n, b"long line"),
+        TraceRefusal::BadWord { line: n, place } => trace_word(line, n, b"bad word", place),
+        TraceRefusal::BadNumber { line: n, place } => trace_word(line, n, b"bad number", place),
+        TraceRefusal::OutOfRange { line: n, place } => {
+            trace_word(line, n, b"out of range", place)
+        }
+        TraceRefusal::Unsupported { line: n, at } => {
+            field_name(line, &at);
+            trace_line(line, n, b"unsupported ");
+        }
+        TraceRefusal::NotAtEl1 { line: n } => trace_line(line, n, b"not at el1"),
+        TraceRefusal::TooMany { line: n } => trace_line(line, n, b"too many"),
+        TraceRefusal::NoHeader => line.text(b"no header"),
+        TraceRefusal::NoEnd => line.text(b"no end"),
+        TraceRefusal::AfterEnd { line: n } => trace_line(line, n, b"after end"),
+    }
 }
 
 /// What is refused, and why.
@@ -125,6 +153,10 @@ fn refused(line: &mut Line, why: &Why)
         Why::Dump { why } => {
             dump(line, *why);
             line.text(b"dump: ");
+        }
+        Why::Trace { why } => {
+            trace(line, why);
+            line.text(b"trace: ");
         }
     }
 }
@@ -163,7 +195,7 @@ fn refused_line<E: Sink>(err: &mut E, why: &Why) -> Result<(), WriteFailed>
 
 /// How the program is called: a line for each command.
 const USAGE: &[u8] =
-    b"usage: vmsa raw IMAGE TCR TTBR0 VA\nusage: vmsa explain REGS DUMP VA EL KIND [pan]\n";
+    b"usage: vmsa raw IMAGE TCR TTBR0 VA\nusage: vmsa explain REGS DUMP VA EL KIND [pan]\nusage: vmsa run TRACE\n";
 
 /// The lines of a status. Done and WriteFault have none.
 pub fn error_line<E: Sink>(err: &mut E, status: &Status) -> Result<(), WriteFailed>
