@@ -13,7 +13,7 @@ use Rattle.vmsa.specs.Answers.{AsRegisters, reason, IsRefusedBy}
 use Rattle.vmsa.specs.declared.status.Why.TheVariants.{Regs}
 
 -- all of it came
-whole : (bytes new : List ℕ) (count : ℕ) → length bytes < length new → count ≡ min (length new) (length bytes - 0)
+pub whole : (bytes new : List ℕ) (count : ℕ) → length bytes < length new → count ≡ min (length new) (length bytes - 0)
     → take count new ≡ take count bytes → take count new ≡ bytes
 whole bytes new count l c t = t ∙ take_all count bytes (let e = c in omega arith)
 

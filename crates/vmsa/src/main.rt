@@ -74,7 +74,7 @@ fn exit_code(status: &Status) -> ExitCode
 
 /// Does all that the program does, and tells its exit status. Where memory for the words is refused it is that of
 /// NoMemory, and nothing is written.
-fn run<F: Files, O: Sink, E: Sink>(
+fn ended<F: Files, O: Sink, E: Sink>(
     alloc: Global,
     words: io::Result<Vec<String>>,
     files: &mut F,
@@ -100,5 +100,5 @@ fn main(rt: HostRuntime) -> ExitCode {
     let mut out = Adapter::new(rt.stdout());
     let mut err = Adapter::new(rt.stderr());
     let mut files = RealFiles::new(rt, alloc);
-    run(alloc, words, &mut files, &mut out, &mut err)
+    ended(alloc, words, &mut files, &mut out, &mut err)
 }
