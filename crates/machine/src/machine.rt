@@ -1,11 +1,12 @@
 //! The machine in the middle of a trace.
-ghost use Rattle.std.specs.Prelude.{◌≡◌, ◌<◌, ◌≤◌, ◌+◌, ℕ, [], ◌∷◌, ◌++◌, length, take, slice_get, slice_index_or, Some, None, IfOk};
+ghost use Rattle.std.specs.Prelude.{◌≡◌, ◌<◌, ◌≤◌, ◌+◌, ℕ, [], ◌∷◌, ◌++◌, length, take};
+ghost use Rattle.std.specs.Prelude.{slice_get, slice_index_or, Some, None, IfOk};
 ghost use Rattle.trails.specs.declared.step.Step.{Step as TheStep};
 ghost use Rattle.phys_mem.specs.Words.{memory_of};
 ghost use Rattle.phys_mem.specs.Memory.{zeros};
 ghost use Rattle.phys_mem.specs.Ranges.{refusal_in};
 ghost use Rattle.trace_lang.specs.declared.header.Size.TheVariants.{NoRows};
-ghost use Rattle.trace_lang.specs.Traces.{IsTrace, RangesFitBehind};
+ghost use Rattle.trace_lang.specs.Traces.{RangesFitBehind};
 ghost use Rattle.machine_spec.specs.Allowed.{IsAllowed};
 ghost use Rattle.machine_spec.specs.Machine.{run_of};
 ghost use Rattle.machine.specs.Seats.{no_seat, new_seat};
@@ -135,3 +136,6 @@ impl Machine {
         self.log.push_reserved(Step { event, answer });
     }
 }
+
+#[cfg(test)]
+mod tests;
