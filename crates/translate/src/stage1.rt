@@ -39,7 +39,14 @@ fn stage1_on<S: Supply>(
     ensures line { IfErr result HasLineStop }
     ensures walked { WalkedOn1 (S.memory supply.old) (Rose (S.faults supply.old) (S.faults supply.new)) under.now access.now trail.new result }
 {
-    let from = match root1(under.regs(), under.config(), side, level, under.moment(), trail) {
+    let from = match root1(
+        under.regs(),
+        under.config(),
+        side,
+        level,
+        under.moment(),
+        trail,
+    ) {
         Ok(from) => from,
         Err(fault) => return Err(Stop::Fault { fault }),
     };
