@@ -1,0 +1,46 @@
+-- An access without rows.
+use Rattle.std.proofs.Common.{◌≡◌, ℕ, List, false, refl, sym, ap, ◌∙◌, arith, Some, None}
+use Rattle.bitwords.specs.Causes.{Rose}
+use Rattle.sysregs.specs.declared.regs.Regs.{Regs}
+use Rattle.sysregs.specs.Registers.{asid_of, vmid_of}
+use Rattle.trails.specs.declared.item.Item.{Item}
+use Rattle.trails.specs.declared.outcome.Access.{Access}
+use Rattle.trails.specs.declared.outcome.Outcome.{Outcome}
+use Rattle.trails.specs.declared.step.Answer.{Answer}
+use Rattle.table_reads.specs.Memory.{Memory}
+use Rattle.trace_lang.specs.declared.header.Size.TheVariants.{NoRows}
+use Rattle.walk_spec.specs.Walked.{IsFresh}
+use Rattle.machine_spec.specs.Header.{Header}
+use Rattle.machine_spec.specs.Sets.{Cache}
+use Rattle.machine_spec.specs.Machine.{Visited, visited}
+use Rattle.machine_laws.proofs.NoRows.{fresh_answer, visited_fresh}
+use Rattle.cpu_model.specs.Cores.{CoreState, no_rows, Suits, seat_at, with_cache}
+
+-- a count that stands at 0 did not rise
+not_risen : Rose 0 0 → ⊥
+not_risen r = omega (arith, r)
+
+-- an answer without rows
+abbrev pub plain : Regs → Outcome → List Item → Answer
+plain regs o items = record {
+  asid = asid_of regs;
+  vmid = vmid_of regs;
+  outcome = o;
+  first = items;
+  second = None;
+  old = false;
+  stale = false;
+  evicted = 0;
+}
+
+module _ (c : CoreState) (m : Memory) (k : ℕ) (a : Access) (none : c.size ≡ NoRows) (empty : c.cache ≡ no_rows) (h : Header) (suits : Suits h c) where
+  fresh : visited (seat_at h c m k) a ≡ record { answer = fresh_answer (seat_at h c m k).place a; cache = c.cache }
+  fresh = visited_fresh (seat_at h c m k) a (suits.0 ∙ none) (ap (λ (l : Cache). l.rows) empty)
+
+  pub answered : (o : Outcome) (items : List Item) → IsFresh c.bank.regs a k (Some m) (Rose 0 0) items o → plain c.bank.regs o items ≡ (visited (seat_at h c m k) a).answer
+  answered o items is =
+      let e = is m refl not_risen in
+      rw (e.0, e.1) (sym (ap (λ (v : Visited). v.answer) fresh))
+
+  pub kept : c ≡ with_cache c (visited (seat_at h c m k) a).cache
+  kept = rw (ap (λ (v : Visited). v.cache) fresh) refl

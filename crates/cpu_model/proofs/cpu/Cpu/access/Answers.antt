@@ -1,0 +1,19 @@
+use Rattle.std.proofs.Common.{refl}
+use Rattle.phys_mem.specs.Words.{memory_of}
+use Rattle.cpu_model.specs.Cores.{CoreState, no_rows}
+use Rattle.cpu_model.proofs.Fresh.{answered, kept}
+use Rattle.cpu_model.proofs.cpu.Cpu.access.Goals as goal
+
+pub returns-clause-answer : goal.returns-clause-answer
+returns-clause-answer c =
+    let s = c.self.inside in
+    let core : CoreState = record { number = s.number; size = s.size; policy = s.policy; bank = record { regs = s.regs; queue = s.queue.items }; cache = no_rows } in
+    rw (← c.self.view_is, c.asid.ensures, c.vmid.ensures)
+    (λ h suits. answered core (memory_of c.args.phys.now) c.args.now c.args.access.now c.self.invariant.2 refl h suits c.translate_at-outcome.result.0 c.translate_at-outcome.result.1
+    c.translate_at-outcome.ensures.fresh)
+
+pub returns-clause-after : goal.returns-clause-after
+returns-clause-after c =
+    let s = c.self.inside in
+    let core : CoreState = record { number = s.number; size = s.size; policy = s.policy; bank = record { regs = s.regs; queue = s.queue.items }; cache = no_rows } in
+    rw (← c.self.view_is) (λ h suits. kept core (memory_of c.args.phys.now) c.args.now c.args.access.now c.self.invariant.2 refl h suits)

@@ -1,0 +1,14 @@
+pub use Rattle.sysregs.specs.Registers
+pub use Rattle.sysregs.specs.Refused
+pub use Rattle.walk_spec.specs.Fresh
+pub use Rattle.walk_spec.specs.Walked
+pub use Rattle.trace_lang.specs.Traces
+pub use Rattle.phys_mem.specs.Memory
+pub use Rattle.phys_mem.specs.Words
+pub use Rattle.machine_spec.specs.Header
+pub use Rattle.machine_spec.specs.Moments
+pub use Rattle.machine_spec.specs.Rows
+pub use Rattle.machine_spec.specs.Sets
+pub use Rattle.machine_spec.specs.Served
+pub use Rattle.machine_spec.specs.Machine
+pub mod Cores

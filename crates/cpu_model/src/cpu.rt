@@ -1,0 +1,146 @@
+//! A core apart from its inbox.
+ghost use Rattle.std.specs.Prelude.{◌≡◌, ◌≤◌, length, fold, IfOk, None};
+ghost use Rattle.sysregs.specs.Refused.{refused_field};
+ghost use Rattle.phys_mem.specs.Words.{memory_of};
+ghost use Rattle.trace_lang.specs.declared.header.Size.TheVariants.{NoRows};
+ghost use Rattle.walk_spec.specs.Walked.{HasLine};
+ghost use Rattle.machine_spec.specs.Header.{Header};
+ghost use Rattle.machine_spec.specs.Moments.{written, settled, drained, queued};
+ghost use Rattle.machine_spec.specs.Machine.{killed, visited};
+ghost use Rattle.cpu_model.specs.Cores.{new_core, with_bank, with_cache, Suits, seat_at};
+
+use crate::words::Words;
+use bitwords::NoMemory;
+use phys_mem::Phys;
+use std::alloc::Global;
+use std::marker::Model;
+use sysregs::fields::{asid, vmid};
+use sysregs::{Reg, Regs};
+use tlbi_ops::Inval;
+use trace_lang::{Policy, Size};
+use trails::{Access, Answer};
+use translate::translate_at;
+
+/// The most register writes that wait.
+pub const MOST_QUEUED: usize = 64;
+
+/// A core: its registers in force, and the writes that wait, oldest first. It keeps no rows of translations.
+#[derive(Drop)]
+pub struct Cpu {
+    queue: Vec<(Reg, u64)>,
+    regs: Regs,
+    policy: Policy,
+    size: Size,
+    number: u8,
+}
+
+impl Model for Cpu {
+    ghost use Rattle.std.specs.Prelude.{◌≡◌, ◌≤◌, vec_capacity};
+    ghost use Rattle.trace_lang.specs.declared.header.Size.TheVariants.{NoRows};
+    ghost use Rattle.cpu_model.specs.Cores.{CoreState, no_rows, IsBank};
+
+    ghost Value = { CoreState };
+
+    ghost view = { λ s. record {
+      number = s.number;
+      size = s.size;
+      policy = s.policy;
+      bank = record { regs = s.regs; queue = s.queue.items };
+      cache = no_rows;
+    } };
+
+    ghost invariant = { λ s. IsBank (record { regs = s.regs; queue = s.queue.items }) × (64 ≤ vec_capacity s.queue) × (s.size ≡ NoRows) };
+}
+
+/// Lets writes take effect, oldest first.
+fn write_all(regs: &mut Regs, queue: &[(Reg, u64)])
+    ensures { regs.new ≡ fold written regs.old queue.now }
+{
+    for &(reg, value) in queue {
+        regs.set(reg, value);
+    }
+}
+
+impl Cpu {
+    /// A core of a number whose registers are all 0. It keeps no rows.
+    pub fn opened(alloc: Global, number: u8, size: Size, policy: Policy) -> Result<Cpu, NoMemory>
+        requires { size ≡ NoRows }
+        ensures { IfOk result (λ c. c ≡ new_core number size policy) }
+    {
+        let Ok(queue) = Vec::with_capacity(alloc, MOST_QUEUED) else {
+            return Err(NoMemory);
+        };
+        Ok(Cpu {
+            queue,
+            regs: Regs::zero(),
+            policy,
+            size,
+            number,
+        })
+    }
+
+    /// The registers in force.
+    pub fn regs(&self) -> &Regs
+        ensures { result.now ≡ self.now.bank.regs }
+    {
+        &self.regs
+    }
+
+    /// The oldest write takes effect, where one waits.
+    pub fn settle(&mut self)
+        ensures { self.new ≡ with_bank self.old (settled self.old.bank) }
+    {
+        if self.queue.len() > 0 {
+            let (reg, value) = self.queue.remove(0);
+            self.regs.set(reg, value);
+        }
+    }
+
+    /// A write waits behind the others. Where the queue is full, its oldest takes effect first.
+    pub fn msr(&mut self, reg: Reg, value: u64)
+        requires { refused_field reg value ≡ None }
+        ensures { self.new ≡ with_bank self.old (queued self.old.bank (reg, value)) }
+    {
+        if self.queue.len() == MOST_QUEUED {
+            let (oldest, first) = self.queue.remove(0);
+            self.regs.set(oldest, first);
+        }
+        self.queue.push_reserved((reg, value));
+    }
+
+    /// All writes take effect, oldest first.
+    pub fn isb(&mut self)
+        ensures { self.new ≡ with_bank self.old (drained self.old.bank) }
+    {
+        write_all(&mut self.regs, self.queue.as_slice());
+        self.queue.clear();
+    }
+
+    /// An invalidation takes effect: the rows that it covers go. There are none.
+    pub fn take(&mut self, _inval: &Inval)
+        ensures { self.new ≡ with_cache self.old (killed self.old.cache _inval.now) }
+    {
+        let _no_rows = self.size;
+    }
+
+    /// The answer of an access at a moment, which is the number of the step. Without rows it is the walk of that moment.
+    pub fn access(&mut self, phys: &Phys, now: u32, access: &Access) -> Answer
+        ensures answer { (h : Header) → Suits h self.old → result ≡ (visited (seat_at h self.old (memory_of phys.now) now) access.now).answer }
+        ensures after { (h : Header) → Suits h self.old →
+            self.new ≡ with_cache self.old (visited (seat_at h self.old (memory_of phys.now) now) access.now).cache }
+        ensures line { HasLine result.outcome }
+    {
+        let mut words = Words { phys };
+        let (outcome, first) = translate_at(&self.regs, access, now, &mut words);
+        Answer {
+            asid: asid(&self.regs),
+            vmid: vmid(&self.regs),
+            outcome,
+            first,
+            second: None,
+            old: false,
+            stale: false,
+            evicted: 0,
+        }
+    }
+}

@@ -1,0 +1,10 @@
+//! One core: its registers with the writes that wait, and its accesses to memory.
+#![tactic(auto)]
+
+mod cpu;
+mod words;
+
+pub use cpu::{Cpu, MOST_QUEUED};
+
+#[cfg(test)]
+mod tests;

@@ -1,0 +1,138 @@
+-- What an event does to one core, and to each.
+use Rattle.std.proofs.Common.{◌≡◌, ℕ, ◌<◌, Bool, true, false, cond, List, [], ◌∷◌, length, get_or, set, refl, sym, ap, ◌∙◌, subst, inl, inr, Some}
+use Rattle.std.specs.Prelude.{nat_lt}
+use Rattle.std.proofs.lemmas.Bool.{cases_eq, eq-eqb, ne_eqb}
+use Rattle.std.proofs.lemmas.List.{get_or-set_same, get_or-set_other, get_or_default, get_or-map}
+use Rattle.sysregs.specs.declared.regs.Reg.{Reg}
+use Rattle.sysregs.specs.declared.regs.Op.{Op}
+use Rattle.tlbi_ops.specs.declared.inval.Inval.{Inval}
+use Rattle.tlbi_ops.specs.Operands.{inval_of, reaches_core}
+use Rattle.trails.specs.declared.outcome.Access.{Access}
+use Rattle.trails.specs.declared.event.Barrier.{Barrier}
+use Rattle.trails.specs.declared.event.Origin.{Origin}
+use Rattle.trails.specs.declared.event.Event.TheVariants.{Store, Msr, Settle, Isb, Tlbi, Dsb, Deliver, Access as AccessOf, Prefetch}
+use Rattle.table_reads.specs.Memory.{Memory}
+use Rattle.machine_spec.specs.Header.{Header}
+use Rattle.machine_spec.specs.Moments.{settled, drained, queued, banked}
+use Rattle.machine_spec.specs.Invalidations.{is_at_el1, issued_by}
+use Rattle.machine_spec.specs.Machine.{Core, World, no_core, most_held, delivered_by, delivered, posted, mailed, mailed_by, finished, seat_of, core_of, regs_in, accessed, acted, moved}
+use Rattle.cpu_model.specs.Cores.{Suits, seat_at}
+use Rattle.machine.specs.Seats.{SeatState, core_at, build_of, no_seat, AreSeats, with_bank, world_of}
+
+-- ONE CORE AMONG THE OTHERS
+
+-- what is told of the core that changes, and of each other one, is told of each
+pub one_at : {Y : Type 0} (g : SeatState → Y) (f : ℕ → Y → Y) (xs : List SeatState) (j : ℕ) (x new : SeatState) → j < length xs
+    → g new ≡ f j (g (get_or xs j x)) → ((c : ℕ) (v : Y) → (j ≡ c → ⊥) → f c v ≡ v)
+    → (c : ℕ) → g (get_or (set xs j new) c no_seat) ≡ f c (g (get_or xs c no_seat))
+one_at g f xs j x new lt own other c =
+    elim (cases_eq j c) as (λ _. g (get_or (set xs j new) c no_seat) ≡ f c (g (get_or xs c no_seat))) [
+      | inl e ↦ subst (λ n. g (get_or (set xs j new) n no_seat) ≡ f n (g (get_or xs n no_seat))) e
+          (ap g (get_or-set_same xs j new no_seat lt) ∙ own ∙ ap (λ s. f j (g s)) (get_or_default xs j x no_seat lt))
+      | inr ne ↦ ap g (get_or-set_other xs j c new no_seat (λ e. ne (sym e))) ∙ sym (other c (g (get_or xs c no_seat)) ne)
+    ]
+
+-- the builds of all stay where the one's does
+pub builds_at : (xs : List SeatState) (j : ℕ) (x new : SeatState) → j < length xs → build_of new ≡ build_of (get_or xs j x)
+    → (c : ℕ) → build_of (get_or (set xs j new) c no_seat) ≡ build_of (get_or xs c no_seat)
+builds_at xs j x new lt e = one_at build_of (λ c b. b) xs j x new lt e (λ c b ne. refl)
+
+-- REGISTERS
+
+module _ (h : Header) (w : World) (j : ℕ) where
+  pub msr_own : (reg : Reg) (value : ℕ) (v : Core) → with_bank v (queued v.bank (reg, value)) ≡ moved h w (Msr j reg value) j v
+  unfolding acted banked
+  msr_own reg value v = rw (eq-eqb j j refl) refl
+
+  pub msr_other : (reg : Reg) (value : ℕ) (c : ℕ) (v : Core) → (j ≡ c → ⊥) → moved h w (Msr j reg value) c v ≡ v
+  unfolding acted banked
+  msr_other reg value c v ne = rw (ne_eqb j c ne) refl
+
+  pub settle_own : (v : Core) → with_bank v (settled v.bank) ≡ moved h w (Settle j) j v
+  unfolding acted banked
+  settle_own v = rw (eq-eqb j j refl) refl
+
+  pub settle_other : (c : ℕ) (v : Core) → (j ≡ c → ⊥) → moved h w (Settle j) c v ≡ v
+  unfolding acted banked
+  settle_other c v ne = rw (ne_eqb j c ne) refl
+
+  pub isb_own : (v : Core) → with_bank v (drained v.bank) ≡ moved h w (Isb j) j v
+  unfolding acted banked
+  isb_own v = rw (eq-eqb j j refl) refl
+
+  pub isb_other : (c : ℕ) (v : Core) → (j ≡ c → ⊥) → moved h w (Isb j) c v ≡ v
+  unfolding acted banked
+  isb_other c v ne = rw (ne_eqb j c ne) refl
+
+-- INVALIDATIONS
+
+delivered_bank : (v : Core) (inbox : List Inval) → (delivered_by v inbox).bank ≡ v.bank
+delivered_bank v [] = refl
+delivered_bank v (i ∷ later) = refl
+
+delivered_same : (v : Core) → delivered v ≡ with_bank (delivered v) v.bank
+delivered_same v = ap (with_bank (delivered v)) (delivered_bank v v.inbox)
+
+mailed_same : (v : Core) (i : Inval) (room : Bool) → cond room (posted v i) (posted (delivered v) i) ≡ with_bank (cond room (posted v i) (posted (delivered v) i)) v.bank
+mailed_same v i true = refl
+mailed_same v i false = ap (with_bank (posted (delivered v) i)) (delivered_bank v v.inbox)
+
+reached_same : (v : Core) (i : Inval) (own : Bool) → cond own (mailed v i) v ≡ with_bank (cond own (mailed v i) v) v.bank
+reached_same v i true = mailed_same v i (nat_lt (length v.inbox) most_held)
+reached_same v i false = refl
+
+module _ (h : Header) (w : World) (j : ℕ) where
+  pub deliver_own : (v : Core) → delivered v ≡ moved h w (Deliver j) j v
+  unfolding acted banked
+  deliver_own v = rw (eq-eqb j j refl) (delivered_same v)
+
+  pub deliver_other : (c : ℕ) (v : Core) → (j ≡ c → ⊥) → moved h w (Deliver j) c v ≡ v
+  unfolding acted banked
+  deliver_other c v ne = rw (ne_eqb j c ne) refl
+
+  pub dsb_each : (kind : Barrier) (c : ℕ) (v : Core) → finished v (Dsb j kind) ≡ moved h w (Dsb j kind) c v
+  unfolding acted banked
+  dsb_each kind c v = refl
+
+  pub tlbi_each : (from : Origin) (op : Op) (shared : Bool) (operand : ℕ) (i : Inval) → i ≡ inval_of op shared (is_at_el1 from) operand (regs_in w j) j w.step
+      → (c : ℕ) (v : Core) → mailed_by c v (Some i) ≡ moved h w (Tlbi j from op shared operand) c v
+  unfolding acted banked issued_by
+  tlbi_each from op shared operand i e c v = rw (← e) (reached_same v i (reaches_core i c))
+
+-- the core of a number
+pub core_in : (k : ℕ) (m : Memory) (seats : List SeatState) (j : ℕ) (x : SeatState) → j < length seats → core_of (world_of k m seats) j ≡ core_at (get_or seats j x)
+core_in k m seats j x lt = get_or-map core_at seats j x no_core lt
+
+-- ACCESSES
+
+module _ (h : Header) (k : ℕ) (m : Memory) (seats : List SeatState) (are : AreSeats h seats) (j : ℕ) (x : SeatState) (lt : j < length seats) where
+  build_is : build_of (get_or seats j x) ≡ (j, h.size, h.policy)
+  build_is = ap build_of (get_or_default seats j x no_seat lt) ∙ are j lt
+
+  pub suits : Suits h (get_or seats j x).core
+  suits = (sym (ap (λ b. b.1) build_is), sym (ap (λ b. b.2) build_is))
+
+  pub seat_is : seat_at h (get_or seats j x).core m k ≡ seat_of h (world_of k m seats) j (core_at (get_or seats j x))
+  seat_is = ap (λ (n : ℕ). record (seat_at h (get_or seats j x).core m k) { number = n }) (ap (λ b. b.0) build_is)
+
+module _ (h : Header) (w : World) (j : ℕ) (a : Access) where
+  pub access_own : (v : Core) → accessed h w j v a ≡ moved h w (AccessOf j a) j v
+  unfolding acted banked
+  access_own v = rw (eq-eqb j j refl) refl
+
+  pub access_other : (c : ℕ) (v : Core) → (j ≡ c → ⊥) → moved h w (AccessOf j a) c v ≡ v
+  unfolding acted banked
+  access_other c v ne = rw (ne_eqb j c ne) refl
+
+  pub prefetch_own : (v : Core) → accessed h w j v a ≡ moved h w (Prefetch j a) j v
+  unfolding acted banked
+  prefetch_own v = rw (eq-eqb j j refl) refl
+
+  pub prefetch_other : (c : ℕ) (v : Core) → (j ≡ c → ⊥) → moved h w (Prefetch j a) c v ≡ v
+  unfolding acted banked
+  prefetch_other c v ne = rw (ne_eqb j c ne) refl
+
+-- A store changes no core.
+pub store_each : (h : Header) (w : World) (j pa value : ℕ) (c : ℕ) (v : Core) → v ≡ moved h w (Store j pa value) c v
+unfolding acted banked
+store_each h w j pa value c v = refl

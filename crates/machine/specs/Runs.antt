@@ -1,0 +1,29 @@
+-- A machine in the middle of a trace (this project's own rules).
+use Rattle.std.specs.Prelude.{◌≡◌, ◌≤◌, false, List, length, take, All, Option, Some, None}
+use Rattle.trails.specs.declared.step.Answer.{Answer}
+use Rattle.trails.specs.declared.step.Step.{Step}
+use Rattle.walk_spec.specs.Walked.{HasLine}
+use Rattle.trace_lang.specs.Traces.{Parts}
+use Rattle.machine_spec.specs.Allowed.{is_conflict}
+use Rattle.machine_spec.specs.Machine.{World, world_after, run_of}
+
+-- the trace, and the log of the steps that were done
+pub record MachineState : Type 0 where
+  pub trace : Parts
+  pub log : List Step
+
+-- an outcome that is no conflict has a line
+abbrev pub IsTold : (answer : Option Answer) → Type 0
+IsTold None = Unit {0}
+IsTold (Some r) = is_conflict r.outcome ≡ false → HasLine r.outcome
+
+-- each outcome of a log that is no conflict has a line
+abbrev pub AreTold : (log : List Step) → Type 0
+AreTold log = All (λ s. IsTold s.answer) log
+
+-- log and machine are those of the first events of the trace
+pub record IsRun (t : Parts) (log : List Step) (w : World) : Type 0 where
+  pub within : length log ≤ length t.events
+  pub log_is : log ≡ run_of t.header (take (length log) t.events)
+  pub world_is : w ≡ world_after t.header (take (length log) t.events)
+  pub told : AreTold log

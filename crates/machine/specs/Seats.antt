@@ -1,0 +1,68 @@
+-- A core with its inbox (this project's own rules).
+use Rattle.std.specs.Prelude.{◌≡◌, ◌<◌, ℕ, true, List, [], length, get_or, map, is_some, None}
+use Rattle.sysregs.specs.Refused.{refused_field}
+use Rattle.tlbi_ops.specs.declared.inval.Inval.{Inval}
+use Rattle.table_reads.specs.Memory.{Memory}
+use Rattle.trace_lang.specs.declared.header.Size.{Size}
+use Rattle.trace_lang.specs.declared.header.Size.TheVariants.{NoRows}
+use Rattle.trace_lang.specs.declared.header.Policy.{Policy}
+use Rattle.trace_lang.specs.declared.header.Policy.TheVariants.{Lru}
+use Rattle.trails.specs.declared.event.Event.{Event}
+use Rattle.trails.specs.declared.event.Event.TheVariants.{Store, Msr, Settle, Isb, Tlbi, Dsb, Deliver, Access, Prefetch}
+use Rattle.phys_mem.specs.Memory.{is_aligned}
+use Rattle.machine_spec.specs.Header.{Header}
+use Rattle.machine_spec.specs.Moments.{Bank}
+use Rattle.machine_spec.specs.Sets.{Cache}
+use Rattle.machine_spec.specs.Machine.{Core, World}
+use Rattle.cpu_model.specs.Cores.{CoreState, new_core}
+
+-- a core, and the invalidations that have reached it and have not taken effect, oldest first
+pub record SeatState : Type 0 where
+  pub core : CoreState
+  pub inbox : List Inval
+
+-- the core of the machine that it is
+abbrev pub core_at : (seat : SeatState) → Core
+core_at s = record { bank = s.core.bank; inbox = s.inbox; cache = s.core.cache }
+
+-- what never changes of a core: its number, and the size and the policy of its caches
+abbrev pub Build : Type 0
+Build = ℕ × Size × Policy
+
+abbrev pub build_of : (seat : SeatState) → Build
+build_of s = (s.core.number, s.core.size, s.core.policy)
+
+-- a core at first, with an empty inbox
+abbrev pub new_seat : (number : ℕ) (size : Size) (policy : Policy) → SeatState
+new_seat n s p = record { core = new_core n s p; inbox = [] }
+
+abbrev pub no_seat : SeatState
+no_seat = new_seat 0 NoRows Lru
+
+-- each core has its number, and the caches of the header
+abbrev pub AreSeats : (header : Header) (seats : List SeatState) → Type 0
+AreSeats h seats = (c : ℕ) → c < length seats → build_of (get_or seats c no_seat) ≡ (c, h.size, h.policy)
+
+-- a core with other registers and another queue
+abbrev pub with_bank : (core : Core) (bank : Bank) → Core
+with_bank w b = record w { bank = b }
+
+-- a core with other rows
+abbrev pub with_cache : (core : Core) (cache : Cache) → Core
+with_cache w l = record w { cache = l }
+
+-- the machine of a memory and of cores, at a step
+abbrev pub world_of : (step : ℕ) (memory : Memory) (seats : List SeatState) → World
+world_of k m seats = record { step = k; memory = m; cores = map core_at seats }
+
+-- a memory and cores can do an event: a store has a place, and a register write sets no refused field
+abbrev pub IsDoable : (memory : Memory) (event : Event) → Type 0
+IsDoable m (Store core pa value) = (is_aligned pa ≡ true) × (is_some (m pa) ≡ true)
+IsDoable m (Msr core reg value) = refused_field reg value ≡ None
+IsDoable m (Settle core) = Unit {0}
+IsDoable m (Isb core) = Unit {0}
+IsDoable m (Tlbi core from op shared operand) = Unit {0}
+IsDoable m (Dsb core kind) = Unit {0}
+IsDoable m (Deliver core) = Unit {0}
+IsDoable m (Access core access) = Unit {0}
+IsDoable m (Prefetch core access) = Unit {0}

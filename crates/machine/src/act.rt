@@ -1,0 +1,118 @@
+//! One event on memory and on the cores.
+ghost use Rattle.std.specs.Prelude.{◌≡◌, ◌<◌, ℕ, length, slice_index_or, Some};
+ghost use Rattle.trails.specs.declared.event.Event.TheVariants.{Dsb};
+ghost use Rattle.tlbi_ops.specs.Operands.{inval_of};
+ghost use Rattle.phys_mem.specs.Words.{memory_of};
+ghost use Rattle.machine_spec.specs.Header.{Header};
+ghost use Rattle.machine_spec.specs.Moments.{stored};
+ghost use Rattle.machine_spec.specs.Invalidations.{is_at_el1};
+ghost use Rattle.machine_spec.specs.Machine.{mailed_by, finished, moved, answer_to};
+ghost use Rattle.machine_laws.specs.Headline.{core_named};
+ghost use Rattle.machine.specs.Seats.{core_at, build_of, no_seat, AreSeats, world_of, IsDoable};
+ghost use Rattle.machine.specs.Runs.{IsTold};
+
+use crate::seat::Seat;
+use phys_mem::Phys;
+use sysregs::Op;
+use tlbi_ops::{Inval, decode};
+use trails::{Answer, Barrier, Event, Origin};
+
+/// Whether a TLBI is issued at EL1.
+fn is_at_el1(from: Origin) -> bool
+    ensures { result ≡ is_at_el1 from }
+{
+    match from {
+        Origin::El1 => true,
+        Origin::El2 => false,
+    }
+}
+
+/// An invalidation comes in at the cores that it reaches.
+fn post_all(seats: &mut [Seat], inval: &Inval)
+    ensures cores { (c : ℕ) → c < length seats.old →
+        core_at (slice_index_or seats.new c no_seat) ≡ mailed_by c (core_at (slice_index_or seats.old c no_seat)) (Some inval.now) }
+    ensures builds { (c : ℕ) → c < length seats.old → build_of (slice_index_or seats.new c no_seat) ≡ build_of (slice_index_or seats.old c no_seat) }
+{
+    for c in 0..seats.len() {
+        if inval.broadcast || inval.issuer as usize == c {
+            seats[c].post(*inval);
+        }
+    }
+}
+
+/// A TLBI of a core: its invalidation, by the registers in force of the core, comes in at the cores that it reaches.
+fn issue(seats: &mut [Seat], core: u8, from: Origin, op: Op, shared: bool, operand: u64, now: u32)
+    requires { core < length seats.old }
+    ensures cores { (c : ℕ) → c < length seats.old → core_at (slice_index_or seats.new c no_seat)
+        ≡ mailed_by c (core_at (slice_index_or seats.old c no_seat))
+        (Some (inval_of op shared (is_at_el1 from) operand (core_at (slice_index_or seats.old core no_seat)).bank.regs core now)) }
+    ensures builds { (c : ℕ) → c < length seats.old → build_of (slice_index_or seats.new c no_seat) ≡ build_of (slice_index_or seats.old c no_seat) }
+{
+    let regs = seats[core as usize].regs();
+    let inval = decode(op, shared, is_at_el1(from), operand, regs, core, now);
+    post_all(seats, &inval);
+}
+
+/// The invalidations that a DSB of a core completes take effect at all cores.
+fn finish_all(seats: &mut [Seat], core: u8, kind: Barrier)
+    ensures cores { (c : ℕ) → c < length seats.old →
+        core_at (slice_index_or seats.new c no_seat) ≡ finished (core_at (slice_index_or seats.old c no_seat)) (Dsb core kind) }
+    ensures builds { (c : ℕ) → c < length seats.old → build_of (slice_index_or seats.new c no_seat) ≡ build_of (slice_index_or seats.old c no_seat) }
+{
+    for seat in seats.iter_mut() {
+        seat.finish(core, kind);
+    }
+}
+
+/// Does the event of a step, and gives its answer.
+#[tactic(auto, unfolding(machine_spec::specs::Moments::stored, machine_spec::specs::Machine::answer_to))]
+pub fn act(phys: &mut Phys, seats: &mut [Seat], now: u32, event: &Event) -> Option<Answer>
+    requires here { core_named event.now < length seats.old }
+    requires doable { IsDoable (memory_of phys.old) event.now }
+    ensures memory { memory_of phys.new ≡ stored (memory_of phys.old) event.now }
+    ensures ranges { phys.new.ranges ≡ phys.old.ranges }
+    ensures answer { (h : Header) → AreSeats h seats.old → result ≡ answer_to h (world_of now (memory_of phys.old) seats.old) event.now }
+    ensures cores { (h : Header) → AreSeats h seats.old → (c : ℕ) → c < length seats.old → core_at (slice_index_or seats.new c no_seat)
+        ≡ moved h (world_of now (memory_of phys.old) seats.old) event.now c (core_at (slice_index_or seats.old c no_seat)) }
+    ensures builds { (c : ℕ) → c < length seats.old → build_of (slice_index_or seats.new c no_seat) ≡ build_of (slice_index_or seats.old c no_seat) }
+    ensures told { IsTold result }
+{
+    match *event {
+        Event::Store { pa, value, .. } => {
+            phys.store(pa, value);
+            None
+        }
+        Event::Msr { core, reg, value } => {
+            seats[core as usize].msr(reg, value);
+            None
+        }
+        Event::Settle { core } => {
+            seats[core as usize].settle();
+            None
+        }
+        Event::Isb { core } => {
+            seats[core as usize].isb();
+            None
+        }
+        Event::Tlbi {
+            core,
+            from,
+            op,
+            shared,
+            operand,
+        } => {
+            issue(seats, core, from, op, shared, operand, now);
+            None
+        }
+        Event::Dsb { core, kind } => {
+            finish_all(seats, core, kind);
+            None
+        }
+        Event::Deliver { core } => {
+            seats[core as usize].deliver();
+            None
+        }
+        Event::Access { core, access } => Some(seats[core as usize].access(phys, now, &access)),
+        Event::Prefetch { core, access } => Some(seats[core as usize].access(phys, now, &access)),
+    }
+}
