@@ -41,7 +41,13 @@ impl Model for Cpu {
 
     ghost Value = { CoreState };
 
-    ghost view = { λ s. record { number = s.number; size = s.size; policy = s.policy; bank = record { regs = s.regs; queue = s.queue.items }; cache = no_rows } };
+    ghost view = { λ s. record {
+      number = s.number;
+      size = s.size;
+      policy = s.policy;
+      bank = record { regs = s.regs; queue = s.queue.items };
+      cache = no_rows;
+    } };
 
     ghost invariant = { λ s. IsBank (record { regs = s.regs; queue = s.queue.items }) × (64 ≤ vec_capacity s.queue) × (s.size ≡ NoRows) };
 }
@@ -120,7 +126,8 @@ impl Cpu {
     /// The answer of an access at a moment, which is the number of the step. Without rows it is the walk of that moment.
     pub fn access(&mut self, phys: &Phys, now: u32, access: &Access) -> Answer
         ensures answer { (h : Header) → Suits h self.old → result ≡ (visited (seat_at h self.old (memory_of phys.now) now) access.now).answer }
-        ensures after { (h : Header) → Suits h self.old → self.new ≡ with_cache self.old (visited (seat_at h self.old (memory_of phys.now) now) access.now).cache }
+        ensures after { (h : Header) → Suits h self.old →
+            self.new ≡ with_cache self.old (visited (seat_at h self.old (memory_of phys.now) now) access.now).cache }
         ensures line { HasLine result.outcome }
     {
         let mut words = Words { phys };

@@ -5,3 +5,6 @@ mod cpu;
 mod words;
 
 pub use cpu::{Cpu, MOST_QUEUED};
+
+#[cfg(test)]
+mod tests;

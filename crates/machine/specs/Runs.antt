@@ -6,11 +6,19 @@ use Rattle.walk_spec.specs.Walked.{HasLine}
 use Rattle.trace_lang.specs.Traces.{Parts}
 use Rattle.machine_spec.specs.Allowed.{is_conflict}
 use Rattle.machine_spec.specs.Machine.{World, world_after, run_of}
+use Rattle.phys_mem.specs.Words.{Held, memory_of}
+use Rattle.machine.specs.Seats.{SeatState, world_of}
 
--- the trace, and the log of the steps that were done
+-- the trace, the log of the steps that were done, memory, and the cores with their inboxes
 pub record MachineState : Type 0 where
   pub trace : Parts
   pub log : List Step
+  pub phys : Held
+  pub seats : List SeatState
+
+-- the machine of the definitions that it is
+abbrev pub machine_of : (state : MachineState) → World
+machine_of s = world_of (length s.log) (memory_of s.phys) s.seats
 
 -- an outcome that is no conflict has a line
 abbrev pub IsTold : (answer : Option Answer) → Type 0

@@ -1,6 +1,7 @@
 //! One event on memory and on the cores.
 ghost use Rattle.std.specs.Prelude.{◌≡◌, ◌<◌, ℕ, length, slice_index_or, Some};
 ghost use Rattle.trails.specs.declared.event.Event.TheVariants.{Dsb};
+ghost use Rattle.tlbi_ops.specs.Operands.{inval_of};
 ghost use Rattle.phys_mem.specs.Words.{memory_of};
 ghost use Rattle.machine_spec.specs.Header.{Header};
 ghost use Rattle.machine_spec.specs.Moments.{stored};
@@ -12,6 +13,7 @@ ghost use Rattle.machine.specs.Runs.{IsTold};
 
 use crate::seat::Seat;
 use phys_mem::Phys;
+use sysregs::Op;
 use tlbi_ops::{Inval, decode};
 use trails::{Answer, Barrier, Event, Origin};
 
@@ -36,6 +38,19 @@ fn post_all(seats: &mut [Seat], inval: &Inval)
             seats[c].post(*inval);
         }
     }
+}
+
+/// A TLBI of a core: its invalidation, by the registers in force of the core, comes in at the cores that it reaches.
+fn issue(seats: &mut [Seat], core: u8, from: Origin, op: Op, shared: bool, operand: u64, now: u32)
+    requires { core < length seats.old }
+    ensures cores { (c : ℕ) → c < length seats.old → core_at (slice_index_or seats.new c no_seat)
+        ≡ mailed_by c (core_at (slice_index_or seats.old c no_seat))
+        (Some (inval_of op shared (is_at_el1 from) operand (core_at (slice_index_or seats.old core no_seat)).bank.regs core now)) }
+    ensures builds { (c : ℕ) → c < length seats.old → build_of (slice_index_or seats.new c no_seat) ≡ build_of (slice_index_or seats.old c no_seat) }
+{
+    let regs = seats[core as usize].regs();
+    let inval = decode(op, shared, is_at_el1(from), operand, regs, core, now);
+    post_all(seats, &inval);
 }
 
 /// The invalidations that a DSB of a core completes take effect at all cores.
@@ -86,16 +101,7 @@ pub fn act(phys: &mut Phys, seats: &mut [Seat], now: u32, event: &Event) -> Opti
             shared,
             operand,
         } => {
-            let inval = decode(
-                op,
-                shared,
-                is_at_el1(from),
-                operand,
-                seats[core as usize].regs(),
-                core,
-                now,
-            );
-            post_all(seats, &inval);
+            issue(seats, core, from, op, shared, operand, now);
             None
         }
         Event::Dsb { core, kind } => {

@@ -1,15 +1,16 @@
 //! The machine in the middle of a trace.
-ghost use Rattle.std.specs.Prelude.{◌≡◌, ◌<◌, ◌≤◌, ◌+◌, ℕ, [], ◌∷◌, ◌++◌, length, take, slice_get, slice_index_or, Some, None, IfOk};
+ghost use Rattle.std.specs.Prelude.{◌≡◌, ◌<◌, ◌≤◌, ◌+◌, ℕ, [], ◌∷◌, ◌++◌, length, take};
+ghost use Rattle.std.specs.Prelude.{slice_get, slice_index_or, Some, None, IfOk};
 ghost use Rattle.trails.specs.declared.step.Step.{Step as TheStep};
 ghost use Rattle.phys_mem.specs.Words.{memory_of};
 ghost use Rattle.phys_mem.specs.Memory.{zeros};
 ghost use Rattle.phys_mem.specs.Ranges.{refusal_in};
 ghost use Rattle.trace_lang.specs.declared.header.Size.TheVariants.{NoRows};
-ghost use Rattle.trace_lang.specs.Traces.{IsTrace, RangesFitBehind};
+ghost use Rattle.trace_lang.specs.Traces.{RangesFitBehind};
 ghost use Rattle.machine_spec.specs.Allowed.{IsAllowed};
-ghost use Rattle.machine_spec.specs.Machine.{run_of};
+ghost use Rattle.machine_spec.specs.Machine.{run_of, world_after};
 ghost use Rattle.machine.specs.Seats.{no_seat, new_seat};
-ghost use Rattle.machine.specs.Runs.{AreTold};
+ghost use Rattle.machine.specs.Runs.{AreTold, machine_of};
 
 use crate::act::act;
 use crate::seat::Seat;
@@ -38,7 +39,7 @@ impl Model for Machine {
 
     ghost Value = { MachineState };
 
-    ghost view = { λ s. record { trace = s.trace; log = s.log.items } };
+    ghost view = { λ s. record { trace = s.trace; log = s.log.items; phys = s.phys; seats = s.seats.items } };
 
     ghost invariant = { λ s. IsRun s.trace s.log.items (world_of (length s.log.items) (memory_of s.phys) s.seats.items)
         × AreSeats s.trace.header s.seats.items × (length s.seats.items ≡ s.trace.header.cores) × (s.phys.ranges ≡ s.trace.header.ranges)
@@ -90,7 +91,9 @@ impl Machine {
     /// The machine before the first event of a trace. All memory of the run is taken here.
     pub fn opened(alloc: Global, trace: Trace) -> Result<Machine, NoMemory>
         requires { trace.header.size ≡ NoRows }
-        ensures { IfOk result (λ m. m ≡ record { trace = trace; log = [] }) }
+        ensures trace { IfOk result (λ m. m.trace ≡ trace) }
+        ensures log { IfOk result (λ m. m.log ≡ []) }
+        ensures machine { IfOk result (λ m. machine_of m ≡ world_after trace.header []) }
     {
         let phys = memory(alloc, trace.ranges())?;
         let seats = seats_of(alloc, trace.cores(), trace.size(), trace.policy())?;
@@ -126,6 +129,7 @@ impl Machine {
         ensures log { (s : TheStep) × (self.new.log ≡ self.old.log ++ s ∷ []) × (slice_get self.old.trace.events (length self.old.log) ≡ Some s.event)
             × IsAllowed self.old.trace.header self.old.log s }
         ensures run { self.new.log ≡ run_of self.old.trace.header (take (length self.new.log) self.old.trace.events) }
+        ensures machine { machine_of self.new ≡ world_after self.old.trace.header (take (length self.new.log) self.old.trace.events) }
         ensures lines { AreTold self.new.log }
     {
         runs_are_allowed();
@@ -135,3 +139,6 @@ impl Machine {
         self.log.push_reserved(Step { event, answer });
     }
 }
+
+#[cfg(test)]
+mod tests;

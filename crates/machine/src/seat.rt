@@ -160,3 +160,6 @@ impl Seat {
         self.cpu.access(phys, now, access)
     }
 }
+
+#[cfg(test)]
+mod tests;

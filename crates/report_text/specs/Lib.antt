@@ -2,6 +2,5 @@ pub use Rattle.machine_spec.specs.Summary
 pub use Rattle.explain_text.specs.Explained
 pub use Rattle.explain_text.specs.Written
 pub mod Report
-pub mod Ends
 pub mod Waits
 pub mod Bounds

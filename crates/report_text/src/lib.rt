@@ -6,7 +6,7 @@ mod lines;
 mod page;
 mod writing;
 
-pub use writing::{ReportError, report};
+pub use writing::report;
 
 #[cfg(test)]
 mod tests;

@@ -1,90 +1,110 @@
-ghost use Rattle.std.specs.Prelude.{◌≡◌, ◌≤◌, [], Some, None, OnOk, false, if◌then◌else◌};
-ghost use Rattle.explain_text.specs.Written.{Appended};
-ghost use Rattle.report_text.specs.Ends.{Causes};
+ghost use Rattle.std.specs.Prelude.{◌≡◌, ◌≤◌, [], Some, OnOk, take};
+ghost use Rattle.bitwords.specs.Causes.{HasCause};
+ghost use Rattle.explain_text.specs.Written.{Wrote};
 ghost use Rattle.report_text.specs.Report.{step_text, summary_text, IsPrintable};
 ghost use Rattle.report_text.specs.Waits.{Adds, Passes};
 
 use crate::counts::Counts;
 use crate::lines::{step_lines, summary_line};
-use crate::writing::ReportError;
-use explain_text::{QuietMemory, Sink};
+use explain_text::{Sink, WriteFailed};
+use std::alloc::Global;
 use trails::Step;
 
 /// How many bytes wait at least before they are handed on.
 const LEAST: usize = 32 * 1024;
 
+/// Text that waits. A piece for which memory is refused is left out, and is counted.
+#[derive(Drop)]
+pub struct Page {
+    pub bytes: Vec<u8>,
+    pub refused: u64,
+}
+
+impl Page {
+    /// An empty page, with room for so many bytes if there is memory for them.
+    pub fn with_room(alloc: Global, room: usize) -> Page
+        ensures { result.bytes.items ≡ [] }
+    {
+        let bytes = match Vec::with_capacity(alloc, room) {
+            Ok(bytes) => bytes,
+            Err(_) => Vec::new(alloc),
+        };
+        Page { bytes, refused: 0 }
+    }
+}
+
+impl Sink for Page {
+    ghost written = { λ s. Some s.bytes.items };
+
+    ghost faults = { λ s. s.refused };
+
+    fn put(&mut self, piece: &[u8]) -> Result<(), WriteFailed> {
+        if self.bytes.extend_from_slice(piece).is_ok() {
+            return Ok(());
+        }
+        self.refused = self.refused.saturating_add(1);
+        Err(WriteFailed)
+    }
+}
+
 /// Hands on what waits where that is at least so many bytes.
-fn pass_on<O: Sink>(page: &mut QuietMemory, out: &mut O, least: usize) -> Result<(), ReportError>
+fn pass_on<O: Sink>(page: &mut Page, out: &mut O, least: usize) -> Result<(), WriteFailed>
     ensures text { Passes (O.written out.old) (O.written out.new) result page.old.bytes.items page.new.bytes.items }
     ensures empty { least ≡ 0 → OnOk result (page.new.bytes.items ≡ []) }
-    ensures lost { page.new.lost ≡ page.old.lost }
-    ensures cause { Causes (O.faults out.old) (O.faults out.new) result }
-    ensures later { O.faults out.old ≤ O.faults out.new }
+    ensures cause { HasCause (O.faults out.old) (O.faults out.new) result }
 {
     if page.bytes.len() < least {
         return Ok(());
     }
-    if out.put(page.bytes.as_slice()).is_err() {
-        return Err(ReportError::Write);
-    }
+    out.put(page.bytes.as_slice())?;
     page.bytes.clear();
     Ok(())
 }
 
-/// Over memory no line fails.
-#[tactic(auto, using(explain_text::proofs::Sinks::no_fault))]
-fn step_waits(page: &mut QuietMemory, number: u64, step: &Step)
-    requires { IsPrintable step.now.answer }
-    ensures { Appended (if page.old.lost then None else Some page.old.bytes.items) (if page.new.lost then None else Some page.new.bytes.items)
-        (step_text number step.now) }
+/// Hands on the first so many bytes that wait, and leaves out the others.
+fn pass_first<O: Sink>(page: &mut Page, out: &mut O, count: usize) -> Result<(), WriteFailed>
+    ensures text { Passes (O.written out.old) (O.written out.new) result (take count page.old.bytes.items) page.new.bytes.items }
+    ensures empty { OnOk result (page.new.bytes.items ≡ []) }
+    ensures cause { HasCause (O.faults out.old) (O.faults out.new) result }
 {
-    let _ = step_lines(page, number, step);
+    page.bytes.truncate(count);
+    pass_on(page, out, 0)
 }
 
-#[tactic(auto, using(explain_text::proofs::Sinks::no_fault))]
-fn summary_waits(page: &mut QuietMemory, counts: &Counts)
-    ensures { Appended (if page.old.lost then None else Some page.old.bytes.items) (if page.new.lost then None else Some page.new.bytes.items)
-        (summary_text counts.now) }
-{
-    let _ = summary_line(page, counts);
-}
-
-/// Puts the lines of a step on a page, and hands it on where enough waits.
+/// Puts the lines of a step on a page, and hands it on where enough waits. Lines for which memory is refused go straight
+/// out, behind what waits.
 pub fn put_step<O: Sink>(
-    page: &mut QuietMemory,
+    page: &mut Page,
     out: &mut O,
     number: u64,
     step: &Step,
-) -> Result<(), ReportError>
-    requires printable { IsPrintable step.now.answer }
-    requires told { page.old.lost ≡ false }
+) -> Result<(), WriteFailed>
+    requires { IsPrintable step.now.answer }
     ensures text { Adds (O.written out.old) (O.written out.new) result page.old.bytes.items page.new.bytes.items (step_text number step.now) }
-    ensures told { OnOk result (page.new.lost ≡ false) }
-    ensures cause { Causes (O.faults out.old) (O.faults out.new) result }
-    ensures later { O.faults out.old ≤ O.faults out.new }
+    ensures cause { HasCause (O.faults out.old) (O.faults out.new) result }
 {
-    step_waits(page, number, step);
-    if page.lost {
-        return Err(ReportError::NoMemory);
+    let waits = page.bytes.len();
+    if step_lines(page, number, step).is_ok() {
+        return pass_on(page, out, LEAST);
     }
-    pass_on(page, out, LEAST)
+    pass_first(page, out, waits)?;
+    step_lines(out, number, step)
 }
 
-/// Puts the summary line on a page, and hands on all that waits.
+/// Puts the summary line on a page, and hands on all that waits. A line for which memory is refused goes straight out.
 pub fn put_summary<O: Sink>(
-    page: &mut QuietMemory,
+    page: &mut Page,
     out: &mut O,
     counts: &Counts,
-) -> Result<(), ReportError>
-    requires { page.old.lost ≡ false }
+) -> Result<(), WriteFailed>
     ensures text { Adds (O.written out.old) (O.written out.new) result page.old.bytes.items page.new.bytes.items (summary_text counts.now) }
     ensures empty { OnOk result (page.new.bytes.items ≡ []) }
-    ensures cause { Causes (O.faults out.old) (O.faults out.new) result }
-    ensures later { O.faults out.old ≤ O.faults out.new }
+    ensures cause { HasCause (O.faults out.old) (O.faults out.new) result }
 {
-    summary_waits(page, counts);
-    if page.lost {
-        return Err(ReportError::NoMemory);
+    let waits = page.bytes.len();
+    if summary_line(page, counts).is_ok() {
+        return pass_on(page, out, 0);
     }
-    pass_on(page, out, 0)
+    pass_first(page, out, waits)?;
+    summary_line(out, counts)
 }

@@ -2,10 +2,10 @@ ghost use Rattle.std.specs.Prelude.{◌≡◌, ◌≤◌, ◌+◌, length, true,
 ghost use Rattle.explain_text.specs.Explained.{printed, HasText};
 ghost use Rattle.report_text.specs.Report.{IsPrintable, ArePrintable};
 
-use crate::{ReportError, report};
+use crate::report;
 use attributes::{Device, MemType, Share};
 use bitflags::Flags;
-use explain_text::{FailingMemory, QuietMemory};
+use explain_text::{FailingMemory, QuietMemory, WriteFailed};
 use fault_codes::{Class, Fault, Stage};
 use permissions::{El, Kind, Perms};
 use std::alloc::{AllocError, Global};
@@ -273,10 +273,7 @@ fn tells_that_a_write_failed(rt: HostRuntime) -> Result<(), AllocError> {
         let mut fails = Vec::new(alloc);
         fails.push((call, taken))?;
         let mut out = FailingMemory::new(alloc, fails);
-        assert_eq!(rt;
-            report(alloc, &mut out, log.as_slice()),
-            Err(ReportError::Write)
-        );
+        assert_eq!(rt; report(alloc, &mut out, log.as_slice()), Err(WriteFailed));
         assert_eq!(rt; (out.calls, out.faults), (call + 1, 1));
         assert!(rt; whole.bytes.as_slice().starts_with(out.bytes.as_slice()));
     }

@@ -1,11 +1,11 @@
 use Rattle.std.proofs.Common.{◌≡◌, ◌<◌, length, get_or, sym, ap, ◌∙◌, Some}
-use Rattle.sysregs.specs.declared.regs.Regs.{Regs}
 use Rattle.tlbi_ops.specs.Operands.{inval_of}
+use Rattle.tlbi_ops.specs.declared.inval.Inval.{Inval}
 use Rattle.trails.specs.declared.event.Event.TheVariants.{Msr, Settle, Isb, Deliver, Access as AccessOf, Prefetch}
 use Rattle.phys_mem.specs.Words.{memory_of}
 use Rattle.machine_spec.specs.Invalidations.{is_at_el1}
 use Rattle.machine_spec.specs.Machine.{World, Core, Seat, regs_in, seat_of, moved, visited, answer_to}
-use Rattle.machine.specs.Seats.{core_at, world_of, with_cache}
+use Rattle.machine.specs.Seats.{core_at, no_seat, world_of, with_cache}
 use Rattle.machine.proofs.Acts.{one_at, msr_own, msr_other, settle_own, settle_other, isb_own, isb_other, deliver_own, deliver_other}
 use Rattle.machine.proofs.Acts.{dsb_each, tlbi_each, store_each, core_in, suits, seat_is, access_own, access_other, prefetch_own, prefetch_other}
 use Rattle.machine.proofs.act.act.Goals as goal
@@ -36,12 +36,11 @@ returns-in-Tlbi-clause-cores c h are d lt =
     let w : World = world_of c.args.now (memory_of c.args.phys.now) c.args.seats.now in
     let t = c.in-Tlbi in
     let here : t.core < length c.args.seats.now = rw c.in-Tlbi.is at c.requires.here in
-    let regs : c.regs.result.now ≡ regs_in w t.core =
-    c.regs.ensures ∙ ap (λ (v : Core). v.bank.regs) (sym (core_in c.args.now (memory_of c.args.phys.now) c.args.seats.now t.core c.index-seats-core-in-Tlbi.result here)) in
-    let e : c.decode-inval.result ≡ inval_of t.op t.shared (is_at_el1 t.from) t.operand (regs_in w t.core) t.core c.args.now =
-    c.decode-inval.ensures ∙ ap (λ b. inval_of t.op t.shared b t.operand c.regs.result.now t.core c.args.now) c.is_at_el1.ensures
-    ∙ ap (λ (r : Regs). inval_of t.op t.shared (is_at_el1 t.from) t.operand r t.core c.args.now) regs in
-    rw c.in-Tlbi.is (c.post_all.ensures.cores d lt ∙ tlbi_each h w t.core t.from t.op t.shared t.operand c.decode-inval.result e d _)
+    let i : Inval = inval_of t.op t.shared (is_at_el1 t.from) t.operand (core_at (get_or c.args.seats.now t.core no_seat)).bank.regs t.core c.args.now in
+    let e : i ≡ inval_of t.op t.shared (is_at_el1 t.from) t.operand (regs_in w t.core) t.core c.args.now =
+    ap (λ (v : Core). inval_of t.op t.shared (is_at_el1 t.from) t.operand v.bank.regs t.core c.args.now)
+    (sym (core_in c.args.now (memory_of c.args.phys.now) c.args.seats.now t.core no_seat here)) in
+    rw c.in-Tlbi.is (c.issue.ensures.cores d lt ∙ tlbi_each h w t.core t.from t.op t.shared t.operand i e d _)
 
 pub returns-in-Dsb-clause-cores : goal.returns-in-Dsb-clause-cores
 returns-in-Dsb-clause-cores c h are d lt =

@@ -6,8 +6,7 @@ use Rattle.report_text.proofs.writing.report.Goals as goal
 pub loop-number-init : goal.loop-number-init
 loop-number-init g c = record {
   later = omega arith;
-  told = c.if-page.false;
-  text = nothing_yet _ _ c.with_room-page.ensures.bytes;
+  text = nothing_yet _ _ c.with_room-page.ensures;
   counts = c.none-counts.ensures;
   within = rw c.none-counts.ensures starts_within;
 }
@@ -18,7 +17,6 @@ returns-in_err-put_step-clause-text g c = step_fails _ _ _ c.put_step.result c.f
 pub loop-number-preserved : goal.loop-number-preserved
 loop-number-preserved g c = record {
   later = search rules;
-  told = search rules;
   text = step_goes _ _ _ c.put_step.result _ _ c.args.log.now c.loop-number.number c.index-log-number.result c.loop-number-test.true c.index-log-number.is (search rules) c.put_step.ensures.text c.loop-number.invariant.text;
   counts = c.step.ensures.counted ∙ rw c.loop-number.invariant.counts (summary_more c.args.log.now c.loop-number.number c.index-log-number.result c.loop-number-test.true c.index-log-number.is);
   within = rw c.step.ensures.counted (step_within c.loop-number.number c.loop-number.counts c.index-log-number.result c.step.ensures.range c.loop-number.invariant.within);

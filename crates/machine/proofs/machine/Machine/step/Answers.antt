@@ -68,3 +68,10 @@ returns-clause-run c = let g = went c in rw (← c.self.view_is, c.push_reserved
 
 pub returns-clause-lines : goal.returns-clause-lines
 returns-clause-lines c = let g = went c in rw c.push_reserved.ensures.items g.kept.told
+
+pub returns-clause-machine : goal.returns-clause-machine
+returns-clause-machine c =
+    let g = went c in
+    let s : take c.self.inside.seats.len (c.act-answer.new.seats ++ drop (length c.act-answer.new.seats) c.self.inside.seats.items) ≡ c.act-answer.new.seats =
+    take_at _ _ _ (c.act-answer.auto.seats ∙ c.as_mut_slice.ensures.len) in
+    rw (← c.self.view_is, s, c.push_reserved.ensures.items) g.kept.world_is
