@@ -51,7 +51,10 @@ fn commands(rt: HostRuntime) -> Result<(), Fail> {
         ("raw image 0x10 0x1000 -1", None),
         ("raw image 0x10 0x1000 --", None),
         ("raw --help 0x10 0x1000 0x0", None),
-        ("run explain", Some(Command::Run(RunArgs { trace: "explain" }))),
+        (
+            "run explain",
+            Some(Command::Run(RunArgs { trace: "explain" })),
+        ),
         ("run", None),
         ("run trace trace", None),
         ("run -", None),

@@ -1,5 +1,5 @@
 -- An access without rows.
-use Rattle.std.proofs.Common.{◌≡◌, ℕ, List, false, refl, sym, ap, ◌∙◌, arith, Some, None}
+use Rattle.std.proofs.Common.{◌≡◌, ℕ, List, false, refl, sym, ap, ◌∙◌, arith, Some, None, subst}
 use Rattle.bitwords.specs.Causes.{Rose}
 use Rattle.sysregs.specs.declared.regs.Regs.{Regs}
 use Rattle.sysregs.specs.Registers.{asid_of, vmid_of}
@@ -9,12 +9,14 @@ use Rattle.trails.specs.declared.outcome.Outcome.{Outcome}
 use Rattle.trails.specs.declared.step.Answer.{Answer}
 use Rattle.table_reads.specs.Memory.{Memory}
 use Rattle.trace_lang.specs.declared.header.Size.TheVariants.{NoRows}
-use Rattle.walk_spec.specs.Walked.{IsFresh}
+use Rattle.walk_spec.specs.Walked.{IsFresh, HasLine}
+use Rattle.walk_spec.specs.Fresh.{fresh_outcome}
 use Rattle.machine_spec.specs.Header.{Header}
 use Rattle.machine_spec.specs.Sets.{Cache}
 use Rattle.machine_spec.specs.Machine.{Visited, visited}
 use Rattle.machine_laws.proofs.NoRows.{fresh_answer, visited_fresh}
-use Rattle.cpu_model.specs.Cores.{CoreState, no_rows, Suits, seat_at, with_cache}
+use Rattle.cpu_model.specs.Cores.{CoreState, no_rows, Suits, seat_at, with_cache, HasRunLine}
+use Rattle.cpu_model.proofs.Levels.{fresh_run_line}
 
 -- a count that stands at 0 did not rise
 not_risen : Rose 0 0 → ⊥
@@ -44,3 +46,10 @@ module _ (c : CoreState) (m : Memory) (k : ℕ) (a : Access) (none : c.size ≡ 
 
   pub kept : c ≡ with_cache c (visited (seat_at h c m k) a).cache
   kept = rw (ap (λ (v : Visited). v.cache) fresh) refl
+
+-- the outcome of a walk over memory has a line in a run
+pub has_run_line : (regs : Regs) (m : Memory) (a : Access) (k : ℕ) (items : List Item) (o : Outcome) → IsFresh regs a k (Some m) (Rose 0 0) items o
+    → HasLine o → HasRunLine o
+has_run_line regs m a k items o is h =
+    let e = is m refl not_risen in
+    subst HasRunLine (sym e.1) (fresh_run_line m regs a k (subst HasLine e.1 h))

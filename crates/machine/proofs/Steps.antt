@@ -63,7 +63,7 @@ module _ (t : Parts) (limits : IsTrace t) (k : ℕ) (lt : k < length t.events) (
   pub doable : (p : Held) → p.ranges ≡ t.header.ranges → IsDoable (memory_of p) e
   doable p same = doable_by t.header p same e fits.1
 
-all_of_cores : (t : Parts) → IsTrace t → AreOfCores t.header t.events
+pub all_of_cores : (t : Parts) → IsTrace t → AreOfCores t.header t.events
 all_of_cores t limits = λ i d lt. of_core t.header (get_or t.events i d) (limits.each i d lt)
 
 -- THE MACHINE AT FIRST

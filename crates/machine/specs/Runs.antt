@@ -2,7 +2,7 @@
 use Rattle.std.specs.Prelude.{◌≡◌, ◌≤◌, false, List, length, take, All, Option, Some, None}
 use Rattle.trails.specs.declared.step.Answer.{Answer}
 use Rattle.trails.specs.declared.step.Step.{Step}
-use Rattle.walk_spec.specs.Walked.{HasLine}
+use Rattle.cpu_model.specs.Cores.{HasRunLine}
 use Rattle.trace_lang.specs.Traces.{Parts}
 use Rattle.machine_spec.specs.Allowed.{is_conflict}
 use Rattle.machine_spec.specs.Machine.{World, world_after, run_of}
@@ -23,7 +23,7 @@ machine_of s = world_of (length s.log) (memory_of s.phys) s.seats
 -- an outcome that is no conflict has a line
 abbrev pub IsTold : (answer : Option Answer) → Type 0
 IsTold None = Unit {0}
-IsTold (Some r) = is_conflict r.outcome ≡ false → HasLine r.outcome
+IsTold (Some r) = is_conflict r.outcome ≡ false → HasRunLine r.outcome
 
 -- each outcome of a log that is no conflict has a line
 abbrev pub AreTold : (log : List Step) → Type 0

@@ -151,9 +151,6 @@ pub fn put_answer<O: Sink>(alloc: Global, out: &mut O, answer: &Answer) -> Resul
 {
     match answer {
         Answer::Raw { .. } | Answer::Explain { .. } => put_walk(alloc, out, answer),
-        Answer::Run { machine } => match report(alloc, out, machine.log()) {
-            Ok(()) => Ok(()),
-            Err(_) => Err(WriteFailed),
-        },
+        Answer::Run { machine } => report(alloc, out, machine.log()),
     }
 }

@@ -37,12 +37,7 @@ fn room(size: u64) -> usize
 }
 
 /// The trace of a file that is there, of so many bytes.
-fn trace_in<F: Files>(
-    alloc: Global,
-    name: &str,
-    size: u64,
-    files: &mut F,
-) -> Result<Trace, Status>
+fn trace_in<F: Files>(alloc: Global, name: &str, size: u64, files: &mut F) -> Result<Trace, Status>
     requires { IsOfSize (F.holds files.old name.now) size }
     ensures same { F.holds files.new ≡ F.holds files.old }
     ensures trace { IfOk result (IsTraceOf (F.holds files.old name.now)) }
@@ -99,11 +94,7 @@ fn ran(alloc: Global, trace: Trace) -> Result<Machine, NoMemory>
 }
 
 /// What comes of a run.
-pub fn run<F: Files>(
-    alloc: Global,
-    asked: &RunArgs,
-    files: &mut F,
-) -> Result<Answer, Status>
+pub fn run<F: Files>(alloc: Global, asked: &RunArgs, files: &mut F) -> Result<Answer, Status>
     ensures outcome { IfOk result IsPrintable }
     ensures due { IsDue (reading_of F.holds F.faults F.missing files.old files.new) (Some (Asked.Run (run_words_of asked.now))) (due_of result) }
 {

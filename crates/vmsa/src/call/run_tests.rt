@@ -59,10 +59,7 @@ fn called<F: Files>(
 }
 
 /// The same over a trace in memory.
-fn called_over(
-    alloc: Global,
-    text: &[u8],
-) -> Result<(u8, QuietMemory, QuietMemory), AllocError> {
+fn called_over(alloc: Global, text: &[u8]) -> Result<(u8, QuietMemory, QuietMemory), AllocError> {
     let mut files = MemoryFiles {
         files: files(alloc, text)?,
     };
@@ -73,7 +70,8 @@ fn called_over(
 fn runs_traces(rt: HostRuntime) -> Result<(), Fail> {
     let alloc = rt.alloc();
     let empty = format!(in alloc; "{HEADER}end\n")?;
-    let none = "summary accesses 0 prefetches 0 mapped 0 faulted 0 conflicts 0 old 0 stale 0 evicted 0\n";
+    let none =
+        "summary accesses 0 prefetches 0 mapped 0 faulted 0 conflicts 0 old 0 stale 0 evicted 0\n";
     for (trace, report) in [(empty.as_str(), none), (WAITS, WAITED)] {
         let (status, out, err) = called_over(alloc, trace.as_bytes())?;
         assert_eq!(rt; status, 0);
@@ -87,7 +85,10 @@ fn runs_traces(rt: HostRuntime) -> Result<(), Fail> {
 fn refuses_traces(rt: HostRuntime) -> Result<(), Fail> {
     let alloc = rt.alloc();
     for (lines, why) in [
-        ("msr 0 HCR_EL2 0x400000000000\nend\n", "line 5: unsupported HCR_EL2.FWB"),
+        (
+            "msr 0 HCR_EL2 0x400000000000\nend\n",
+            "line 5: unsupported HCR_EL2.FWB",
+        ),
         ("", "no end"),
         ("jump 0\nend\n", "line 5: bad word 1"),
         ("access 0 el1 read 0xg\nend\n", "line 5: bad number 5"),

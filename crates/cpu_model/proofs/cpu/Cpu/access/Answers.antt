@@ -1,7 +1,7 @@
 use Rattle.std.proofs.Common.{refl}
 use Rattle.phys_mem.specs.Words.{memory_of}
 use Rattle.cpu_model.specs.Cores.{CoreState, no_rows}
-use Rattle.cpu_model.proofs.Fresh.{answered, kept}
+use Rattle.cpu_model.proofs.Fresh.{answered, kept, has_run_line}
 use Rattle.cpu_model.proofs.cpu.Cpu.access.Goals as goal
 
 pub returns-clause-answer : goal.returns-clause-answer
@@ -17,3 +17,8 @@ returns-clause-after c =
     let s = c.self.inside in
     let core : CoreState = record { number = s.number; size = s.size; policy = s.policy; bank = record { regs = s.regs; queue = s.queue.items }; cache = no_rows } in
     rw (← c.self.view_is) (λ h suits. kept core (memory_of c.args.phys.now) c.args.now c.args.access.now c.self.invariant.2 refl h suits)
+
+pub returns-clause-line : goal.returns-clause-line
+returns-clause-line c =
+    has_run_line c.self.inside.regs (memory_of c.args.phys.now) c.args.access.now c.args.now c.translate_at-outcome.result.1 c.translate_at-outcome.result.0
+    c.translate_at-outcome.ensures.fresh c.translate_at-outcome.ensures.line
