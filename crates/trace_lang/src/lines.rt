@@ -1,5 +1,5 @@
 //! The lines of a trace's text. Each is built from its end.
-ghost use Rattle.std.specs.Prelude.{◌≡◌, ◌≤◌, ◌+◌, [], ◌∷◌, ◌++◌, length, codes, decimal, if◌then◌else◌};
+ghost use Rattle.std.specs.Prelude.{◌≡◌, ◌≤◌, ◌<◌, ◌^◌, ◌+◌, [], ◌∷◌, ◌++◌, length, codes, decimal, if◌then◌else◌};
 ghost use Rattle.sysregs.specs.Names.{reg_text};
 ghost use Rattle.texts.specs.Texts.{hex_text};
 ghost use Rattle.trace_lang.specs.Traces.{has_operand};
@@ -82,6 +82,7 @@ fn tlbi_line(core: u8, from: Origin, op: Op, shared: bool, n: u64) -> Line
 fn access_line(first: &[u8], core: u8, access: Access) -> Line
     requires { length first.now ≤ 20 }
     ensures text { result ≡ line_of (first.now ∷ decimal core ∷ access_words access) }
+    ensures words { access.va < 2 ^ 64 }
 {
     let mut line = ended();
     line.when(access.pan, b" pan");
