@@ -6,3 +6,5 @@ pub mod Built
 pub mod Spaced
 pub mod Numerals
 pub mod Reread
+pub mod Again
+pub mod Growing
