@@ -98,7 +98,7 @@ range_back c done r f =
     ∙ go (number_or 3 (number_of (hex_text r.1))) r.1 (λ n. in_range 3 (is_size done r.0 n) n >>= apart r.0) (hex_at 3 r.1 (size_word done r f))
     ∙ go (in_range 3 (is_size done r.0 r.1) r.1) r.1 (apart r.0) (within 3 (is_size done r.0 r.1) r.1 (fits_size done r f))
     ∙ go (in_range 2 (not (list_any (shares_byte r) done)) r.0) r.0 (λ _. whole r.0 r.1)
-      (within 2 (not (list_any (shares_byte r) done)) r.0 (not_from_false (list_any (shares_byte r) done) f.apart))
+    (within 2 (not (list_any (shares_byte r) done)) r.0 (not_from_false (list_any (shares_byte r) done) f.apart))
 
 range_line : (c : ℕ) (done : List (ℕ × ℕ)) (r : ℕ × ℕ) → length done < most_ranges → RangeFits done r → IsLine range_words (in_ranges c) done r
 range_line c done r l f = record {
@@ -135,9 +135,10 @@ event_line h done e m l b =
 
 event_lines : (h : Header) (done events : List Event) → h.cores ≤ 8 → length done + length events ≤ most_events → All (IsBack h) events → AreLines event_words (in_events h) done events
 event_lines h done [] m l b = tt
-event_lines h done (e ∷ events) m l b =
-    (event_line h done e m (omega (arith, l)) (All-head (IsBack h) e events b),
-    event_lines h (done ++ e ∷ []) events m (let a = length-append done (e ∷ []) in omega (arith, a, l)) (All-tail (IsBack h) e events b))
+event_lines h done (e ∷ events) m l b = (
+  event_line h done e m (omega (arith, l)) (All-head (IsBack h) e events b),
+  event_lines h (done ++ e ∷ []) events m (let a = length-append done (e ∷ []) in omega (arith, a, l)) (All-tail (IsBack h) e events b),
+)
 
 -- THE TEXT
 
@@ -159,7 +160,7 @@ cores_back c l m =
     let whole : (n : ℕ) → Result State LineRefusal = λ n. no_word_at (cores_words c) 3 >>= (λ _. Ok (in_ranges n [])) in
     go (number_or 2 (number_of (decimal c))) c (λ n. in_range 2 (nat_le 1 n && nat_le n most_cores) n >>= whole) (decimal_at 2 c m)
     ∙ go (in_range 2 (nat_le 1 c && nat_le c most_cores) c) c whole
-      (within 2 (nat_le 1 c && nat_le c most_cores) c (and_from (nat_le 1 c) (nat_le c most_cores) (le-leb 1 c l) (le-leb c most_cores m)))
+    (within 2 (nat_le 1 c && nat_le c most_cores) c (and_from (nat_le 1 c) (nat_le c most_cores) (le-leb 1 c l) (le-leb c most_cores m)))
 
 caches_back : (c : ℕ) (rs : List (ℕ × ℕ)) → words_met (in_ranges c rs) caches_words ≡ Ok (state_in PolicyDue (header c rs) [])
 caches_back c rs = refl
@@ -224,7 +225,7 @@ built_back c rs es t b =
     let e = event_lines (header c rs) [] es t.cores (omega (arith, many)) b in
     ap trace_of (text_is c rs es)
     ∙ cond-false (nat_lt most_text (length (whole_text c rs es))) (Err (refusal.TooLarge (length (whole_text c rs es)))) (then_ended (lines_met no_lines 1 (slice_split is_end (whole_text c rs es))))
-      (le-ltb most_text (length (whole_text c rs es)) (text_room c rs es t.cores t.count t.events r e))
+    (le-ltb most_text (length (whole_text c rs es)) (text_room c rs es t.cores t.count t.events r e))
     ∙ ap then_ended (header_back c rs es t.some_cores t.cores r ∙ events_back (header c rs) es (((2 + length rs) + 1) + 1) e)
 
 -- the events of a trace

@@ -136,7 +136,7 @@ line_read s ws h k =
     let short : length (bare ws) ≤ most_line = let m = room ws h in omega (arith, m) in
     ap (line_met s) (unreturned (bare ws) plain)
     ∙ passes (list_all is_text (bare ws)) (nat_lt most_line (length (bare ws))) (Err NotText) (Err LongLine) (words_met s (words_of (bare ws)))
-      (list_by is_plain is_text plain_text (bare ws) plain) (le-ltb most_line (length (bare ws)) short)
+    (list_by is_plain is_text plain_text (bare ws) plain) (le-ltb most_line (length (bare ws)) short)
     ∙ ap (words_met s) (words_back ws h)
 
 -- the lines behind one that leads to a state

@@ -55,9 +55,9 @@ fn begin(line: &mut Line, first: &[u8], n: u8)
 
 /// Puts the operand of an operation that has one.
 fn operand(line: &mut Line, op: Op, operand: u64)
-    requires { 19 + length line.old ≤ LINE }
+    requires { 21 + length line.old ≤ LINE }
     ensures text { line.new ≡ (if has_operand op then codes " " ++ (hex_text operand ++ line.old) else line.old) }
-    ensures room { length line.new ≤ 19 + length line.old }
+    ensures room { length line.new ≤ 21 + length line.old }
 {
     if has_operand(op) {
         number(line, operand);
