@@ -1,5 +1,5 @@
 -- The canonical text of a trace is read as that trace.
-use Rattle.std.proofs.Common.{◌≡◌, ℕ, ◌+◌, ◌*◌, ◌<◌, ◌≤◌, ◌^◌, Bool, true, false, not, ◌&&◌, cond, List, [], ◌∷◌, ◌++◌, length, flat_map, Result, Ok, Err, refl, sym, ◌∙◌, ap, arith, subst, codes, append_assoc, append-nil, length-append}
+use Rattle.std.proofs.Common.{◌≡◌, ℕ, ◌+◌, ◌*◌, ◌<◌, ◌≤◌, ◌^◌, true, false, not, ◌&&◌, List, [], ◌∷◌, ◌++◌, length, flat_map, Result, Ok, Err, refl, sym, ◌∙◌, ap, arith, subst, codes, append_assoc, append-nil, length-append}
 use Rattle.std.specs.Prelude.{decimal, nat_lt, nat_le, bytes_eq, take, All}
 use Rattle.std.specs.List.{slice_split, list_any}
 use Rattle.std.proofs.lemmas.Bool.{and_from, cond-false, not_from_false, lt-ltb, lt-leb, le-leb, le-ltb}
@@ -8,21 +8,20 @@ use Rattle.texts.specs.Numbers.{number_of}
 use Rattle.texts.specs.Texts.{hex_text}
 use Rattle.trails.specs.declared.event.Event.{Event}
 use Rattle.trace_lang.specs.declared.refusals.Phase.{Phase}
-use Rattle.trace_lang.specs.declared.refusals.Phase.TheVariants.{Cores, Ranges, Policy as PolicyDue, Events, Ended}
+use Rattle.trace_lang.specs.declared.refusals.Phase.TheVariants.{Ranges, Policy as PolicyDue, Events, Ended}
 use Rattle.trace_lang.specs.declared.refusals.LineRefusal.{LineRefusal}
 use Rattle.trace_lang.specs.declared.refusals.LineRefusal.TheVariants.{TooMany}
-use Rattle.trace_lang.specs.declared.refusals.TraceRefusal.{TraceRefusal}
 use Rattle.trace_lang.specs.declared.refusals.TraceRefusal.TheVariants as refusal
 use Rattle.trace_lang.specs.declared.header.Size.TheVariants.{NoRows}
 use Rattle.trace_lang.specs.declared.header.Policy.TheVariants.{Fifo}
-use Rattle.trace_lang.specs.Traces.{Header, Parts, parts_of, IsTrace, RangeFits, RangesFitBehind, EventFits, is_aligned, shares_byte, bytes_in, most_cores, most_ranges, most_events, most_memory}
+use Rattle.trace_lang.specs.Traces.{Header, Parts, parts_of, IsTrace, RangeFits, RangesFitBehind, is_aligned, shares_byte, bytes_in, most_cores, most_ranges, most_events, most_memory}
 use Rattle.trace_lang.specs.Words.{◌>>=◌, is_end, in_range, number_or, no_word_at}
 use Rattle.trace_lang.specs.Events.{event_of}
-use Rattle.trace_lang.specs.Lines.{State, no_lines, with_header, with_event, is_base, is_size, words_met, range_met, ranges_met, body_met, lines_met, then_ended, most_text, trace_of}
+use Rattle.trace_lang.specs.Lines.{State, no_lines, with_event, is_base, is_size, words_met, range_met, body_met, lines_met, then_ended, most_text, trace_of}
 use Rattle.trace_lang.specs.Limits.{IsBuilt, HasNoPrefetch, HasWords}
-use Rattle.trace_lang.specs.Canonical.{line_of, range_words, event_words, header_text, text_of}
-use Rattle.trace_lang.proofs.Spaced.{is_word, AreWords, line_room, next_line}
-use Rattle.trace_lang.proofs.Numerals.{hex_back, hex_word, decimal_back, decimal_word}
+use Rattle.trace_lang.specs.Canonical.{line_of, range_words, event_words, text_of}
+use Rattle.trace_lang.proofs.Spaced.{AreWords, line_room, next_line}
+use Rattle.trace_lang.proofs.Numerals.{hex_word, decimal_word}
 use Rattle.trace_lang.proofs.Reread.{go, within, hex_at, decimal_at, IsBack, event_back, event_are_words, few_words, begins}
 
 -- MANY LINES

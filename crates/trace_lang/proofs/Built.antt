@@ -1,10 +1,8 @@
 -- What a text may name of sizes, policies and events is what a trace that was read has.
-use Rattle.std.proofs.Common.{◌≡◌, ℕ, ◌+◌, ◌++◌, Bool, true, false, not, cond, List, [], ◌∷◌, length, Option, Some, None, Result, Ok, Err, IfOk, refl, subst}
-use Rattle.std.specs.Prelude.{codes, nat_lt, nat_le, bytes_eq, take, slice_get, ◌-◌}
+use Rattle.std.proofs.Common.{◌≡◌, ℕ, ◌+◌, ◌++◌, Bool, true, false, not, cond, List, [], ◌∷◌, length, Some, None, Result, Ok, Err, IfOk, refl, subst}
+use Rattle.std.specs.Prelude.{codes, nat_lt, nat_le, bytes_eq, take, ◌-◌}
 use Rattle.std.specs.List.{list_any, list_all}
-use Rattle.trace_lang.specs.declared.header.Size.{Size}
 use Rattle.trace_lang.specs.declared.header.Size.TheVariants.{NoRows}
-use Rattle.trace_lang.specs.declared.header.Policy.{Policy}
 use Rattle.trace_lang.specs.declared.header.Policy.TheVariants.{Fifo}
 use Rattle.trace_lang.specs.declared.refusals.Phase.{Phase}
 use Rattle.trace_lang.specs.declared.refusals.Phase.TheVariants.{Cores, Ranges, Policy as PolicyDue, Events, Ended}
@@ -12,14 +10,14 @@ use Rattle.trace_lang.specs.declared.refusals.LineRefusal.{LineRefusal}
 use Rattle.trace_lang.specs.declared.refusals.LineRefusal.TheVariants.{NotText, LongLine, TooMany, NotAtEl1}
 use Rattle.trace_lang.specs.declared.refusals.TraceRefusal.{TraceRefusal}
 use Rattle.trace_lang.specs.Traces.{Header, shares_byte, most_ranges, most_events, may_issue}
-use Rattle.trace_lang.specs.Words.{◌>>=◌, word_or, word_at, number_at, name_at, no_word_at, named, words_of, is_text, in_range}
+use Rattle.trace_lang.specs.Words.{word_or, word_at, number_at, name_at, no_word_at, named, words_of, is_text, in_range}
 use Rattle.trace_lang.specs.Events.{Verb, store, msr, settle, isb, tlbi, dsb, deliver, access, event_of, event_by, core_at, place_at, operand_at, pan_at, verbs, reg_names, op_names, origins, barriers, els, kinds}
 use Rattle.std.proofs.lemmas.List.Elements.{All-nil, All-push}
 use Rattle.sysregs.specs.declared.regs.Op.{Op}
 use Rattle.sysregs.specs.Refused.{refused_field}
 use Rattle.trails.specs.declared.event.Event.{Event}
 use Rattle.trails.specs.declared.event.Event.TheVariants.{Msr, Tlbi}
-use Rattle.trace_lang.specs.Lines.{State, no_lines, with_header, with_event, cores_met, range_met, sizes, caches_met, policies, policy_met, ranges_met, body_met, met, words_met, line_met, without_return, lines_met, refused_in, most_line}
+use Rattle.trace_lang.specs.Lines.{State, no_lines, with_header, cores_met, range_met, sizes, caches_met, policies, policy_met, ranges_met, body_met, met, words_met, line_met, without_return, lines_met, refused_in, most_line}
 use Rattle.trace_lang.specs.Limits.{IsBuilt, HasNoPrefetch, is_prefetch}
 use Rattle.trace_lang.proofs.Keeping.{then_with, then_any, either, supported}
 

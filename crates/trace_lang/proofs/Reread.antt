@@ -1,7 +1,7 @@
 -- The words of an event are read as that event.
-use Rattle.std.proofs.Common.{◌≡◌, ℕ, ◌+◌, ◌<◌, ◌≤◌, ◌^◌, Bool, true, false, ◌&&◌, cond, List, [], ◌∷◌, ◌++◌, length, Option, Some, None, Result, Ok, Err, refl, sym, ◌∙◌, ap, arith, codes}
-use Rattle.std.specs.Prelude.{decimal, nat_lt, nat_le, bytes_eq, take}
-use Rattle.std.proofs.lemmas.Bool.{true≢false, and_from, cond-true, cond-false, lt-ltb, lt-leb}
+use Rattle.std.proofs.Common.{◌≡◌, ℕ, ◌<◌, ◌≤◌, ◌^◌, Bool, true, false, ◌&&◌, cond, List, [], ◌∷◌, length, Some, None, Result, Ok, Err, refl, sym, ◌∙◌, ap, arith, codes}
+use Rattle.std.specs.Prelude.{decimal, nat_lt, bytes_eq, take}
+use Rattle.std.proofs.lemmas.Bool.{true≢false, and_from, cond-true, cond-false, lt-ltb}
 use Rattle.sysregs.specs.declared.regs.Reg.{Reg}
 use Rattle.sysregs.specs.declared.regs.Reg.TheVariants.{SctlrEl1}
 use Rattle.sysregs.specs.declared.regs.Op.{Op}
@@ -27,7 +27,7 @@ use Rattle.trace_lang.specs.Traces.{Header, EventFits, core_of, is_aligned, is_w
 use Rattle.trace_lang.specs.Words.{◌>>=◌, word_or, number_or, in_range, number_at, name_at, no_word_at, named}
 use Rattle.trace_lang.specs.Events.{Verb, store, msr, settle, isb, tlbi, dsb, deliver, access, event_of, event_by, core_at, place_at, operand_at, pan_at, supported_by, allowed_from, reg_names, op_names, origins, barriers, els, kinds}
 use Rattle.trace_lang.specs.Limits.{is_prefetch, HasWords}
-use Rattle.trace_lang.specs.Canonical.{op_word, origin_text, barrier_text, el_text, kind_text, access_words, event_words}
+use Rattle.trace_lang.specs.Canonical.{op_word, origin_text, barrier_text, el_text, kind_text, event_words}
 use Rattle.trace_lang.proofs.Spaced.{is_word, AreWords}
 use Rattle.trace_lang.proofs.Numerals.{hex_back, hex_word, decimal_back, decimal_word}
 

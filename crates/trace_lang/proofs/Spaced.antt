@@ -1,5 +1,5 @@
 -- A line of words is cut back into them, and is no line that is refused or skipped for its bytes.
-use Rattle.std.proofs.Common.{◌≡◌, ℕ, ◌+◌, ◌*◌, ◌<◌, ◌≤◌, Bool, true, false, not, ◌&&◌, ◌||◌, cond, List, [], ◌∷◌, ◌++◌, length, filter, Result, Ok, Err, refl, sym, ◌∙◌, ap, arith, append_assoc, length-append, codes}
+use Rattle.std.proofs.Common.{◌≡◌, ℕ, ◌+◌, ◌*◌, ◌<◌, ◌≤◌, Bool, true, false, not, ◌&&◌, cond, List, [], ◌∷◌, ◌++◌, length, filter, Result, Ok, Err, refl, sym, ◌∙◌, ap, arith, append_assoc, length-append}
 use Rattle.std.specs.Prelude.{nat_lt, nat_le, ◌==◌, All}
 use Rattle.std.specs.List.{list_all, slice_split}
 use Rattle.std.proofs.lemmas.Bool.{and_parts, and_from, cond-true, cond-false, or_left, not_from_false, ltb-true, leb-true, lt-ltb, le-leb, le-ltb}
@@ -7,7 +7,6 @@ use Rattle.std.proofs.lemmas.Bool.Decides.{nat_tests}
 use Rattle.std.proofs.lemmas.List.Elements.{All-nil, All-cons}
 use Rattle.std.proofs.lemmas.List.Folds.{list_all-append}
 use Rattle.std.proofs.lemmas.List.Splits.{slice_split_at, slice_split_none}
-use Rattle.trace_lang.specs.declared.refusals.LineRefusal.{LineRefusal}
 use Rattle.trace_lang.specs.declared.refusals.LineRefusal.TheVariants.{NotText, LongLine}
 use Rattle.trace_lang.specs.declared.refusals.TraceRefusal.{TraceRefusal}
 use Rattle.trace_lang.specs.Words.{is_blank, is_text, is_end, words_of}

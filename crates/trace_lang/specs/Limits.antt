@@ -1,4 +1,4 @@
--- What holds of a trace while its lines are read.
+-- What holds of a trace while its lines are read, and of one that its text gives back (this project's own rules).
 use Rattle.std.specs.Prelude.{◌≡◌, ◌<◌, ◌^◌, Bool, true, false, [], All}
 use Rattle.trails.specs.declared.event.Event.{Event}
 use Rattle.trails.specs.declared.event.Event.TheVariants.{Store, Msr, Settle, Isb, Tlbi, Dsb, Deliver, Access, Prefetch}
@@ -14,7 +14,7 @@ pub record IsBuilt (h : Header) : Type 0 where
   pub size : h.size ≡ NoRows
   pub policy : h.policy ≡ Fifo
 
--- a prefetch, which no text may name today
+-- whether an event is a prefetch, which no text may name today
 abbrev pub is_prefetch : (event : Event) → Bool
 is_prefetch (Store core pa value) = false
 is_prefetch (Msr core reg value) = false
@@ -26,6 +26,7 @@ is_prefetch (Deliver core) = false
 is_prefetch (Access core access) = false
 is_prefetch (Prefetch core access) = true
 
+-- no event of a trace is one
 abbrev pub HasNoPrefetch : (t : Parts) → Type 0
 HasNoPrefetch t = All (λ e. is_prefetch e ≡ false) t.events
 

@@ -11,6 +11,7 @@ use bitwords::NoMemory;
 use std::alloc::Global;
 use trails::Event;
 
+/// Puts a line behind the text that stands.
 fn put(text: &mut Vec<u8>, line: &[u8]) -> Result<(), NoMemory>
     ensures { IfOk result (λ _. text.new.items ≡ text.old.items ++ line.now) }
 {
@@ -50,7 +51,7 @@ fn put_events(text: &mut Vec<u8>, events: &[Event]) -> Result<(), NoMemory>
 
 /// The canonical text of a trace: one space between words, numbers of cores in decimal and all others as `0x` and
 /// lower-case hexadecimal digits, and no line that is skipped (this project's own rule). `parse` reads it back, but for
-/// sizes of caches, policies and prefetches that no text may name today.
+/// sizes of caches, policies and prefetches that no text may name today. NoMemory comes where memory is refused.
 pub fn print(alloc: Global, trace: &Trace) -> Result<Vec<u8>, NoMemory>
     ensures text { IfOk result (λ v. v.items ≡ text_of trace.now) }
     ensures again { IsBuilt trace.now.header → HasNoPrefetch trace.now → IfOk result (λ v. trace_of v.items ≡ Ok trace.now) }
