@@ -64,7 +64,7 @@ operand_fits op ws =
     (λ t. then_any (OperandFits op) (number_at ws 5) _ (λ n. then_any (OperandFits op) (no_word_at ws 6) _ (λ _ f. absurd (both_ways (has_operand op) f t))))
     (λ f. then_any (OperandFits op) (no_word_at ws 5) _ (λ _ _. refl))
 
-supported : (P : Event → Type 0) (reg : Reg) (field : Option Field) (e : Event) → (field ≡ None → P e) → IfOk (supported_by reg field e) P
+pub supported : (P : Event → Type 0) (reg : Reg) (field : Option Field) (e : Event) → (field ≡ None → P e) → IfOk (supported_by reg field e) P
 supported P reg None e h = h refl
 supported P reg (Some f) e h = tt
 

@@ -3,3 +3,8 @@ pub mod Naming
 pub mod Keeping
 pub mod Worked
 pub mod Built
+pub mod Spaced
+pub mod Numerals
+pub mod Reread
+pub mod Again
+pub mod Growing

@@ -1,6 +1,6 @@
 -- The text of a trace: one space between words, decimal numbers of cores, all other numbers as 0x and digits, no line that is
 -- skipped. The form is this project's own rule.
-use Rattle.std.specs.Prelude.{ℕ, List, [], ◌∷◌, ◌++◌, flat_map, decimal, codes, Bool, true, false, if◌then◌else◌}
+use Rattle.std.specs.Prelude.{ℕ, List, [], ◌∷◌, ◌++◌, flat_map, decimal, codes, Bool, if◌then◌else◌}
 use Rattle.sysregs.specs.declared.regs.Op.{Op}
 use Rattle.sysregs.specs.Names.{reg_text}
 use Rattle.permissions.specs.declared.bits.El.{El}

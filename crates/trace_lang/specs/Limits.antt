@@ -1,5 +1,7 @@
--- What holds of a trace while its lines are read.
-use Rattle.std.specs.Prelude.{◌≡◌, []}
+-- What holds of a trace while its lines are read, and of one that its text gives back (this project's own rules).
+use Rattle.std.specs.Prelude.{◌≡◌, ◌<◌, ◌^◌, Bool, true, false, [], All}
+use Rattle.trails.specs.declared.event.Event.{Event}
+use Rattle.trails.specs.declared.event.Event.TheVariants.{Store, Msr, Settle, Isb, Tlbi, Dsb, Deliver, Access, Prefetch}
 use Rattle.trace_lang.specs.declared.refusals.Phase.{Phase}
 use Rattle.trace_lang.specs.declared.refusals.Phase.TheVariants.{Cores, Ranges, Policy as PolicyDue, Events, Ended}
 use Rattle.trace_lang.specs.declared.header.Size.TheVariants.{NoRows}
@@ -11,6 +13,34 @@ use Rattle.trace_lang.specs.Lines.{State}
 pub record IsBuilt (h : Header) : Type 0 where
   pub size : h.size ≡ NoRows
   pub policy : h.policy ≡ Fifo
+
+-- whether an event is a prefetch, which no text may name today
+abbrev pub is_prefetch : (event : Event) → Bool
+is_prefetch (Store core pa value) = false
+is_prefetch (Msr core reg value) = false
+is_prefetch (Settle core) = false
+is_prefetch (Isb core) = false
+is_prefetch (Tlbi core from op shared operand) = false
+is_prefetch (Dsb core kind) = false
+is_prefetch (Deliver core) = false
+is_prefetch (Access core access) = false
+is_prefetch (Prefetch core access) = true
+
+-- no event of a trace is one
+abbrev pub HasNoPrefetch : (t : Parts) → Type 0
+HasNoPrefetch t = All (λ e. is_prefetch e ≡ false) t.events
+
+-- the addresses, values and operands of an event are words of 64 bits
+abbrev pub HasWords : (event : Event) → Type 0
+HasWords (Store core pa value) = (pa < 2 ^ 64) × (value < 2 ^ 64)
+HasWords (Msr core reg value) = value < 2 ^ 64
+HasWords (Settle core) = Unit {0}
+HasWords (Isb core) = Unit {0}
+HasWords (Tlbi core from op shared operand) = operand < 2 ^ 64
+HasWords (Dsb core kind) = Unit {0}
+HasWords (Deliver core) = Unit {0}
+HasWords (Access core access) = access.va < 2 ^ 64
+HasWords (Prefetch core access) = access.va < 2 ^ 64
 
 -- before the first event there is none, and before the first range neither
 abbrev pub KeepsLimitsIn : (phase : Phase) (trace : Parts) → Type 0

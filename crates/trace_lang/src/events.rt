@@ -51,7 +51,7 @@ fn msr(head: &Head, core: u8, words: &[&[u8]]) -> Result<Event, LineError>
 }
 
 /// Whether an operation has an operand.
-fn has_operand(op: Op) -> bool
+pub fn has_operand(op: Op) -> bool
     ensures { result ≡ has_operand op }
 {
     !matches!(op, Op::Vmalle1 | Op::Vmalls12e1 | Op::Alle1)

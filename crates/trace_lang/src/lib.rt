@@ -4,15 +4,18 @@
 mod cuts;
 mod events;
 mod header;
+mod lines;
 mod names;
 mod parsing;
 mod places;
+mod printing;
 mod reading;
 mod refusals;
 mod trace;
 
 pub use header::{Policy, Size};
 pub use parsing::{MOST_BYTES, parse};
+pub use printing::{parse_of_print, print};
 pub use refusals::{LineRefusal, Phase, TraceError, TraceRefusal};
 pub use trace::Trace;
 

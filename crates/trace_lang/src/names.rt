@@ -1,7 +1,8 @@
-ghost use Rattle.std.specs.Prelude.{◌≡◌, [], ◌∷◌, ◌++◌, map, option_map, codes, true};
+ghost use Rattle.std.specs.Prelude.{◌≡◌, ◌≤◌, [], ◌∷◌, ◌++◌, length, map, option_map, codes, true};
 ghost use Rattle.trace_lang.specs.Words.{named};
 ghost use Rattle.trace_lang.specs.Events.{verbs, reg_names, op_names, op_text, all_ops, origins, barriers, els, kinds};
 ghost use Rattle.trace_lang.specs.Lines.{sizes, policies};
+ghost use Rattle.trace_lang.specs.Canonical.{origin_text, barrier_text, el_text, kind_text, size_text};
 ghost use Rattle.trace_lang.specs.Views.{verb_of};
 
 use crate::{Policy, Size};
@@ -92,8 +93,9 @@ pub fn register_named(word: &[u8]) -> Option<Reg>
 }
 
 /// The name of an operation without its IS.
-fn op_name(op: Op) -> &'static [u8]
-    ensures { result.now ≡ op_text op }
+pub fn op_name(op: Op) -> &'static [u8]
+    ensures text { result.now ≡ op_text op }
+    ensures short { length result.now ≤ 10 }
 {
     match op {
         Op::Vmalle1 => b"VMALLE1",
@@ -231,5 +233,64 @@ pub fn policy_named(word: &[u8]) -> Option<Policy>
         Some(Policy::Fifo)
     } else {
         None
+    }
+}
+
+/// The word for the exception level that issues a TLBI.
+pub fn origin_name(from: Origin) -> &'static [u8]
+    ensures text { result.now ≡ origin_text from }
+    ensures short { length result.now ≤ 10 }
+{
+    match from {
+        Origin::El1 => b"el1",
+        Origin::El2 => b"el2",
+    }
+}
+
+/// The word for the accesses that a DSB waits for.
+pub fn barrier_name(kind: Barrier) -> &'static [u8]
+    ensures text { result.now ≡ barrier_text kind }
+    ensures short { length result.now ≤ 10 }
+{
+    match kind {
+        Barrier::Nsh => b"nsh",
+        Barrier::Ish => b"ish",
+        Barrier::Sy => b"sy",
+    }
+}
+
+/// The word for the exception level of an access.
+pub fn level_name(el: El) -> &'static [u8]
+    ensures text { result.now ≡ el_text el }
+    ensures short { length result.now ≤ 10 }
+{
+    match el {
+        El::El0 => b"el0",
+        El::El1 => b"el1",
+    }
+}
+
+/// The word for what an access does.
+pub fn kind_name(kind: Kind) -> &'static [u8]
+    ensures text { result.now ≡ kind_text kind }
+    ensures short { length result.now ≤ 10 }
+{
+    match kind {
+        Kind::Read => b"read",
+        Kind::Write => b"write",
+        Kind::Fetch => b"fetch",
+    }
+}
+
+/// The word for a size of the caches.
+pub fn size_name(size: Size) -> &'static [u8]
+    ensures text { result.now ≡ size_text size }
+    ensures short { length result.now ≤ 10 }
+{
+    match size {
+        Size::NoRows => b"none",
+        Size::Small => b"small",
+        Size::Medium => b"medium",
+        Size::Large => b"large",
     }
 }

@@ -2,7 +2,7 @@ ghost use Rattle.std.specs.Prelude.{◌≡◌, ◌≤◌, length, IfOk, Err};
 ghost use Rattle.std.specs.List.{slice_split};
 ghost use Rattle.trace_lang.specs.Words.{is_end};
 ghost use Rattle.trace_lang.specs.Lines.{no_lines, refused_in, lines_met, ended_in, most_text, trace_of};
-ghost use Rattle.trace_lang.specs.Limits.{KeepsLimits, IsBuilt};
+ghost use Rattle.trace_lang.specs.Limits.{KeepsLimits, IsBuilt, HasNoPrefetch};
 ghost use Rattle.trace_lang.specs.Views.{state_of, GivesTrace};
 
 use crate::cuts::{cut_line, without_return};
@@ -43,6 +43,7 @@ fn read_lines(alloc: Global, bytes: &[u8]) -> Result<Reading, TraceError>
     ensures read { GivesTrace state_of result (lines_met no_lines 1 (slice_split is_end bytes.now)) }
     ensures limits { IfOk result (λ r. KeepsLimits (state_of r)) }
     ensures built { IfOk result (λ r. IsBuilt (state_of r).trace.header) }
+    ensures known { IfOk result (λ r. HasNoPrefetch (state_of r).trace) }
 {
     let mut reading = Reading::new(alloc);
     let mut words = Vec::new(alloc);
@@ -91,6 +92,7 @@ fn ended(reading: Reading) -> Result<Trace, TraceError>
 pub fn parse(alloc: Global, bytes: &[u8]) -> Result<Trace, TraceError>
     ensures trace { GivesTrace (λ t. t) result (trace_of bytes.now) }
     ensures built { IfOk result (λ t. IsBuilt t.header) }
+    ensures known { IfOk result (λ t. HasNoPrefetch t) }
 {
     if bytes.len() > MOST_BYTES {
         return refused(TraceRefusal::TooLarge {

@@ -1,4 +1,4 @@
-use crate::{MOST_BYTES, Policy, Size, TraceError, parse};
+use crate::{MOST_BYTES, Policy, Size, Trace, TraceError, parse, print};
 use permissions::{El, Kind};
 use std::alloc::Global;
 use std::test::Fail;
@@ -375,5 +375,55 @@ memory 0xb0 8\nmemory 0xc0 8\nmemory 0xd0 8\nmemory 0xe0 8\nmemory 0xf0 8\n";
         told(alloc, text.as_slice())?.as_str(),
         "TooLarge { size: 16777217 }"
     );
+    Ok(())
+}
+
+#[test]
+fn prints_what_was_read(rt: HostRuntime) -> Result<(), Fail> {
+    let alloc = rt.alloc();
+    for (text, want) in [
+        (
+            "cores 01\nmemory 0 4096\ncaches none\npolicy fifo\nend",
+            "cores 1\nmemory 0x0 0x1000\ncaches none\npolicy fifo\nend\n",
+        ),
+        (
+            "cores 0x2\r\n# two\nmemory 0x8000 32768\nmemory 0 0x01000\n\ncaches  none\npolicy\tfifo\n\
+store 1 0x8000 18446744073709551615\nmsr 0x0 TCR_EL1 16\n settle 1\nisb 0\ntlbi 0 el1 VAE1IS 4096\n\
+tlbi 1 el2 ALLE1\ntlbi 1 el2 VMALLS12E1IS\ndsb 0 ish\ndeliver 01\naccess 0 el0 read 0xABC\n\
+access 1 el1 write 7 pan\nend",
+            "cores 2\nmemory 0x8000 0x8000\nmemory 0x0 0x1000\ncaches none\npolicy fifo\n\
+store 1 0x8000 0xffffffffffffffff\nmsr 0 TCR_EL1 0x10\nsettle 1\nisb 0\ntlbi 0 el1 VAE1IS 0x1000\n\
+tlbi 1 el2 ALLE1\ntlbi 1 el2 VMALLS12E1IS\ndsb 0 ish\ndeliver 1\naccess 0 el0 read 0xabc\n\
+access 1 el1 write 0x7 pan\nend\n",
+        ),
+    ] {
+        let Ok(trace) = parse(alloc, text.as_bytes()) else {
+            return Err(Fail::new("refused"));
+        };
+        let Ok(again) = print(alloc, &trace) else {
+            return Err(Fail::new("no memory"));
+        };
+        assert_eq!(rt; again.as_slice(), want.as_bytes(), "{text}");
+    }
+    Ok(())
+}
+
+#[test]
+fn prints_what_no_text_may_name(rt: HostRuntime) -> Result<(), Fail> {
+    let alloc = rt.alloc();
+    let access = Access {
+        va: 0x40,
+        el: El::El1,
+        kind: Kind::Fetch,
+        pan: false,
+    };
+    let events = vec![in alloc; Event::Prefetch { core: 0, access }]?;
+    let policy = Policy::Random { start: 255 };
+    let trace = Trace::of(1, Vec::new(alloc), Size::Small, policy, events);
+    let Ok(text) = print(alloc, &trace) else {
+        return Err(Fail::new("no memory"));
+    };
+    let want = b"cores 1\ncaches small\npolicy random 0xff\nprefetch 0 el1 fetch 0x40\nend\n";
+    assert_eq!(rt; text.as_slice(), want.as_slice());
     Ok(())
 }

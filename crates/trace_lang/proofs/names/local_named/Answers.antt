@@ -7,4 +7,4 @@ use Rattle.trace_lang.proofs.names.local_named.Goals as goal
 pub loop-op-preserved : goal.loop-op-preserved
 loop-op-preserved c =
     skipped c.args.word.now all_ops c.loop-op.op-index _ _ c.loop-op-test.true
-    (sym (ap (bytes_eq c.args.word.now) c.op_name.ensures) ∙ sym c.eq.ensures ∙ c.if-eq.false) c.loop-op.invariant
+    (sym (ap (bytes_eq c.args.word.now) c.op_name.ensures.text) ∙ sym c.eq.ensures ∙ c.if-eq.false) c.loop-op.invariant

@@ -13,6 +13,11 @@ returns-clause-limits c =
     ∙ ap (λ r. lines_met (state_of c.loop-rest.reading) c.loop-rest.number (parts_behind is_end (option_map (λ s. s.now) r))) c.in_default.is)
 
 pub returns-clause-built : goal.returns-clause-built
-returns-clause-built c =
+returns-clause-built c = (
     reached_built 1 (slice_split is_end c.args.bytes.now) (state_of c.loop-rest.reading) (sym c.loop-rest.invariant.same
-    ∙ ap (λ r. lines_met (state_of c.loop-rest.reading) c.loop-rest.number (parts_behind is_end (option_map (λ s. s.now) r))) c.in_default.is)
+    ∙ ap (λ r. lines_met (state_of c.loop-rest.reading) c.loop-rest.number (parts_behind is_end (option_map (λ s. s.now) r))) c.in_default.is)).0
+
+pub returns-clause-known : goal.returns-clause-known
+returns-clause-known c = (
+    reached_built 1 (slice_split is_end c.args.bytes.now) (state_of c.loop-rest.reading) (sym c.loop-rest.invariant.same
+    ∙ ap (λ r. lines_met (state_of c.loop-rest.reading) c.loop-rest.number (parts_behind is_end (option_map (λ s. s.now) r))) c.in_default.is)).1

@@ -1,0 +1,70 @@
+//! The canonical text of a trace.
+ghost use Rattle.std.specs.Prelude.{◌≡◌, ◌++◌, flat_map, All, IfOk, Ok};
+ghost use Rattle.trace_lang.specs.Traces.{Parts, IsTrace};
+ghost use Rattle.trace_lang.specs.Lines.{trace_of};
+ghost use Rattle.trace_lang.specs.Canonical.{line_of, range_words, event_words, header_text, text_of};
+ghost use Rattle.trace_lang.specs.Limits.{IsBuilt, HasWords, HasNoPrefetch};
+
+use crate::Trace;
+use crate::lines::{caches_line, cores_line, event_line, policy_line, range_line};
+use bitwords::NoMemory;
+use std::alloc::Global;
+use trails::Event;
+
+/// Puts a line behind the text that stands.
+fn put(text: &mut Vec<u8>, line: &[u8]) -> Result<(), NoMemory>
+    ensures { IfOk result (λ _. text.new.items ≡ text.old.items ++ line.now) }
+{
+    match text.extend_from_slice(line) {
+        Ok(()) => Ok(()),
+        Err(_) => Err(NoMemory),
+    }
+}
+
+fn put_ranges(text: &mut Vec<u8>, ranges: &[(u64, u64)]) -> Result<(), NoMemory>
+    ensures { IfOk result (λ _. text.new.items ≡ text.old.items ++ flat_map (λ r. line_of (range_words r)) ranges.now) }
+{
+    for range in ranges {
+        put(text, range_line(range.0, range.1).bytes())?;
+    }
+    Ok(())
+}
+
+fn put_header(text: &mut Vec<u8>, trace: &Trace) -> Result<(), NoMemory>
+    ensures { IfOk result (λ _. text.new.items ≡ text.old.items ++ header_text trace.now.header) }
+{
+    put(text, cores_line(trace.cores()).bytes())?;
+    put_ranges(text, trace.ranges())?;
+    put(text, caches_line(trace.size()).bytes())?;
+    put(text, policy_line(trace.policy()).bytes())
+}
+
+fn put_events(text: &mut Vec<u8>, events: &[Event]) -> Result<(), NoMemory>
+    ensures text { IfOk result (λ _. text.new.items ≡ text.old.items ++ flat_map (λ e. line_of (event_words e)) events.now) }
+    ensures words { IfOk result (λ _. All HasWords events.now) }
+{
+    for event in events {
+        put(text, event_line(event).bytes())?;
+    }
+    Ok(())
+}
+
+/// The canonical text of a trace: one space between words, numbers of cores in decimal and all others as `0x` and
+/// lower-case hexadecimal digits, and no line that is skipped (this project's own rule). `parse` reads it back, but for
+/// sizes of caches, policies and prefetches that no text may name today. NoMemory comes where memory is refused.
+pub fn print(alloc: Global, trace: &Trace) -> Result<Vec<u8>, NoMemory>
+    ensures text { IfOk result (λ v. v.items ≡ text_of trace.now) }
+    ensures again { IsBuilt trace.now.header → HasNoPrefetch trace.now → IfOk result (λ v. trace_of v.items ≡ Ok trace.now) }
+{
+    let mut text = Vec::new(alloc);
+    put_header(&mut text, trace)?;
+    put_events(&mut text, trace.events())?;
+    put(&mut text, b"end\n")?;
+    Ok(text)
+}
+
+/// The canonical text of a trace is read back as that trace, where its sizes, policies and events are such as a text may
+/// name today and its numbers are below 2 ^ 64.
+pub fn parse_of_print()
+    ensures { (t : Parts) → IsTrace t → IsBuilt t.header → HasNoPrefetch t → All HasWords t.events → trace_of (text_of t) ≡ Ok t }
+{}
