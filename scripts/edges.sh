@@ -12,7 +12,7 @@ cp "$program" "$work/vmsa" && cp "$image" "$work/image" && cd "$work" || exit 1
 export LC_ALL=C
 passed=0
 failed=0
-usage=$'usage: vmsa raw IMAGE TCR TTBR0 VA\nusage: vmsa explain REGS DUMP VA EL KIND [pan]\n'
+usage=$'usage: vmsa raw IMAGE TCR TTBR0 VA\nusage: vmsa explain REGS DUMP VA EL KIND [pan]\nusage: vmsa run TRACE\n'
 read_fault=$'vmsa: read fault\n'
 
 told() { # NAME IS_RIGHT
@@ -302,6 +302,71 @@ sed 's/^mair_el1.*/[mair_el1]/; /^sctlr_el1/d' good >regs && told_regs 'a missin
 { cat good; printf '"vbar\\u0001é" = 0\n'; } >regs && told_regs 'a key that is not visible' 'unknown vbar???'
 { cat good; printf 'a'; printf '.a%.0s' {1..30000}; printf ' = 1\n'; } >regs && told_regs '60 KB of nested keys' 'not toml'
 { printf '['; printf '[%.0s' {1..60000}; } >regs && told_regs '60 KB of brackets' 'not toml'
+
+# Traces.
+header=$'cores 1\nmemory 0x0 0x10000\ncaches none\npolicy fifo\n'
+stores=$'store 0 0x1000 0x2003\nstore 0 0x2008 0x3003\nstore 0 0x3008 0x4003\nstore 0 0x4008 0x5403\n'
+on=$'msr 0 TCR_EL1 0x500000010\nmsr 0 TTBR0_EL1 0x1000\nmsr 0 SCTLR_EL1 0x1\nisb 0\n'
+summary() { # ACCESSES MAPPED FAULTED
+    printf 'summary accesses %s prefetches 0 mapped %s faulted %s conflicts 0 old 0 stale 0 evicted 0' "$@"
+}
+none=$(summary 0 0 0)$'\n'
+moment() { # STEP: the lines of an access at a step
+    printf 'event %s core 0 access 0x40201abc el1 read asid 0x0 vmid 0x0\ns1 base level 0 at 0x1000 moment %s\n' "$1" "$1"
+    head -n 4 <<<"$tables" | sed "s/\$/ moment $1/"
+    tail -n 2 <<<"$tables" | head -n 1
+}
+told_trace() { # NAME WHY: the file trace is refused
+    runs "$1" 4 '' "vmsa: trace: $2"$'\n' run trace
+}
+printf '%s%s%saccess 0 el1 read 0x40201abc\nend\n' "$header" "$stores" "$on" >trace
+runs 'a trace' 0 "$(moment 8)"$'\n'"$(summary 1 1 0)"$'\n' '' run trace
+sed 's/$/\r/' trace >lines
+runs 'a trace with carriage returns' 0 "$(moment 8)"$'\n'"$(summary 1 1 0)"$'\n' '' run lines
+runs 'a trace that is missing' 3 '' $'vmsa: no file none\n' run none
+runs 'a folder as a trace' 5 '' "$read_fault" run folder
+runs 'a pipe as a trace' 5 '' "$read_fault" run <(cat trace)
+runs 'a device without bytes as a trace' 4 '' $'vmsa: trace: no header\n' run /dev/null
+runs 'a device without end as a trace' 4 '' $'vmsa: trace: too large\n' run /dev/zero
+[ -e large ] && runs 'a trace of 2^40 bytes' 4 '' $'vmsa: trace: too large\n' run large
+{ printf '%send\n' "$header"; yes "$(printf '%0199d' 0 | tr 0 '#')" | head -c 16777216; } | head -c 16777216 >trace
+runs 'a trace of 16 MiB' 0 "$none" '' run trace
+printf '#' >>trace && told_trace 'a byte more' 'too large'
+printf '%send' "$header" >trace
+runs 'a last line without its end' 0 "$none" '' run trace
+printf '%s\0\nend\n' "$header" >trace && told_trace 'a byte 0' 'line 5: not text'
+printf '%s# \xc3\xa9\nend\n' "$header" >trace && told_trace 'a letter that is not ASCII' 'line 5: not text'
+printf '%s# %0199d\nend\n' "$header" 0 >trace && told_trace 'a line of 201 bytes' 'line 5: long line'
+{ printf '%s' "$header"; yes 'isb 0' | head -n 50001; echo end; } >trace && told_trace '50,001 events' 'line 50005: too many'
+{ printf '%s%s%s' "$header" "$stores" "$on"; yes 'access 0 el1 read 0x40201abc' | head -n 49992; echo end; } >trace
+./vmsa run trace >out 2>err
+told 'a report of 50,000 events' "$([ $? = 0 ] && [ ! -s err ] && [ "$(wc -l <out)" = 349945 ] && [ "$(tail -n 1 out)" = "$(summary 49992 49992 0)" ] && echo yes)"
+cp out whole
+: >err
+./vmsa run trace 2>err | cat >out
+compare 'the same through a pipe' "${PIPESTATUS[0]}" 0 "$(cat whole)"$'\n' ''
+: >err
+./vmsa run trace 2>err | head -n 1 >out
+compare 'a pipe that is closed after a line' "${PIPESTATUS[0]}" 6 "$(head -n 1 whole)"$'\n' ''
+: >out; : >err
+./vmsa run trace >/dev/full 2>err
+compare 'a report and standard output is full' $? 6 '' ''
+if command -v prlimit >/dev/null; then
+    right=yes
+    refused=no
+    for limit in {4..160..12}; do
+        prlimit --as="${limit}000000" ./vmsa run trace >out 2>err
+        case $? in
+        0) cmp -s out whole && [ ! -s err ] || right=no ;;
+        7) refused=yes; [ ! -s out ] && [ "$(cat err)" = 'vmsa: out of memory' ] || right=no ;;
+        126 | 127) [ ! -s out ] || right=no ;;
+        *) right=no ;;
+        esac
+    done
+    [ $right = yes ] && told 'memory for a run is refused' $refused || told 'memory for a run is refused' no
+else
+    echo 'edges: no prlimit, so want of memory for a run was not tried'
+fi
 
 echo "edges: $passed passed, $failed failed"
 [ "$failed" = 0 ]

@@ -258,6 +258,12 @@ mod tests {
         }
     }
 
+    fn trace(why: TraceRefusal) -> Status {
+        Status::Refused {
+            why: Why::Trace { why },
+        }
+    }
+
     fn wrong(field: DumpField) -> Status {
         dump(DumpRefusal::WrongKind { field })
     }
@@ -318,6 +324,25 @@ mod tests {
             (
                 dump(DumpRefusal::PastEnd { segment: 4095 }),
                 "vmsa: dump: segment 4095 past end\n",
+            ),
+            (
+                trace(TraceRefusal::TooLarge { size: 16777217 }),
+                "vmsa: trace: too large\n",
+            ),
+            (
+                trace(TraceRefusal::OutOfRange {
+                    line: 4294967295,
+                    place: 101,
+                }),
+                "vmsa: trace: line 4294967295: out of range 101\n",
+            ),
+            (
+                trace(TraceRefusal::Unsupported { line: 5, at }),
+                "vmsa: trace: line 5: unsupported HCR_EL2.FWB\n",
+            ),
+            (
+                trace(TraceRefusal::LongLine { line: 9 }),
+                "vmsa: trace: line 9: long line\n",
             ),
         ] {
             let mut err = QuietMemory::new(alloc);

@@ -22,8 +22,8 @@ use machine_laws::runs_are_allowed;
 use std::alloc::Global;
 use trace_lang::{MOST_BYTES, Trace, TraceError, TraceRefusal, parse};
 
-/// Room for a trace file of so many bytes, and one byte more, which shows that there are more. One that tells no size, as a
-/// pipe does, gets the room of the largest trace.
+/// Room for a trace file of so many bytes, and for one more, behind which none come. A file that tells none, as a device does,
+/// may have as many as the largest trace.
 fn room(size: u64) -> usize
     requires { size ≤ MOST_BYTES }
     ensures above { size < result }

@@ -307,7 +307,8 @@ fn walks_over_images(rt: HostRuntime) -> Result<(), Fail> {
 fn refuses_with_a_line(rt: HostRuntime) -> Result<(), Fail> {
     let alloc = rt.alloc();
     let usage = "usage: vmsa raw IMAGE TCR TTBR0 VA\n\
-        usage: vmsa explain REGS DUMP VA EL KIND [pan]\n";
+        usage: vmsa explain REGS DUMP VA EL KIND [pan]\n\
+        usage: vmsa run TRACE\n";
     for (text, number, line) in [
         (
             "raw image 0x800000000000010 0x1000 0x0",
@@ -324,6 +325,8 @@ fn refuses_with_a_line(rt: HostRuntime) -> Result<(), Fail> {
         ("raw -x 0x10 0x1000 0x0", 2, usage),
         ("-raw image 0x10 0x1000 0x0", 2, usage),
         ("explain image 0x10 0x1000 0x0", 2, usage),
+        ("run", 2, usage),
+        ("run image image", 2, usage),
     ] {
         let (status, out, err) = called(alloc, text, files(alloc, 0x5000, &PAGE)?)?;
         assert_eq!(rt; status, number, "{text}");
