@@ -123,6 +123,7 @@ impl Cpu {
     }
 
     /// The answer of an access at a moment, which is the number of the step. Without rows it is the walk of that moment.
+    #[inline(always)]
     pub fn access(&mut self, phys: &Phys, now: u32, access: &Access) -> Answer
         ensures answer { (h : Header) → Suits h self.old → result ≡ (visited (seat_at h self.old (memory_of phys.now) now) access.now).answer }
         ensures after { (h : Header) → Suits h self.old →

@@ -65,6 +65,7 @@ fn finish_all(seats: &mut [Seat], core: u8, kind: Barrier)
 }
 
 /// Does the event of a step, and gives its answer.
+#[inline(always)]
 #[tactic(auto, unfolding(machine_spec::specs::Moments::stored, machine_spec::specs::Machine::answer_to))]
 pub fn act(phys: &mut Phys, seats: &mut [Seat], now: u32, event: &Event) -> Option<Answer>
     requires here { core_named event.now < length seats.old }

@@ -149,6 +149,7 @@ impl Seat {
     }
 
     /// The answer of an access at a moment, which is the number of the step.
+    #[inline(always)]
     pub fn access(&mut self, phys: &Phys, now: u32, access: &Access) -> Answer
         ensures answer { (h : Header) → Suits h self.old.core → result ≡ (visited (seat_at h self.old.core (memory_of phys.now) now) access.now).answer }
         ensures core { (h : Header) → Suits h self.old.core →
