@@ -199,39 +199,35 @@ impl Machine {
         }
     }
 
-    /// Does an access and fills in its answer.
-    fn access(&mut self, moment: u32, core: u8, access: &Access, answer: &mut Answer) {
+    /// Does an access.
+    fn access(&mut self, moment: u32, core: u8, access: &Access) -> Answer {
         let context = self.cores[core as usize].context();
-        answer.asid = context.asid;
-        answer.vmid = context.vmid;
-        let trail = &mut answer.first;
-        answer.outcome = Walk { context, memory: &self.memory, access, trail, moment }.run();
+        let (asid, vmid) = (context.asid, context.vmid);
+        let mut first = Trail::new();
+        let outcome = Walk { context, memory: &self.memory, access, trail: &mut first, moment }.run();
+        Answer { outcome, asid, vmid, old: false, stale: false, evicted: 0, first, second: None }
+    }
+
+    /// Does an event.
+    fn step(&mut self, moment: u32, event: Event) -> Option<Answer> {
+        match event {
+            Event::Access { core, access } => Some(self.access(moment, core, &access)),
+            _ => {
+                self.act(moment, event);
+                None
+            }
+        }
     }
 }
 
-/// Runs a trace and gives its log. Each answer is filled in where it stands in the log.
+/// Runs a trace and gives its log.
 pub fn run(trace: &Trace) -> Result<Vec<Step>, TryReserveError> {
     let mut machine = Machine { memory: Memory::new(&trace.ranges), cores: (0..trace.cores).map(Core::new).collect() };
     let mut log: Vec<Step> = Vec::new();
     log.try_reserve_exact(trace.events.len())?;
     for (moment, &event) in trace.events.iter().enumerate() {
-        log.push(Step { event, answer: None });
-        match (event, log.last_mut()) {
-            (Event::Access { core, access }, Some(step)) => {
-                let answer = step.answer.insert(Answer {
-                    outcome: Outcome::Conflict,
-                    asid: 0,
-                    vmid: 0,
-                    old: false,
-                    stale: false,
-                    evicted: 0,
-                    first: Trail::new(),
-                    second: None,
-                });
-                machine.access(moment as u32, core, &access, answer);
-            }
-            _ => machine.act(moment as u32, event),
-        }
+        let answer = machine.step(moment as u32, event);
+        log.push(Step { event, answer });
     }
     Ok(log)
 }
