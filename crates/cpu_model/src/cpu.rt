@@ -1,5 +1,5 @@
 //! A core apart from its inbox.
-ghost use Rattle.std.specs.Prelude.{◌≡◌, ◌≤◌, length, fold, IfOk, None};
+ghost use Rattle.std.specs.Prelude.{◌≡◌, ◌≤◌, fold, IfOk, None};
 ghost use Rattle.sysregs.specs.Refused.{refused_field};
 ghost use Rattle.phys_mem.specs.Words.{memory_of};
 ghost use Rattle.trace_lang.specs.declared.header.Size.TheVariants.{NoRows};
@@ -17,7 +17,7 @@ use sysregs::fields::{asid, vmid};
 use sysregs::{Reg, Regs};
 use tlbi_ops::Inval;
 use trace_lang::{Policy, Size};
-use trails::{Access, Answer};
+use trails::{Access, Answer, Trail};
 use translate::translate_at;
 
 /// The most register writes that wait.
@@ -131,7 +131,8 @@ impl Cpu {
         ensures line { HasRunLine result.outcome }
     {
         let mut words = Words { phys };
-        let (outcome, first) = translate_at(&self.regs, access, now, &mut words);
+        let mut first = Trail::none();
+        let outcome = translate_at(&self.regs, access, now, &mut words, &mut first);
         Answer {
             asid: asid(&self.regs),
             vmid: vmid(&self.regs),

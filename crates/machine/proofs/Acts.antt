@@ -1,7 +1,8 @@
 -- What an event does to one core, and to each.
-use Rattle.std.proofs.Common.{◌≡◌, ℕ, ◌<◌, Bool, true, false, cond, List, [], ◌∷◌, length, get_or, set, refl, sym, ap, ◌∙◌, subst, inl, inr, Some}
+use Rattle.std.proofs.Common.{◌≡◌, ℕ, ◌<◌, Bool, true, false, cond, List, [], ◌∷◌, length, get_or, set, refl, sym, ap, ◌∙◌, subst, inl, inr, Option, Some, None}
 use Rattle.std.specs.Prelude.{nat_lt}
 use Rattle.std.proofs.lemmas.Bool.{cases_eq, eq-eqb, ne_eqb}
+use Rattle.std.proofs.lemmas.Option.{none-some}
 use Rattle.std.proofs.lemmas.List.{get_or-set_same, get_or-set_other, get_or_default, get_or-map}
 use Rattle.sysregs.specs.declared.regs.Reg.{Reg}
 use Rattle.sysregs.specs.declared.regs.Op.{Op}
@@ -10,13 +11,15 @@ use Rattle.tlbi_ops.specs.Operands.{inval_of, reaches_core}
 use Rattle.trails.specs.declared.outcome.Access.{Access}
 use Rattle.trails.specs.declared.event.Barrier.{Barrier}
 use Rattle.trails.specs.declared.event.Origin.{Origin}
+use Rattle.trails.specs.declared.event.Event.{Event}
 use Rattle.trails.specs.declared.event.Event.TheVariants.{Store, Msr, Settle, Isb, Tlbi, Dsb, Deliver, Access as AccessOf, Prefetch}
 use Rattle.table_reads.specs.Memory.{Memory}
 use Rattle.machine_spec.specs.Header.{Header}
-use Rattle.machine_spec.specs.Moments.{settled, drained, queued, banked}
+use Rattle.machine_spec.specs.Moments.{settled, drained, queued, banked, stored}
 use Rattle.machine_spec.specs.Invalidations.{is_at_el1, issued_by}
-use Rattle.machine_spec.specs.Machine.{Core, World, no_core, most_held, delivered_by, delivered, posted, mailed, mailed_by, finished, seat_of, core_of, regs_in, accessed, acted, moved}
+use Rattle.machine_spec.specs.Machine.{Core, World, no_core, most_held, delivered_by, delivered, posted, mailed, mailed_by, finished, seat_of, core_of, regs_in, accessed, acted, moved, answer_to}
 use Rattle.cpu_model.specs.Cores.{Suits, seat_at}
+use Rattle.machine.specs.Runs.{asked_of}
 use Rattle.machine.specs.Seats.{SeatState, core_at, build_of, no_seat, AreSeats, with_bank, world_of}
 
 -- ONE CORE AMONG THE OTHERS
@@ -136,3 +139,39 @@ module _ (h : Header) (w : World) (j : ℕ) (a : Access) where
 pub store_each : (h : Header) (w : World) (j pa value : ℕ) (c : ℕ) (v : Core) → v ≡ moved h w (Store j pa value) c v
 unfolding acted banked
 store_each h w j pa value c v = refl
+
+-- EVENTS WITH AND WITHOUT AN ACCESS
+
+abbrev got : ℕ × Access → Option (ℕ × Access) → ℕ × Access
+got p None = p
+got p (Some q) = q
+
+-- what holds of an access and of a prefetch holds of each event that asks for it
+pub by_asked : (P : Event → Type 0) (j : ℕ) (a : Access) → P (AccessOf j a) → P (Prefetch j a) → (e : Event) → asked_of e ≡ Some (j, a) → P e
+by_asked P j a x y (Store core pa value) is = absurd (none-some (j, a) is)
+by_asked P j a x y (Msr core reg value) is = absurd (none-some (j, a) is)
+by_asked P j a x y (Settle core) is = absurd (none-some (j, a) is)
+by_asked P j a x y (Isb core) is = absurd (none-some (j, a) is)
+by_asked P j a x y (Tlbi core from op shared operand) is = absurd (none-some (j, a) is)
+by_asked P j a x y (Dsb core kind) is = absurd (none-some (j, a) is)
+by_asked P j a x y (Deliver core) is = absurd (none-some (j, a) is)
+by_asked P j a x y (AccessOf core access) is = subst (λ p. P (AccessOf p.0 p.1)) (ap (got (j, a)) (sym is)) x
+by_asked P j a x y (Prefetch core access) is = subst (λ p. P (Prefetch p.0 p.1)) (ap (got (j, a)) (sym is)) y
+
+-- an event that asks for an access leaves memory
+pub asked_stores_none : (m : Memory) (e : Event) (j : ℕ) (a : Access) → asked_of e ≡ Some (j, a) → m ≡ stored m e
+unfolding stored
+asked_stores_none m e j a is = by_asked (λ v. m ≡ stored m v) j a refl refl e is
+
+-- an event that asks for none has no answer
+pub quiet_answer : (h : Header) (w : World) (e : Event) → asked_of e ≡ None → None ≡ answer_to h w e
+unfolding answer_to
+quiet_answer h w (Store core pa value) is = refl
+quiet_answer h w (Msr core reg value) is = refl
+quiet_answer h w (Settle core) is = refl
+quiet_answer h w (Isb core) is = refl
+quiet_answer h w (Tlbi core from op shared operand) is = refl
+quiet_answer h w (Dsb core kind) is = refl
+quiet_answer h w (Deliver core) is = refl
+quiet_answer h w (AccessOf core access) is = absurd (none-some (core, access) (sym is))
+quiet_answer h w (Prefetch core access) is = absurd (none-some (core, access) (sym is))

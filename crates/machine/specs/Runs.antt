@@ -1,5 +1,8 @@
 -- A machine in the middle of a trace (this project's own rules).
-use Rattle.std.specs.Prelude.{◌≡◌, ◌≤◌, false, List, length, take, All, Option, Some, None}
+use Rattle.std.specs.Prelude.{◌≡◌, ◌≤◌, ℕ, false, List, length, take, All, Option, Some, None}
+use Rattle.trails.specs.declared.event.Event.{Event}
+use Rattle.trails.specs.declared.event.Event.TheVariants.{Store, Msr, Settle, Isb, Tlbi, Dsb, Deliver, Access as AccessOf, Prefetch}
+use Rattle.trails.specs.declared.outcome.Access.{Access}
 use Rattle.trails.specs.declared.step.Answer.{Answer}
 use Rattle.trails.specs.declared.step.Step.{Step}
 use Rattle.cpu_model.specs.Cores.{HasRunLine}
@@ -19,6 +22,18 @@ pub record MachineState : Type 0 where
 -- the machine of the definitions that it is
 abbrev pub machine_of : (state : MachineState) → World
 machine_of s = world_of (length s.log) (memory_of s.phys) s.seats
+
+-- the core and the access of an event that asks for one
+abbrev pub asked_of : (event : Event) → Option (ℕ × Access)
+asked_of (Store core pa value) = None
+asked_of (Msr core reg value) = None
+asked_of (Settle core) = None
+asked_of (Isb core) = None
+asked_of (Tlbi core from op shared operand) = None
+asked_of (Dsb core kind) = None
+asked_of (Deliver core) = None
+asked_of (AccessOf core access) = Some (core, access)
+asked_of (Prefetch core access) = Some (core, access)
 
 -- an outcome that is no conflict has a line
 abbrev pub IsTold : (answer : Option Answer) → Type 0

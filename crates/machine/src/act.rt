@@ -1,5 +1,6 @@
 //! One event on memory and on the cores.
-ghost use Rattle.std.specs.Prelude.{◌≡◌, ◌<◌, ℕ, length, slice_index_or, Some};
+ghost use Rattle.std.specs.Prelude.{◌≡◌, ◌<◌, ℕ, length, slice_index_or, Some, None};
+ghost use Rattle.trails.specs.declared.event.Event.{Event as TheEvent};
 ghost use Rattle.trails.specs.declared.event.Event.TheVariants.{Dsb};
 ghost use Rattle.tlbi_ops.specs.Operands.{inval_of};
 ghost use Rattle.phys_mem.specs.Words.{memory_of};
@@ -9,13 +10,13 @@ ghost use Rattle.machine_spec.specs.Invalidations.{is_at_el1};
 ghost use Rattle.machine_spec.specs.Machine.{mailed_by, finished, moved, answer_to};
 ghost use Rattle.machine_laws.specs.Headline.{core_named};
 ghost use Rattle.machine.specs.Seats.{core_at, build_of, no_seat, AreSeats, world_of, IsDoable};
-ghost use Rattle.machine.specs.Runs.{IsTold};
+ghost use Rattle.machine.specs.Runs.{asked_of, IsTold};
 
 use crate::seat::Seat;
 use phys_mem::Phys;
 use sysregs::Op;
 use tlbi_ops::{Inval, decode};
-use trails::{Answer, Barrier, Event, Origin};
+use trails::{Access, Answer, Barrier, Event, Origin};
 
 /// Whether a TLBI is issued at EL1.
 fn is_at_el1(from: Origin) -> bool
@@ -64,56 +65,66 @@ fn finish_all(seats: &mut [Seat], core: u8, kind: Barrier)
     }
 }
 
-/// Does the event of a step, and gives its answer.
+/// The core and the access of an event that asks for one.
+pub fn asked(event: &Event) -> Option<(u8, Access)>
+    ensures { result ≡ asked_of event.now }
+{
+    match *event {
+        Event::Access { core, access } => Some((core, access)),
+        Event::Prefetch { core, access } => Some((core, access)),
+        Event::Store { .. }
+        | Event::Msr { .. }
+        | Event::Settle { .. }
+        | Event::Isb { .. }
+        | Event::Tlbi { .. }
+        | Event::Dsb { .. }
+        | Event::Deliver { .. } => None,
+    }
+}
+
+/// The answer of an access that an event asks for.
 #[inline(always)]
-#[tactic(auto, unfolding(machine_spec::specs::Moments::stored, machine_spec::specs::Machine::answer_to))]
-pub fn act(phys: &mut Phys, seats: &mut [Seat], now: u32, event: &Event) -> Option<Answer>
+pub fn answer(phys: &Phys, seats: &mut [Seat], now: u32, core: u8, access: &Access) -> Answer
+    requires { core < length seats.old }
+    ensures answer { (h : Header) → (e : TheEvent) → asked_of e ≡ Some (core, access.now) → AreSeats h seats.old →
+        Some result ≡ answer_to h (world_of now (memory_of phys.now) seats.old) e }
+    ensures cores { (h : Header) → (e : TheEvent) → asked_of e ≡ Some (core, access.now) → AreSeats h seats.old → (c : ℕ) →
+        c < length seats.old → core_at (slice_index_or seats.new c no_seat)
+        ≡ moved h (world_of now (memory_of phys.now) seats.old) e c (core_at (slice_index_or seats.old c no_seat)) }
+    ensures builds { (c : ℕ) → c < length seats.old → build_of (slice_index_or seats.new c no_seat) ≡ build_of (slice_index_or seats.old c no_seat) }
+    ensures told { IsTold (Some result) }
+{
+    seats[core as usize].access(phys, now, access)
+}
+
+/// Does an event that asks for no access.
+#[tactic(auto, unfolding(machine_spec::specs::Moments::stored))]
+pub fn act(phys: &mut Phys, seats: &mut [Seat], now: u32, event: &Event)
     requires here { core_named event.now < length seats.old }
     requires doable { IsDoable (memory_of phys.old) event.now }
+    requires quiet { asked_of event.now ≡ None }
     ensures memory { memory_of phys.new ≡ stored (memory_of phys.old) event.now }
     ensures ranges { phys.new.ranges ≡ phys.old.ranges }
-    ensures answer { (h : Header) → AreSeats h seats.old → result ≡ answer_to h (world_of now (memory_of phys.old) seats.old) event.now }
     ensures cores { (h : Header) → AreSeats h seats.old → (c : ℕ) → c < length seats.old → core_at (slice_index_or seats.new c no_seat)
         ≡ moved h (world_of now (memory_of phys.old) seats.old) event.now c (core_at (slice_index_or seats.old c no_seat)) }
     ensures builds { (c : ℕ) → c < length seats.old → build_of (slice_index_or seats.new c no_seat) ≡ build_of (slice_index_or seats.old c no_seat) }
-    ensures told { IsTold result }
 {
     match *event {
         Event::Store { pa, value, .. } => {
             phys.store(pa, value);
-            None
         }
-        Event::Msr { core, reg, value } => {
-            seats[core as usize].msr(reg, value);
-            None
-        }
-        Event::Settle { core } => {
-            seats[core as usize].settle();
-            None
-        }
-        Event::Isb { core } => {
-            seats[core as usize].isb();
-            None
-        }
+        Event::Msr { core, reg, value } => seats[core as usize].msr(reg, value),
+        Event::Settle { core } => seats[core as usize].settle(),
+        Event::Isb { core } => seats[core as usize].isb(),
         Event::Tlbi {
             core,
             from,
             op,
             shared,
             operand,
-        } => {
-            issue(seats, core, from, op, shared, operand, now);
-            None
-        }
-        Event::Dsb { core, kind } => {
-            finish_all(seats, core, kind);
-            None
-        }
-        Event::Deliver { core } => {
-            seats[core as usize].deliver();
-            None
-        }
-        Event::Access { core, access } => Some(seats[core as usize].access(phys, now, &access)),
-        Event::Prefetch { core, access } => Some(seats[core as usize].access(phys, now, &access)),
+        } => issue(seats, core, from, op, shared, operand, now),
+        Event::Dsb { core, kind } => finish_all(seats, core, kind),
+        Event::Deliver { core } => seats[core as usize].deliver(),
+        Event::Access { .. } | Event::Prefetch { .. } => unreachable!(),
     }
 }

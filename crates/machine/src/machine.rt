@@ -1,6 +1,6 @@
 //! The machine in the middle of a trace.
 ghost use Rattle.std.specs.Prelude.{◌≡◌, ◌<◌, ◌≤◌, ◌+◌, ℕ, [], ◌∷◌, ◌++◌, length, take};
-ghost use Rattle.std.specs.Prelude.{slice_get, slice_index_or, Some, None, IfOk};
+ghost use Rattle.std.specs.Prelude.{slice_get, slice_index_or, vec_len, vec_capacity, Some, None, IfOk};
 ghost use Rattle.trails.specs.declared.step.Step.{Step as TheStep};
 ghost use Rattle.phys_mem.specs.Words.{memory_of};
 ghost use Rattle.phys_mem.specs.Memory.{zeros};
@@ -12,7 +12,7 @@ ghost use Rattle.machine_spec.specs.Machine.{run_of, world_after};
 ghost use Rattle.machine.specs.Seats.{no_seat, new_seat};
 ghost use Rattle.machine.specs.Runs.{AreTold, machine_of};
 
-use crate::act::act;
+use crate::act::{act, answer, asked};
 use crate::seat::Seat;
 use bitwords::NoMemory;
 use machine_laws::runs_are_allowed;
@@ -20,7 +20,7 @@ use phys_mem::{Phys, PhysError};
 use std::alloc::Global;
 use std::marker::Model;
 use trace_lang::{Policy, Size, Trace};
-use trails::Step;
+use trails::{Event, Step};
 
 /// A machine in the middle of a trace, with the log of the steps that were done.
 #[derive(Drop)]
@@ -87,6 +87,20 @@ fn seats_of(alloc: Global, cores: u8, size: Size, policy: Policy) -> Result<Vec<
     Ok(seats)
 }
 
+/// Appends the step of an event without an answer. Apart from the steps with one, so that the room of an answer is not
+/// zeroed for these too.
+#[inline(never)]
+fn push_quiet(log: &mut Vec<Step>, event: Event)
+    requires { vec_len log.old < vec_capacity log.old }
+    ensures items { log.new.items ≡ log.old.items ++ (record { event = event; answer = None }) ∷ [] }
+    ensures capacity { vec_capacity log.new ≡ vec_capacity log.old }
+{
+    log.push_reserved(Step {
+        event,
+        answer: None,
+    });
+}
+
 impl Machine {
     /// The machine before the first event of a trace. All memory of the run is taken here.
     pub fn opened(alloc: Global, trace: Trace) -> Result<Machine, NoMemory>
@@ -135,8 +149,17 @@ impl Machine {
         runs_are_allowed();
         let k = self.log.len();
         let event = self.trace.events()[k];
-        let answer = act(&mut self.phys, self.seats.as_mut_slice(), k as u32, &event);
-        self.log.push_reserved(Step { event, answer });
+        let seats = self.seats.as_mut_slice();
+        match asked(&event) {
+            Some((core, access)) => {
+                let answer = Some(answer(&self.phys, seats, k as u32, core, &access));
+                self.log.push_reserved(Step { event, answer });
+            }
+            None => {
+                act(&mut self.phys, seats, k as u32, &event);
+                push_quiet(&mut self.log, event);
+            }
+        }
     }
 }
 

@@ -22,7 +22,7 @@ use std::process::Abort;
 use sysregs::fields::{check_reg, config};
 use sysregs::{Reg, Regs};
 use table_reads::Supply;
-use trails::{Item, Outcome, What};
+use trails::{Item, Outcome, Trail, What};
 
 /// The first word of a place.
 fn first(words: &[(u64, u64)], pa: u64) -> Option<u64>
@@ -98,7 +98,8 @@ fn expect_later(rt: &impl Abort, case: &Case) {
         words: case.words,
         asked: 0,
     };
-    let (outcome, trail) = translate_at(&case.regs, &case.access(), 7, &mut supply);
+    let mut trail = Trail::none();
+    let outcome = translate_at(&case.regs, &case.access(), 7, &mut supply, &mut trail);
     let found = trail.items();
     for (item, given) in found.iter().zip(case.items) {
         let wanted = Item {

@@ -1,7 +1,6 @@
 //! The whole walk of an access.
 ghost use Rattle.std.specs.Prelude.{◌≡◌, ◌≤◌, [], IfOk, IfErr, Err, option_map};
 ghost use Rattle.bitwords.specs.Causes.{Rose};
-ghost use Rattle.sysregs.specs.Registers.{config_of};
 ghost use Rattle.walk_spec.specs.Walked.{WalkedWhole, IsFresh, HasLine, HasLineStop};
 ghost use Rattle.sysregs.specs.Refused.{AreAccepted};
 ghost use Rattle.translate.specs.Parts.{out_of};
@@ -81,29 +80,30 @@ fn stopped(stop: Stop) -> Outcome
     }
 }
 
-/// The walk of an access through both stages: how it comes out, and the items that it used, all of moment `now`. Where
-/// the supply tells its memory and does not fail, both are those of the fresh walk. It is never a conflict, and a fault
-/// has a status code.
+/// The walk of an access through both stages: how it comes out. The items that it used, all of moment `now`, are put into
+/// an empty trail, which is the caller's since it is large. Where the supply tells its memory and does not fail, both are
+/// those of the fresh walk. It is never a conflict, and a fault has a status code.
+#[inline(never)]
 pub fn translate_at<S: Supply>(
     regs: &Regs,
     access: &Access,
     now: u32,
     supply: &mut S,
-) -> (Outcome, Trail)
+    trail: &mut Trail,
+) -> Outcome
     requires accepted { AreAccepted regs.now }
+    requires empty { trail.old ≡ [] }
     ensures same { S.memory supply.new ≡ S.memory supply.old }
     ensures later { S.faults supply.old ≤ S.faults supply.new }
     ensures kept { S.keeps supply.old supply.new }
-    ensures line { HasLine result.0 }
-    ensures walked { WalkedWhole regs.now access.now now (S.memory supply.old) (Rose (S.faults supply.old) (S.faults supply.new)) result.1 result.0 }
-    ensures fresh { IsFresh regs.now access.now now (S.memory supply.old) (Rose (S.faults supply.old) (S.faults supply.new)) result.1 result.0 }
+    ensures line { HasLine result }
+    ensures walked { WalkedWhole regs.now access.now now (S.memory supply.old) (Rose (S.faults supply.old) (S.faults supply.new)) trail.new result }
+    ensures fresh { IsFresh regs.now access.now now (S.memory supply.old) (Rose (S.faults supply.old) (S.faults supply.new)) trail.new result }
 {
-    let mut trail = Trail::none();
-    let outcome = match whole(&Under::of(regs, now), access, supply, &mut trail) {
+    match whole(&Under::of(regs, now), access, supply, trail) {
         Ok(outcome) => outcome,
         Err(stop) => stopped(stop),
-    };
-    (outcome, trail)
+    }
 }
 
 /// The walk of an access through both stages: how it comes out, and the items that it used, all of moment 0. Where the
@@ -118,5 +118,7 @@ pub fn translate<S: Supply>(regs: &Regs, access: &Access, supply: &mut S) -> (Ou
     ensures walked { WalkedWhole regs.now access.now 0 (S.memory supply.old) (Rose (S.faults supply.old) (S.faults supply.new)) result.1 result.0 }
     ensures fresh { IsFresh regs.now access.now 0 (S.memory supply.old) (Rose (S.faults supply.old) (S.faults supply.new)) result.1 result.0 }
 {
-    translate_at(regs, access, 0, supply)
+    let mut trail = Trail::none();
+    let outcome = translate_at(regs, access, 0, supply, &mut trail);
+    (outcome, trail)
 }

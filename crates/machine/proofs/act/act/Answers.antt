@@ -1,13 +1,13 @@
-use Rattle.std.proofs.Common.{◌≡◌, ◌<◌, length, get_or, sym, ap, ◌∙◌, Some}
+use Rattle.std.proofs.Common.{◌≡◌, ◌<◌, length, get_or, sym, ap, ◌∙◌}
 use Rattle.tlbi_ops.specs.Operands.{inval_of}
 use Rattle.tlbi_ops.specs.declared.inval.Inval.{Inval}
-use Rattle.trails.specs.declared.event.Event.TheVariants.{Msr, Settle, Isb, Deliver, Access as AccessOf, Prefetch}
+use Rattle.trails.specs.declared.event.Event.TheVariants.{Msr, Settle, Isb, Deliver}
 use Rattle.phys_mem.specs.Words.{memory_of}
 use Rattle.machine_spec.specs.Invalidations.{is_at_el1}
-use Rattle.machine_spec.specs.Machine.{World, Core, Seat, regs_in, seat_of, moved, visited, answer_to}
-use Rattle.machine.specs.Seats.{core_at, no_seat, world_of, with_cache}
+use Rattle.machine_spec.specs.Machine.{World, Core, regs_in, moved}
+use Rattle.machine.specs.Seats.{core_at, no_seat, world_of}
 use Rattle.machine.proofs.Acts.{one_at, msr_own, msr_other, settle_own, settle_other, isb_own, isb_other, deliver_own, deliver_other}
-use Rattle.machine.proofs.Acts.{dsb_each, tlbi_each, store_each, core_in, suits, seat_is, access_own, access_other, prefetch_own, prefetch_other}
+use Rattle.machine.proofs.Acts.{dsb_each, tlbi_each, store_each, core_in}
 use Rattle.machine.proofs.act.act.Goals as goal
 
 pub returns-in-Store-clause-cores : goal.returns-in-Store-clause-cores
@@ -52,53 +52,3 @@ returns-in-Deliver-clause-cores c h are d lt =
     let w : World = world_of c.args.now (memory_of c.args.phys.now) c.args.seats.now in
     rw c.in-Deliver.is (one_at core_at (moved h w (Deliver c.in-Deliver.core)) c.args.seats.now c.in-Deliver.core c.index-seats-core-in-Deliver.result c.deliver.new.self (rw c.in-Deliver.is at c.requires.here)
     (c.deliver.ensures.core ∙ deliver_own h w c.in-Deliver.core _) (λ k v ne. deliver_other h w c.in-Deliver.core k v ne) d)
-
-pub returns-in-Access-clause-answer : goal.returns-in-Access-clause-answer
-unfolding answer_to
-returns-in-Access-clause-answer c h are =
-    let m = memory_of c.args.phys.now in
-    let s = c.args.seats.now in
-    let w : World = world_of c.args.now m s in
-    let j = c.in-Access.core in
-    let x = c.index-seats-core-in-Access.result in
-    let here : j < length s = rw c.in-Access.is at c.requires.here in
-    rw c.in-Access.is (ap Some (c.access.ensures.answer h (suits h c.args.now m s are j x here)
-    ∙ ap (λ (p : Seat). (visited p c.in-Access.access).answer) (seat_is h c.args.now m s are j x here ∙ ap (seat_of h w j) (sym (core_in c.args.now m s j x here)))))
-
-pub returns-in-Access-clause-cores : goal.returns-in-Access-clause-cores
-returns-in-Access-clause-cores c h are d lt =
-    let m = memory_of c.args.phys.now in
-    let s = c.args.seats.now in
-    let w : World = world_of c.args.now m s in
-    let j = c.in-Access.core in
-    let x = c.index-seats-core-in-Access.result in
-    let here : j < length s = rw c.in-Access.is at c.requires.here in
-    rw c.in-Access.is (one_at core_at (moved h w (AccessOf j c.in-Access.access)) s j x c.access.new.self here
-    (c.access.ensures.core h (suits h c.args.now m s are j x here)
-    ∙ ap (λ (p : Seat). with_cache (core_at (get_or s j x)) (visited p c.in-Access.access).cache) (seat_is h c.args.now m s are j x here)
-    ∙ access_own h w j c.in-Access.access _) (λ k v ne. access_other h w j c.in-Access.access k v ne) d)
-
-pub returns-in-Prefetch-clause-answer : goal.returns-in-Prefetch-clause-answer
-unfolding answer_to
-returns-in-Prefetch-clause-answer c h are =
-    let m = memory_of c.args.phys.now in
-    let s = c.args.seats.now in
-    let w : World = world_of c.args.now m s in
-    let j = c.in-Prefetch.core in
-    let x = c.index-seats-core-in-Prefetch.result in
-    let here : j < length s = rw c.in-Prefetch.is at c.requires.here in
-    rw c.in-Prefetch.is (ap Some (c.access-in-Prefetch.ensures.answer h (suits h c.args.now m s are j x here)
-    ∙ ap (λ (p : Seat). (visited p c.in-Prefetch.access).answer) (seat_is h c.args.now m s are j x here ∙ ap (seat_of h w j) (sym (core_in c.args.now m s j x here)))))
-
-pub returns-in-Prefetch-clause-cores : goal.returns-in-Prefetch-clause-cores
-returns-in-Prefetch-clause-cores c h are d lt =
-    let m = memory_of c.args.phys.now in
-    let s = c.args.seats.now in
-    let w : World = world_of c.args.now m s in
-    let j = c.in-Prefetch.core in
-    let x = c.index-seats-core-in-Prefetch.result in
-    let here : j < length s = rw c.in-Prefetch.is at c.requires.here in
-    rw c.in-Prefetch.is (one_at core_at (moved h w (Prefetch j c.in-Prefetch.access)) s j x c.access-in-Prefetch.new.self here
-    (c.access-in-Prefetch.ensures.core h (suits h c.args.now m s are j x here)
-    ∙ ap (λ (p : Seat). with_cache (core_at (get_or s j x)) (visited p c.in-Prefetch.access).cache) (seat_is h c.args.now m s are j x here)
-    ∙ prefetch_own h w j c.in-Prefetch.access _) (λ k v ne. prefetch_other h w j c.in-Prefetch.access k v ne) d)

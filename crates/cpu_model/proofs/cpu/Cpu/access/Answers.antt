@@ -9,7 +9,7 @@ returns-clause-answer c =
     let s = c.self.inside in
     let core : CoreState = record { number = s.number; size = s.size; policy = s.policy; bank = record { regs = s.regs; queue = s.queue.items }; cache = no_rows } in
     rw (← c.self.view_is, c.asid.ensures, c.vmid.ensures)
-    (λ h suits. answered core (memory_of c.args.phys.now) c.args.now c.args.access.now c.self.invariant.2 refl h suits c.translate_at-outcome.result.0 c.translate_at-outcome.result.1
+    (λ h suits. answered core (memory_of c.args.phys.now) c.args.now c.args.access.now c.self.invariant.2 refl h suits c.translate_at-outcome.result c.translate_at-outcome.new.trail
     c.translate_at-outcome.ensures.fresh)
 
 pub returns-clause-after : goal.returns-clause-after
@@ -20,5 +20,5 @@ returns-clause-after c =
 
 pub returns-clause-line : goal.returns-clause-line
 returns-clause-line c =
-    has_run_line c.self.inside.regs (memory_of c.args.phys.now) c.args.access.now c.args.now c.translate_at-outcome.result.1 c.translate_at-outcome.result.0
+    has_run_line c.self.inside.regs (memory_of c.args.phys.now) c.args.access.now c.args.now c.translate_at-outcome.new.trail c.translate_at-outcome.result
     c.translate_at-outcome.ensures.fresh c.translate_at-outcome.ensures.line
