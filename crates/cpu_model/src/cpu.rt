@@ -18,7 +18,7 @@ use sysregs::{Reg, Regs};
 use tlbi_ops::Inval;
 use trace_lang::{Policy, Size};
 use trails::{Access, Answer, Trail};
-use translate::translate_at;
+use translate::{InForce, translate_at};
 
 /// The most register writes that wait.
 pub const MOST_QUEUED: usize = 64;
@@ -27,7 +27,7 @@ pub const MOST_QUEUED: usize = 64;
 #[derive(Drop)]
 pub struct Cpu {
     queue: Vec<(Reg, u64)>,
-    regs: Regs,
+    force: InForce,
     policy: Policy,
     size: Size,
     number: u8,
@@ -44,19 +44,19 @@ impl Model for Cpu {
       number = s.number;
       size = s.size;
       policy = s.policy;
-      bank = record { regs = s.regs; queue = s.queue.items };
+      bank = record { regs = s.force; queue = s.queue.items };
       cache = no_rows;
     } };
 
-    ghost invariant = { λ s. IsBank (record { regs = s.regs; queue = s.queue.items }) × (64 ≤ vec_capacity s.queue) × (s.size ≡ NoRows) };
+    ghost invariant = { λ s. IsBank (record { regs = s.force; queue = s.queue.items }) × (64 ≤ vec_capacity s.queue) × (s.size ≡ NoRows) };
 }
 
 /// Lets writes take effect, oldest first.
-fn write_all(regs: &mut Regs, queue: &[(Reg, u64)])
-    ensures { regs.new ≡ fold written regs.old queue.now }
+fn write_all(force: &mut InForce, queue: &[(Reg, u64)])
+    ensures { force.new ≡ fold written force.old queue.now }
 {
     for &(reg, value) in queue {
-        regs.set(reg, value);
+        force.set(reg, value);
     }
 }
 
@@ -71,7 +71,7 @@ impl Cpu {
         };
         Ok(Cpu {
             queue,
-            regs: Regs::zero(),
+            force: InForce::of(Regs::zero()),
             policy,
             size,
             number,
@@ -82,7 +82,7 @@ impl Cpu {
     pub fn regs(&self) -> &Regs
         ensures { result.now ≡ self.now.bank.regs }
     {
-        &self.regs
+        self.force.regs()
     }
 
     /// The oldest write takes effect, where one waits.
@@ -91,7 +91,7 @@ impl Cpu {
     {
         if self.queue.len() > 0 {
             let (reg, value) = self.queue.remove(0);
-            self.regs.set(reg, value);
+            self.force.set(reg, value);
         }
     }
 
@@ -102,7 +102,7 @@ impl Cpu {
     {
         if self.queue.len() == MOST_QUEUED {
             let (oldest, first) = self.queue.remove(0);
-            self.regs.set(oldest, first);
+            self.force.set(oldest, first);
         }
         self.queue.push_reserved((reg, value));
     }
@@ -111,7 +111,7 @@ impl Cpu {
     pub fn isb(&mut self)
         ensures { self.new ≡ with_bank self.old (drained self.old.bank) }
     {
-        write_all(&mut self.regs, self.queue.as_slice());
+        write_all(&mut self.force, self.queue.as_slice());
         self.queue.clear();
     }
 
@@ -132,10 +132,10 @@ impl Cpu {
     {
         let mut words = Words { phys };
         let mut first = Trail::none();
-        let outcome = translate_at(&self.regs, access, now, &mut words, &mut first);
+        let outcome = translate_at(&self.force, access, now, &mut words, &mut first);
         Answer {
-            asid: asid(&self.regs),
-            vmid: vmid(&self.regs),
+            asid: asid(self.force.regs()),
+            vmid: vmid(self.force.regs()),
             outcome,
             first,
             second: None,

@@ -14,8 +14,9 @@ use sysregs::fields::{asid, vmid};
 use texts::{LINE, Line};
 use trails::{Access, Outcome, Trail};
 
-/// Puts an access, which stands behind a word.
-fn put_access(line: &mut Line, access: &Access, asid: u16, vmid: u16)
+/// Puts an access before what stands, without the word before it: ` 0x40201abc el1 read asid 0x1 vmid 0x0`. The form is
+/// this project's own rule.
+pub fn put_access(line: &mut Line, access: &Access, asid: u16, vmid: u16)
     requires { 90 + length line.old ≤ LINE }
     ensures text { line.new ≡ access_text [] access.now asid vmid ++ line.old }
     ensures room { length line.new ≤ 90 + length line.old }

@@ -7,7 +7,7 @@ mod outcomes;
 mod parts;
 mod sink;
 
-pub use answer::{access_line, explain};
+pub use answer::{access_line, explain, put_access};
 pub use lines::{absent_line, fault_line, item_line, item_lines};
 pub use outcomes::outcome_line;
 pub use sink::{Adapter, FailingMemory, QuietMemory, Sink, WriteFailed};

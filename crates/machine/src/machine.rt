@@ -6,7 +6,7 @@ ghost use Rattle.phys_mem.specs.Words.{memory_of};
 ghost use Rattle.phys_mem.specs.Memory.{zeros};
 ghost use Rattle.phys_mem.specs.Ranges.{refusal_in};
 ghost use Rattle.trace_lang.specs.declared.header.Size.TheVariants.{NoRows};
-ghost use Rattle.trace_lang.specs.Traces.{RangesFitBehind};
+ghost use Rattle.trace_lang.specs.Traces.{RangesFitBehind, IsTrace};
 ghost use Rattle.machine_spec.specs.Allowed.{IsAllowed};
 ghost use Rattle.machine_spec.specs.Machine.{run_of, world_after};
 ghost use Rattle.machine.specs.Seats.{no_seat, new_seat};
@@ -105,6 +105,7 @@ impl Machine {
     /// The machine before the first event of a trace. All memory of the run is taken here.
     pub fn opened(alloc: Global, trace: Trace) -> Result<Machine, NoMemory>
         requires { trace.header.size ≡ NoRows }
+        ensures limits { IsTrace trace }
         ensures trace { IfOk result (λ m. m.trace ≡ trace) }
         ensures log { IfOk result (λ m. m.log ≡ []) }
         ensures machine { IfOk result (λ m. machine_of m ≡ world_after trace.header []) }

@@ -104,8 +104,5 @@ pub step_within : (i : ℕ) (s : Summary) (t : Step) → IfSome t.answer (λ a. 
 step_within i s t h w = answer_within i (with_event s t.event) t.answer h (event_within (3 * i) ((2 ^ 32 - 1) * i) s t.event w)
 
 -- one more step is summed up
-pub summary_more : (log : List Step) (i : ℕ) (x : Step) → i < length log → x ≡ get_or log i x
-    → with_answer (with_event (summary (take i log)) x.event) x.answer ≡ summary (take (i + 1) log)
-summary_more log i x h e =
-    let next : take (i + 1) log ≡ take i log ++ x ∷ [] = take_more log i x h ∙ ap (λ (y : Step). take i log ++ y ∷ []) (sym e) in
-    sym (ap summary next ∙ fold_push (λ s t. with_answer (with_event s t.event) t.answer) no_steps (take i log) x)
+pub summary_more : (log : List Step) (x : Step) → with_answer (with_event (summary log) x.event) x.answer ≡ summary (log ++ x ∷ [])
+summary_more log x = sym (fold_push (λ s t. with_answer (with_event s t.event) t.answer) no_steps log x)

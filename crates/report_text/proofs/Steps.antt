@@ -1,13 +1,14 @@
--- The lines of the first steps of a log, and of one more.
-use Rattle.std.proofs.Common.{◌≡◌, ℕ, ◌+◌, ◌<◌, ◌≤◌, OnOk, List, [], ◌∷◌, ◌++◌, length, take, drop, get_or, Option, Result, Ok, Err, IsOk, IsErr, sym, ◌∙◌, ap, append_assoc, append-nil, arith, subst}
-use Rattle.std.proofs.lemmas.List.{take_more, take_all, take-append-drop}
-use Rattle.std.proofs.lemmas.Grind.{common_steps}
+-- The lines of the steps of a log, and of one more.
+use Rattle.std.proofs.Common.{◌≡◌, ℕ, ◌+◌, OnOk, List, [], ◌∷◌, ◌++◌, length, Option, Result, Ok, Err, refl, sym, ◌∙◌, ap, append_assoc, append-nil, arith, subst}
+use Rattle.std.proofs.lemmas.List.{length-append}
 use Rattle.trails.specs.declared.step.Step.{Step}
 use Rattle.explain_text.specs.Written.{Appended, Wrote}
 use Rattle.explain_text.proofs.Sinks.{appended_none}
-use Rattle.machine_spec.specs.Summary.{Summary, summary}
+use Rattle.machine_spec.specs.Summary.{Summary, summary, with_event, with_answer}
 use Rattle.report_text.specs.Report.{step_text, steps_text, summary_text, report_text}
 use Rattle.report_text.specs.Waits.{Handed, Started, Adds}
+use Rattle.report_text.specs.Reports.{ReportState, IsReportOf, GoesOn}
+use Rattle.report_text.proofs.Counting.{summary_more}
 use Rattle.report_text.proofs.Pages.{started_in}
 
 -- steps behind others
@@ -23,57 +24,54 @@ steps_one : (n : ℕ) (x : Step) → steps_text n (x ∷ []) ≡ step_text n x
 unfolding steps_text
 steps_one n x = append-nil (step_text n x)
 
-first_length : (xs : List Step) (i : ℕ) → i < length xs → length (take i xs) ≡ i
-first_length xs i h = grind (arith, common_steps)
-
 -- one more step
-pub steps_more : (log : List Step) (i : ℕ) (x : Step) → i < length log → x ≡ get_or log i x → steps_text 0 (take (i + 1) log) ≡ steps_text 0 (take i log) ++ step_text i x
-steps_more log i x h e =
-    let next : take (i + 1) log ≡ take i log ++ x ∷ [] = take_more log i x h ∙ ap (λ (y : Step). take i log ++ y ∷ []) (sym e) in
-    let place : 0 + length (take i log) ≡ i = (let f = first_length log i h in omega arith) in
-    ap (steps_text 0) next
-    ∙ steps_then 0 (take i log) (x ∷ [])
-    ∙ ap (λ (t : List ℕ). steps_text 0 (take i log) ++ t) (ap (λ (k : ℕ). steps_text k (x ∷ [])) place ∙ steps_one i x)
+steps_more : (log : List Step) (x : Step) → steps_text 0 (log ++ x ∷ []) ≡ steps_text 0 log ++ step_text (length log) x
+steps_more log x =
+    let place : 0 + length log ≡ length log = omega arith in
+    steps_then 0 log (x ∷ []) ∙ ap (λ (t : List ℕ). steps_text 0 log ++ t) (ap (λ (k : ℕ). steps_text k (x ∷ [])) place ∙ steps_one (length log) x)
 
--- the lines of one more step wait or were handed on
-pub step_goes : {T E : Type 0} (a b before : Option (List ℕ)) (r : Result T E) (w left : List ℕ) (log : List Step) (i : ℕ) (x : Step) → i < length log → x ≡ get_or log i x → IsOk r
-    → Adds a b r w left (step_text i x) → Handed before a w (steps_text 0 (take i log)) → Handed before b left (steps_text 0 (take (i + 1) log))
-step_goes a b before (Ok y) w left log i x h s e p q = subst (Handed before b left) (sym (steps_more log i x h s)) (p before (steps_text 0 (take i log)) q)
-step_goes a b before (Err y) w left log i x h s e p q = cc
+steps_on : (n : ℕ) (x : Step) (more : List Step) → steps_text n (x ∷ more) ≡ step_text n x ++ steps_text (n + 1) more
+unfolding steps_text
+steps_on n x more = refl
 
--- a part of the first lines is a part of the report
-report_parts : (log : List Step) (i : ℕ) → steps_text 0 (take i log) ++ (steps_text (0 + length (take i log)) (drop i log) ++ summary_text (summary log)) ≡ report_text log
-report_parts log i =
-    sym (append_assoc (steps_text 0 (take i log)) (steps_text (0 + length (take i log)) (drop i log)) (summary_text (summary log)))
-    ∙ ap (λ (t : List ℕ). t ++ summary_text (summary log)) (sym (steps_then 0 (take i log) (drop i log)) ∙ ap (steps_text 0) (take-append-drop i log))
+-- the lines of one more step are a first part of what each longer log has
+report_parts : (log : List Step) (x : Step) (more : List Step)
+    → (steps_text 0 log ++ step_text (length log) x) ++ (steps_text (length log + 1) more ++ summary_text (summary (log ++ x ∷ more))) ≡ report_text (log ++ x ∷ more)
+report_parts log x more =
+    let end : List ℕ = summary_text (summary (log ++ x ∷ more)) in
+    let place : 0 + length log ≡ length log = omega arith in
+    sym (append_assoc (steps_text 0 log ++ step_text (length log) x) (steps_text (length log + 1) more) end)
+    ∙ ap (λ (t : List ℕ). t ++ end)
+    (append_assoc (steps_text 0 log) (step_text (length log) x) (steps_text (length log + 1) more)
+    ∙ ap (λ (t : List ℕ). steps_text 0 log ++ t) (sym (steps_on (length log) x more) ∙ ap (λ (k : ℕ). steps_text k (x ∷ more)) (sym place))
+    ∙ sym (steps_then 0 log (x ∷ more)))
 
-part_of : (before now : Option (List ℕ)) (log : List Step) (i : ℕ) → Started before now (steps_text 0 (take i log)) → Started before now (report_text log)
-part_of before now log i h =
-    subst (Started before now) (report_parts log i) (started_in before now (steps_text 0 (take i log)) (steps_text (0 + length (take i log)) (drop i log) ++ summary_text (summary log)) h)
-
--- a step fails
-pub step_fails : {T E U F : Type 0} (a b before : Option (List ℕ)) (r : Result T E) (q : Result U F) (w left : List ℕ) (log : List Step) (i : ℕ) (x : Step) → i < length log → x ≡ get_or log i x → IsErr r → IsErr q
-    → Adds a b r w left (step_text i x) → Handed before a w (steps_text 0 (take i log)) → Wrote before b q (report_text log)
-step_fails a b before (Ok y) q w left log i x h s e f p g = cc
-step_fails a b before (Err y) (Ok z) w left log i x h s e f p g = cc
-step_fails a b before (Err y) (Err z) w left log i x h s e f p g =
-    part_of before b log (i + 1) (subst (Started before b) (sym (steps_more log i x h s)) (p before (steps_text 0 (take i log)) g))
-
--- all steps and the summary line are the report
-last_of : (log : List Step) (i : ℕ) (sum : Summary) → length log ≤ i → sum ≡ summary (take i log) → steps_text 0 (take i log) ++ summary_text sum ≡ report_text log
-last_of log i sum k s =
-    let all : take i log ≡ log = take_all i log k in
-    ap (λ (t : Summary). steps_text 0 (take i log) ++ summary_text t) s ∙ ap (λ (xs : List Step). steps_text 0 xs ++ summary_text (summary xs)) all
+-- a step that was put
+pub goes_on_by : {T E : Type 0} (a b : Option (List ℕ)) (r : Result T E) (old new : ReportState) (x : Step) → Adds a b r old.waits new.waits (step_text old.steps x)
+    → new.counted ≡ with_answer (with_event old.counted x.event) x.answer → new.steps ≡ old.steps + 1
+    → (before : Option (List ℕ)) (log : List Step) → IsReportOf before a old log → GoesOn before b r new log x
+goes_on_by a b (Ok y) old new x p counted steps before log h = record {
+  text = subst (Handed before b new.waits) (ap (λ (k : ℕ). steps_text 0 log ++ step_text k x) h.steps ∙ sym (steps_more log x)) (p before (steps_text 0 log) h.text);
+  counted = counted ∙ ap (λ (s : Summary). with_answer (with_event s x.event) x.answer) h.counted ∙ summary_more log x;
+  steps = steps ∙ ap (λ (k : ℕ). k + 1) h.steps ∙ sym (length-append log (x ∷ []));
+}
+goes_on_by a b (Err y) old new x p counted steps before log h =
+    λ more.
+    let first : Started before b (steps_text 0 log ++ step_text (length log) x) =
+    subst (λ (k : ℕ). Started before b (steps_text 0 log ++ step_text k x)) h.steps (p before (steps_text 0 log) h.text) in
+    subst (Started before b) (report_parts log x more) (started_in before b (steps_text 0 log ++ step_text (length log) x) (steps_text (length log + 1) more ++ summary_text (summary (log ++ x ∷ more))) first)
 
 -- the summary line ends the report
-pub ends : {T E : Type 0} (a b before : Option (List ℕ)) (r : Result T E) (w left : List ℕ) (log : List Step) (i : ℕ) (sum : Summary) → length log ≤ i
-    → sum ≡ summary (take i log) → OnOk r (left ≡ []) → Adds a b r w left (summary_text sum) → Handed before a w (steps_text 0 (take i log)) → Wrote before b r (report_text log)
-ends a b before (Ok x) w left log i sum k s e p h =
-    let g = p before (steps_text 0 (take i log)) h in
-    let text : steps_text 0 (take i log) ++ summary_text sum ≡ report_text log = last_of log i sum k s in
+pub ends_by : {T E : Type 0} (a b : Option (List ℕ)) (r : Result T E) (old : ReportState) (left : List ℕ) → OnOk r (left ≡ []) → Adds a b r old.waits left (summary_text old.counted)
+    → (before : Option (List ℕ)) (log : List Step) → IsReportOf before a old log → Wrote before b r (report_text log)
+ends_by a b (Ok x) old left e p before log h =
+    let text : steps_text 0 log ++ summary_text old.counted ≡ report_text log = ap (λ (s : Summary). steps_text 0 log ++ summary_text s) h.counted in
+    let g = p before (steps_text 0 log) h.text in
     let whole : g.0 ≡ report_text log = sym (append-nil g.0) ∙ ap (λ (t : List ℕ). g.0 ++ t) (sym e) ∙ g.2 ∙ text in
     subst (Appended before b) whole g.1
-ends a b before (Err x) w left log i sum k s e p h = subst (Started before b) (last_of log i sum k s) (p before (steps_text 0 (take i log)) h)
+ends_by a b (Err x) old left e p before log h =
+    let text : steps_text 0 log ++ summary_text old.counted ≡ report_text log = ap (λ (s : Summary). steps_text 0 log ++ summary_text s) h.counted in
+    subst (Started before b) text (p before (steps_text 0 log) h.text)
 
 -- nothing is written yet
 pub nothing_yet : (a : Option (List ℕ)) (waits : List ℕ) → waits ≡ [] → Handed a a waits (steps_text 0 [])

@@ -12,13 +12,11 @@ use Rattle.explain_text.specs.Texts.{item_text}
 use Rattle.explain_text.specs.Explained.{access_text, printed, outcome_text, HasText}
 use Rattle.machine_spec.specs.Summary.{Summary, summary}
 
--- the front of an event's line: the number of its step, counted from 0 over all steps, and its core
-abbrev pub front_text : (number core : ℕ) → List ℕ
-front_text n core = joined_text (codes "event " ∷ decimal n ∷ codes " core " ∷ decimal core ∷ codes " " ∷ [])
-
--- the line of an event, as `event 8 core 0 access 0x40201abc el1 read asid 0x0 vmid 0x0`
+-- the line of an event, as `event 8 core 0 access 0x40201abc el1 read asid 0x0 vmid 0x0`: the number of its step, counted
+-- from 0 over all steps, its core, and its access
 abbrev pub event_text : (number core : ℕ) (word : List ℕ) (access : Access) (asid vmid : ℕ) → List ℕ
-event_text n core word access asid vmid = front_text n core ++ (access_text word access asid vmid ++ codes "\n")
+event_text n core word access asid vmid =
+    joined_text (codes "event " ∷ decimal n ∷ codes " core " ∷ decimal core ∷ codes " " ∷ access_text word access asid vmid ∷ codes "\n" ∷ [])
 
 -- the items of a second trail, which a conflict has, behind the line `or`
 abbrev pub second_text : (second : Option (List Item)) → List ℕ

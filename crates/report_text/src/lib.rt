@@ -6,7 +6,7 @@ mod lines;
 mod page;
 mod writing;
 
-pub use writing::report;
+pub use writing::Report;
 
 #[cfg(test)]
 mod tests;

@@ -1,44 +1,14 @@
-ghost use Rattle.std.specs.Prelude.{◌≡◌, ◌++◌, true, codes, flat_map};
+ghost use Rattle.std.specs.Prelude.{◌≡◌, ◌≤◌, ◌++◌, length, true, codes, flat_map};
 ghost use Rattle.bitwords.specs.Causes.{HasCause};
 ghost use Rattle.explain_text.specs.Written.{Wrote};
 ghost use Rattle.explain_text.specs.Texts.{item_text};
-ghost use Rattle.explain_text.specs.Explained.{access_text, printed, outcome_text, HasText};
-ghost use Rattle.report_text.specs.Report.{front_text, event_text, second_text, answer_text, step_text, outcomes_text, marks_text, summary_text, IsPrintable};
+ghost use Rattle.explain_text.specs.Explained.{printed, outcome_text, HasText};
+ghost use Rattle.report_text.specs.Report.{event_text, second_text, answer_text, step_text, outcomes_text, marks_text, summary_text, IsPrintable};
 
 use crate::counts::Counts;
-use explain_text::{Sink, WriteFailed, access_line, item_lines, outcome_line};
+use explain_text::{Sink, WriteFailed, item_lines, outcome_line, put_access};
 use texts::Line;
 use trails::{Access, Answer, Event, Outcome, Step, Trail};
-
-/// The front of an event's line.
-fn front<O: Sink>(out: &mut O, number: u64, core: u8) -> Result<(), WriteFailed>
-    ensures text { Wrote (O.written out.old) (O.written out.new) result (front_text number core) }
-    ensures cause { HasCause (O.faults out.old) (O.faults out.new) result }
-{
-    let mut line = Line::new();
-    line.text(b" ");
-    line.decimal(core as u64);
-    line.text(b" core ");
-    line.decimal(number);
-    line.text(b"event ");
-    out.put(line.bytes())
-}
-
-/// What stands behind the front, with the line's end.
-#[tactic(auto, using(explain_text::proofs::Sinks::fails_first, explain_text::proofs::Sinks::goes_on))]
-fn asked<O: Sink>(
-    out: &mut O,
-    word: &str,
-    access: &Access,
-    answer: &Answer,
-) -> Result<(), WriteFailed>
-    ensures text { Wrote (O.written out.old) (O.written out.new) result
-        (access_text word.now access.now answer.now.asid answer.now.vmid ++ codes "\n") }
-    ensures cause { HasCause (O.faults out.old) (O.faults out.new) result }
-{
-    access_line(out, word, access, answer.asid, answer.vmid)?;
-    out.put(b"\n")
-}
 
 /// The second trail of a conflict, behind the line `or`.
 #[tactic(auto, using(explain_text::proofs::Sinks::fails_first, explain_text::proofs::Sinks::goes_on))]
@@ -77,7 +47,6 @@ fn answer_lines<O: Sink>(out: &mut O, answer: &Answer) -> Result<(), WriteFailed
 }
 
 /// The line of an event.
-#[tactic(auto, using(explain_text::proofs::Sinks::fails_first, explain_text::proofs::Sinks::goes_on))]
 fn event_line<O: Sink>(
     out: &mut O,
     number: u64,
@@ -86,12 +55,21 @@ fn event_line<O: Sink>(
     access: &Access,
     answer: &Answer,
 ) -> Result<(), WriteFailed>
+    requires { length word.now ≤ 8 }
     ensures text { Wrote (O.written out.old) (O.written out.new) result
         (event_text number core word.now access.now answer.now.asid answer.now.vmid) }
     ensures cause { HasCause (O.faults out.old) (O.faults out.new) result }
 {
-    front(out, number, core)?;
-    asked(out, word, access, answer)
+    let mut line = Line::new();
+    line.text(b"\n");
+    put_access(&mut line, access, answer.asid, answer.vmid);
+    line.text(word.as_bytes());
+    line.text(b" ");
+    line.decimal(core as u64);
+    line.text(b" core ");
+    line.decimal(number);
+    line.text(b"event ");
+    out.put(line.bytes())
 }
 
 /// The lines of an event that is answered.
@@ -104,7 +82,8 @@ fn event_lines<O: Sink>(
     access: &Access,
     answer: &Answer,
 ) -> Result<(), WriteFailed>
-    requires { HasText (printed true answer.now.outcome) }
+    requires word { length word.now ≤ 8 }
+    requires outcome { HasText (printed true answer.now.outcome) }
     ensures text { Wrote (O.written out.old) (O.written out.new) result
         (event_text number core word.now access.now answer.now.asid answer.now.vmid ++ answer_text answer.now) }
     ensures cause { HasCause (O.faults out.old) (O.faults out.new) result }

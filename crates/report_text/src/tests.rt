@@ -2,10 +2,10 @@ ghost use Rattle.std.specs.Prelude.{◌≡◌, ◌≤◌, ◌+◌, length, true,
 ghost use Rattle.explain_text.specs.Explained.{printed, HasText};
 ghost use Rattle.report_text.specs.Report.{IsPrintable, ArePrintable};
 
-use crate::report;
+use crate::Report;
 use attributes::{Device, MemType, Share};
 use bitflags::Flags;
-use explain_text::{FailingMemory, QuietMemory, WriteFailed};
+use explain_text::{FailingMemory, QuietMemory, Sink, WriteFailed};
 use fault_codes::{Class, Fault, Stage};
 use permissions::{El, Kind, Perms};
 use std::alloc::{AllocError, Global};
@@ -236,6 +236,18 @@ fn six_steps(alloc: Global) -> Result<Vec<Step>, AllocError>
     put(&mut log, aborted())?;
     put(&mut log, conflict())?;
     Ok(log)
+}
+
+/// Writes the report of a log.
+fn report<O: Sink>(alloc: Global, out: &mut O, log: &[Step]) -> Result<(), WriteFailed>
+    requires printable { ArePrintable log.now }
+    requires length { length log.now ≤ 500 }
+{
+    let mut report = Report::new(alloc);
+    for step in log {
+        report.step(out, step)?;
+    }
+    report.end(out)
 }
 
 #[test]

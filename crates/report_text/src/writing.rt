@@ -1,32 +1,75 @@
-ghost use Rattle.std.specs.Prelude.{◌≤◌, ◌^◌, length};
+ghost use Rattle.std.specs.Prelude.{◌≡◌, ◌<◌, ◌+◌, ◌^◌, List, Option, ℕ, [], ◌∷◌, ◌++◌};
 ghost use Rattle.bitwords.specs.Causes.{HasCause};
+ghost use Rattle.trails.specs.declared.step.Step.{Step as TheStep};
 ghost use Rattle.explain_text.specs.Written.{Wrote};
-ghost use Rattle.report_text.specs.Report.{report_text, ArePrintable};
+ghost use Rattle.report_text.specs.Report.{report_text, IsPrintable};
+ghost use Rattle.report_text.specs.Reports.{IsReportOf, GoesOn};
 
 use crate::counts::Counts;
 use crate::page::{Page, put_step, put_summary};
 use explain_text::{Sink, WriteFailed};
 use std::alloc::Global;
+use std::marker::Model;
 use trails::Step;
 
 /// The room of a page in bytes: what waits before it is handed on, and then the lines of one step.
 const ROOM: usize = 64 * 1024;
 
-/// Writes the report of a run from its log, in pieces of at least 32 KiB but for the last: for each access and prefetch its
-/// lines, and at the end the summary line. Where memory is refused the pieces are shorter, down to a part of a line. After
-/// an error a prefix of it was written. The form is this project's own rule.
-pub fn report<O: Sink>(alloc: Global, out: &mut O, log: &[Step]) -> Result<(), WriteFailed>
-    requires printable { ArePrintable log.now }
-    requires length { length log.now ≤ 2 ^ 32 }
-    ensures text { Wrote (O.written out.old) (O.written out.new) result (report_text log.now) }
-    ensures cause { HasCause (O.faults out.old) (O.faults out.new) result }
-    ensures later { O.faults out.old ≤ O.faults out.new }
-{
-    let mut page = Page::with_room(alloc, ROOM);
-    let mut counts = Counts::none();
-    for (number, step) in log.iter().enumerate() {
-        put_step(&mut page, out, number as u64, step)?;
-        counts.step(step);
+/// The report of a run, which is written while its steps are done: for each access and prefetch its lines, and at the end
+/// the summary line. It goes out in pieces of at least 32 KiB but for the last. Where memory is refused the pieces are
+/// shorter, down to a part of a line. The form is this project's own rule.
+#[derive(Drop)]
+pub struct Report {
+    page: Page,
+    counts: Counts,
+    steps: u64,
+}
+
+impl Model for Report {
+    ghost use Rattle.std.specs.Prelude.{◌*◌, ◌^◌, ◌-◌};
+    ghost use Rattle.report_text.specs.Bounds.{Within};
+    ghost use Rattle.report_text.specs.Reports.{ReportState};
+
+    ghost Value = { ReportState };
+
+    ghost view = { λ s. record { waits = s.page.bytes.items; counted = s.counts; steps = s.steps } };
+
+    ghost invariant = { λ s. Within (3 * s.steps) ((2 ^ 32 - 1) * s.steps) s.counts };
+}
+
+impl Report {
+    /// A report without steps.
+    pub fn new(alloc: Global) -> Report
+        ensures { (now : Option (List ℕ)) → IsReportOf now now result [] }
+    {
+        Report {
+            page: Page::with_room(alloc, ROOM),
+            counts: Counts::none(),
+            steps: 0,
+        }
     }
-    put_summary(&mut page, out, &counts)
+
+    /// Writes the lines of the next step. After an error a first part of the report was written.
+    pub fn step<O: Sink>(&mut self, out: &mut O, step: &Step) -> Result<(), WriteFailed>
+        requires printable { IsPrintable step.now.answer }
+        requires few { self.old.steps < 2 ^ 32 }
+        ensures text { (before : Option (List ℕ)) (log : List TheStep) → IsReportOf before (O.written out.old) self.old log →
+            GoesOn before (O.written out.new) result self.new log step.now }
+        ensures steps { self.new.steps ≡ self.old.steps + 1 }
+        ensures cause { HasCause (O.faults out.old) (O.faults out.new) result }
+    {
+        let number = self.steps;
+        self.counts.step(step);
+        self.steps += 1;
+        put_step(&mut self.page, out, number, step)
+    }
+
+    /// Writes the summary line, and all that waits.
+    pub fn end<O: Sink>(&mut self, out: &mut O) -> Result<(), WriteFailed>
+        ensures text { (before : Option (List ℕ)) (log : List TheStep) → IsReportOf before (O.written out.old) self.old log →
+            Wrote before (O.written out.new) result (report_text log) }
+        ensures cause { HasCause (O.faults out.old) (O.faults out.new) result }
+    {
+        put_summary(&mut self.page, out, &self.counts)
+    }
 }

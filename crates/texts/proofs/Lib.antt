@@ -1,3 +1,4 @@
 pub mod Digits
 pub mod Onto
 pub mod Shown
+pub mod Values

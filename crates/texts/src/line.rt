@@ -29,16 +29,15 @@ impl Model for Line {
     ghost invariant = { λ s. s.start ≤ LINE };
 }
 
+/// The glyphs of the digits in any radix up to 16.
+const GLYPHS: [u8; 16] = *b"0123456789abcdef";
+
 #[inline]
 fn glyph(digit: u8) -> u8
     requires { digit < 16 }
     ensures { result ≡ digit_glyph false digit }
 {
-    if digit < 10 {
-        b'0' + digit
-    } else {
-        b'a' + (digit - 10)
-    }
+    GLYPHS[digit as usize]
 }
 
 /// Writes the digits of a number of at most `most` digits so that they end before `end`. Answers where they start.

@@ -1,12 +1,12 @@
 -- A list cut at its first element that passes, and what is left to read behind a cut.
-use Rattle.std.proofs.Common.{◌≡◌, ℕ, zero, suc, ◌+◌, ◌-◌, ◌<◌, ◌≤◌, ◌==◌, ◌++◌, not, eqb, cond, List, [], ◌∷◌, length, filter, take, drop, get_or, Option, Some, None, Bool, true, false, sym, ◌∙◌, ap, refl, arith, add-one}
+use Rattle.std.proofs.Common.{◌≡◌, ℕ, zero, suc, ◌+◌, ◌-◌, ◌<◌, ◌≤◌, ◌==◌, ◌++◌, not, eqb, cond, ◌&&◌, List, [], ◌∷◌, length, filter, take, drop, get_or, Option, Some, None, Bool, true, false, sym, ◌∙◌, ap, refl, arith, add-one}
 use Rattle.std.proofs.lemmas.List.{take_rest, take-append-drop, length-append}
 use Rattle.std.specs.Prelude.{bytes_eq}
 use Rattle.std.proofs.lemmas.Bool.{both_ways, eqb-true}
 use Rattle.std.proofs.lemmas.Slice.Eq.{bytes_eq-Decides}
 use Rattle.std.proofs.Math.Seq.{drop-append_seam}
 use Rattle.trace_lang.specs.Lines.{without_return}
-use Rattle.std.specs.List.{slice_split, onto_first}
+use Rattle.std.specs.List.{list_all, slice_split, onto_first}
 use Rattle.std.proofs.lemmas.List.Splits.{slice_split-cons_yes, slice_split-cons_no}
 use Rattle.trace_lang.specs.Words.{is_blank}
 use Rattle.trace_lang.specs.Views.{parts_behind}
@@ -26,6 +26,21 @@ cut_here p xs i h f t = cut_at p xs i h f t ∙ ap (λ (ys : List ℕ). take i x
 
 pub cut_nowhere : (p : ℕ → Bool) (xs : List ℕ) (i : ℕ) → length xs ≤ i → ((k : ℕ) → k < i → p (get_or xs k 0) ≡ false) → slice_split p xs ≡ xs ∷ []
 cut_nowhere p xs i h f = not_cut p xs (λ k l. f k (omega arith))
+
+-- the first elements all pass
+pub all_here : (p : ℕ → Bool) (xs : List ℕ) (i : ℕ) → i < length xs → ((k : ℕ) → k < i → p (get_or xs k 0) ≡ true) → list_all p xs ≡ (p (get_or xs i 0) && list_all p (drop (suc i) xs))
+all_here p [] i h f = absurd (omega arith)
+all_here p (x ∷ xs) zero h f = refl
+all_here p (x ∷ xs) (suc i) h f = ap (λ b. b && list_all p xs) (f 0 (omega arith)) ∙ all_here p xs i (omega arith) (λ k l. f (suc k) (omega arith))
+
+-- as a loop over places leaves it
+pub all_behind : (p : ℕ → Bool) (xs : List ℕ) (i : ℕ) → i < length xs → ((k : ℕ) → k < i → p (get_or xs k 0) ≡ true) → p (get_or xs i 0) ≡ true → list_all p xs ≡ list_all p (take (length xs - (i + 1)) (drop (i + 1) xs))
+all_behind p xs i h f t =
+    all_here p xs i h f ∙ ap (λ b. b && list_all p (drop (suc i) xs)) t ∙ ap (list_all p) (ap (λ (j : ℕ). drop j xs) (sym (add-one i)) ∙ sym (take_rest xs (i + 1)))
+
+pub all_passed : (p : ℕ → Bool) (xs : List ℕ) → ((k : ℕ) → k < length xs → p (get_or xs k 0) ≡ true) → list_all p xs ≡ true
+all_passed p [] f = refl
+all_passed p (x ∷ xs) f = ap (λ b. b && list_all p xs) (f 0 (omega arith)) ∙ all_passed p xs (λ k l. f (suc k) (omega arith))
 
 abbrev pub left : Option (List ℕ) → ℕ
 left None = 0

@@ -1,6 +1,6 @@
 -- What the code's types stand for, and what calls answer beside what is due.
-use Rattle.std.specs.Prelude.{◌≡◌, ℕ, Bool, List, [], Option, Some, None, Result, Ok, Err}
-use Rattle.std.specs.List.{slice_split}
+use Rattle.std.specs.Prelude.{◌≡◌, ℕ, Bool, true, false, if◌then◌else◌, List, [], Option, Some, None, Result, Ok, Err}
+use Rattle.std.specs.List.{list_all, slice_split}
 use Rattle.trace_lang.specs.declared.refusals.LineRefusal.{LineRefusal}
 use Rattle.trace_lang.specs.declared.refusals.TraceRefusal.{TraceRefusal}
 use Rattle.trace_lang.specs.declared.refusals.TraceError.{TraceError}
@@ -11,6 +11,8 @@ use Rattle.trace_lang.specs.declared.names.Verb.{Verb as Word}
 use Rattle.trace_lang.specs.declared.names.Verb.TheVariants as word
 use Rattle.trace_lang.specs.declared.reading.Head.{Head}
 use Rattle.trace_lang.specs.declared.reading.Reading.{Reading}
+use Rattle.trace_lang.specs.declared.refusals.LineRefusal.TheVariants.{NotText}
+use Rattle.trace_lang.specs.Words.{is_text, words_of}
 use Rattle.trace_lang.specs.Traces.{Header}
 use Rattle.trace_lang.specs.Events.{Verb, store, msr, settle, isb, tlbi, dsb, deliver, access}
 use Rattle.trace_lang.specs.Lines.{State}
@@ -19,6 +21,16 @@ use Rattle.trace_lang.specs.Lines.{State}
 abbrev pub parts_behind : (is_cut : ℕ → Bool) (rest : Option (List ℕ)) → List (List ℕ)
 parts_behind p None = []
 parts_behind p (Some text) = slice_split p text
+
+-- whether what stands behind a cut is text; nothing is cut where a byte before it is none
+abbrev pub is_text_behind : (rest : Option (Option (List ℕ))) → Bool
+is_text_behind None = false
+is_text_behind (Some None) = true
+is_text_behind (Some (Some text)) = list_all is_text text
+
+-- the words of a line, of which each byte is to be text
+abbrev pub text_words : (line : List ℕ) → Result (List (List ℕ)) LineRefusal
+text_words line = if list_all is_text line then Ok (words_of line) else Err NotText
 
 -- the verb that the code's name stands for
 abbrev pub verb_of : (name : Word) → Verb
@@ -48,7 +60,7 @@ Gives view (Ok x) due = due ≡ Ok (view x)
 Gives view (Err e) due = Fails e due
 
 -- after Ok the state is the one that is due, and a refusal is the one that is due
-abbrev pub Steps : {A : Type 0} → (new : State) (result : Result A LineError) (due : Result State LineRefusal) → Type 0
+abbrev pub Steps : {A S : Type 0} → (new : S) (result : Result A LineError) (due : Result S LineRefusal) → Type 0
 Steps new (Ok _) due = due ≡ Ok new
 Steps new (Err e) due = Fails e due
 

@@ -1,11 +1,12 @@
-ghost use Rattle.std.specs.Prelude.{◌≡◌, ◌<◌, ◌∷◌, length, map, IfOk, IfSome, option_map};
+ghost use Rattle.std.specs.Prelude.{◌≡◌, ◌<◌, ◌∷◌, length, map, IfSome, option_map};
 ghost use Rattle.std.specs.List.{list_all, slice_split};
-ghost use Rattle.trace_lang.specs.Words.{is_blank, is_text, is_end, words_of};
+ghost use Rattle.trace_lang.specs.Words.{is_blank, is_text, is_end};
 ghost use Rattle.trace_lang.specs.Lines.{without_return};
-ghost use Rattle.trace_lang.specs.Views.{parts_behind};
+ghost use Rattle.trace_lang.specs.Views.{parts_behind, is_text_behind, text_words, Steps};
 
+use crate::LineRefusal;
+use crate::places::{LineError, refused};
 use memchr::memchr;
-use std::alloc::AllocError;
 
 /// Whether a line has no byte but text.
 pub fn is_plain(line: &[u8]) -> bool
@@ -36,29 +37,34 @@ pub fn without_return<'a>(line: &'a [u8]) -> &'a [u8]
     }
 }
 
-/// The text up to the first blank, and what stands behind that.
-fn cut_word<'a>(text: &'a [u8]) -> (&'a [u8], Option<&'a [u8]>)
-    ensures parts { slice_split is_blank text.now ≡ result.0.now ∷ parts_behind is_blank (option_map (λ s. s.now) result.1) }
-    ensures shorter { IfSome result.1 (λ s. length s.now < length text.now) }
+/// The text up to the first blank, and what stands behind that. None where a byte before that is no text.
+fn cut_word<'a>(text: &'a [u8]) -> Option<(&'a [u8], Option<&'a [u8]>)>
+    ensures parts { IfSome result (λ r. slice_split is_blank text.now ≡ r.0.now ∷ parts_behind is_blank (option_map (λ s. s.now) r.1)) }
+    ensures text { list_all is_text text.now ≡ is_text_behind (option_map (λ r. option_map (λ s. s.now) r.1) result) }
+    ensures shorter { IfSome result (λ r. IfSome r.1 (λ s. length s.now < length text.now)) }
 {
     for (i, b) in text.iter().enumerate() {
-        if *b == b' ' || *b == b'\t' {
-            return (&text[..i], Some(&text[i + 1..]));
+        match *b {
+            0x21..=0x7e => {}
+            b' ' | b'\t' => return Some((&text[..i], Some(&text[i + 1..]))),
+            _ => return None,
         }
     }
-    (text, None)
+    Some((text, None))
 }
 
-/// Puts the words of a line in the place of those that stood.
-pub fn words<'a>(words: &mut Vec<&'a [u8]>, line: &'a [u8]) -> Result<(), AllocError>
-    ensures { IfOk result (λ _. map (λ w. w.now) words.new.items ≡ words_of line.now) }
+/// Puts the words of a line in the place of those that stood. The line is refused for a byte that is no text.
+pub fn words<'a>(words: &mut Vec<&'a [u8]>, line: &'a [u8]) -> Result<(), LineError>
+    ensures { Steps (map (λ w. w.now) words.new.items) result (text_words line.now) }
 {
     words.clear();
     let mut rest = Some(line);
     while let Some(text) = rest {
-        let (word, behind) = cut_word(text);
-        if !word.is_empty() {
-            words.push(word)?;
+        let Some((word, behind)) = cut_word(text) else {
+            return refused(LineRefusal::NotText);
+        };
+        if !word.is_empty() && words.push(word).is_err() {
+            return Err(LineError::NoMemory);
         }
         rest = behind;
     }

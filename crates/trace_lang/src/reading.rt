@@ -1,6 +1,8 @@
-ghost use Rattle.std.specs.Prelude.{◌≡◌, ◌+◌, ◌-◌, ◌^◌, ◌<◌, ℕ, map, min, nat_lt, nat_le, ◌&&◌};
-ghost use Rattle.std.specs.List.{list_any};
+ghost use Rattle.std.specs.Prelude.{◌≡◌, ◌+◌, ◌-◌, ◌^◌, ◌<◌, ℕ, map, min, nat_lt, nat_le, ◌&&◌, if◌then◌else◌};
+ghost use Rattle.std.specs.List.{list_all, list_any};
 ghost use Rattle.trace_lang.specs.Traces.{is_aligned, shares_byte, bytes_in, is_within, most_cores};
+ghost use Rattle.trace_lang.specs.Words.{is_text};
+ghost use Rattle.trace_lang.specs.declared.refusals.LineRefusal.TheVariants.{NotText, LongLine};
 ghost use Rattle.trace_lang.specs.Lines.{no_lines, is_base, is_size, cores_met, range_met, caches_met, policy_met};
 ghost use Rattle.trace_lang.specs.Lines.{ranges_met, body_met, met, words_met, line_met};
 ghost use Rattle.trace_lang.specs.Views.{header_of, state_of, Steps};
@@ -117,6 +119,17 @@ impl Head {
         ensures { result ≡ list_any (shares_byte range) (header_of self.now).ranges }
     {
         self.ranges.iter().any(|other| shares_byte(range, *other))
+    }
+}
+
+/// Why a line of more than MOST_LINE bytes is refused.
+fn too_long(line: &[u8]) -> LineRefusal
+    ensures { result ≡ (if list_all is_text line.now then LongLine else NotText) }
+{
+    if is_plain(line) {
+        LineRefusal::LongLine
+    } else {
+        LineRefusal::NotText
     }
 }
 
@@ -256,15 +269,10 @@ impl Reading {
     pub fn line<'a>(&mut self, room: &mut Vec<&'a [u8]>, line: &'a [u8]) -> Result<(), LineError>
         ensures { Steps (state_of self.new) result (line_met (state_of self.old) line.now) }
     {
-        if !is_plain(line) {
-            return refused(LineRefusal::NotText);
-        }
         if line.len() > MOST_LINE {
-            return refused(LineRefusal::LongLine);
+            return refused(too_long(line));
         }
-        match words(room, line) {
-            Ok(()) => self.words(room.as_slice()),
-            Err(_) => Err(LineError::NoMemory),
-        }
+        words(room, line)?;
+        self.words(room.as_slice())
     }
 }

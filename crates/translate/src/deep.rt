@@ -25,7 +25,7 @@ use walk_spec::Leaf1;
 /// Words of stage 1 over a supply of words of memory.
 #[derive(Drop)]
 pub struct Deep<'a, S> {
-    under: &'a Under,
+    under: &'a Under<'a>,
     supply: &'a mut S,
 }
 

@@ -14,6 +14,7 @@ mod whole;
 
 pub use begin::Begin1;
 pub use replayed::Replay;
+pub use under::InForce;
 pub use whole::{translate, translate_at};
 
 #[cfg(test)]

@@ -16,7 +16,7 @@ use crate::tests::reached::REACHED;
 use crate::tests::refused::REFUSED;
 use crate::tests::sizes::SIZES;
 use crate::tests::worked::WORKED;
-use crate::{Replay, translate, translate_at};
+use crate::{InForce, Replay, translate, translate_at};
 use stage2_walk::{Replay2, replay2};
 use std::process::Abort;
 use sysregs::fields::{check_reg, config};
@@ -99,7 +99,13 @@ fn expect_later(rt: &impl Abort, case: &Case) {
         asked: 0,
     };
     let mut trail = Trail::none();
-    let outcome = translate_at(&case.regs, &case.access(), 7, &mut supply, &mut trail);
+    let outcome = translate_at(
+        &InForce::of(case.regs),
+        &case.access(),
+        7,
+        &mut supply,
+        &mut trail,
+    );
     let found = trail.items();
     for (item, given) in found.iter().zip(case.items) {
         let wanted = Item {

@@ -9,7 +9,7 @@ ghost use Rattle.translate.specs.Deep.{outcome_by};
 use crate::parts::finish;
 use crate::stage1::stage1;
 use crate::stage2::stage2;
-use crate::under::Under;
+use crate::under::{InForce, Under};
 use sysregs::{Config, Regs};
 use table_reads::Supply;
 use trails::{Access, Outcome, Stop, Trail};
@@ -85,22 +85,22 @@ fn stopped(stop: Stop) -> Outcome
 /// those of the fresh walk. It is never a conflict, and a fault has a status code.
 #[inline(never)]
 pub fn translate_at<S: Supply>(
-    regs: &Regs,
+    force: &InForce,
     access: &Access,
     now: u32,
     supply: &mut S,
     trail: &mut Trail,
 ) -> Outcome
-    requires accepted { AreAccepted regs.now }
+    requires accepted { AreAccepted force.now }
     requires empty { trail.old ≡ [] }
     ensures same { S.memory supply.new ≡ S.memory supply.old }
     ensures later { S.faults supply.old ≤ S.faults supply.new }
     ensures kept { S.keeps supply.old supply.new }
     ensures line { HasLine result }
-    ensures walked { WalkedWhole regs.now access.now now (S.memory supply.old) (Rose (S.faults supply.old) (S.faults supply.new)) trail.new result }
-    ensures fresh { IsFresh regs.now access.now now (S.memory supply.old) (Rose (S.faults supply.old) (S.faults supply.new)) trail.new result }
+    ensures walked { WalkedWhole force.now access.now now (S.memory supply.old) (Rose (S.faults supply.old) (S.faults supply.new)) trail.new result }
+    ensures fresh { IsFresh force.now access.now now (S.memory supply.old) (Rose (S.faults supply.old) (S.faults supply.new)) trail.new result }
 {
-    match whole(&Under::of(regs, now), access, supply, trail) {
+    match whole(&Under::of(force, now), access, supply, trail) {
         Ok(outcome) => outcome,
         Err(stop) => stopped(stop),
     }
@@ -119,6 +119,6 @@ pub fn translate<S: Supply>(regs: &Regs, access: &Access, supply: &mut S) -> (Ou
     ensures fresh { IsFresh regs.now access.now 0 (S.memory supply.old) (Rose (S.faults supply.old) (S.faults supply.new)) result.1 result.0 }
 {
     let mut trail = Trail::none();
-    let outcome = translate_at(regs, access, 0, supply, &mut trail);
+    let outcome = translate_at(&InForce::of(*regs), access, 0, supply, &mut trail);
     (outcome, trail)
 }

@@ -6,9 +6,9 @@ ghost use Rattle.walk_spec.specs.Walked.{HasLine};
 ghost use Rattle.vmsa.specs.Texts.{raw_access_text, raw_mapped_text, raw_outcome_text, raw_text};
 ghost use Rattle.vmsa.specs.Due.{answer_text, IsPrintable, IsOfWalk};
 
+use crate::run::play;
 use explain_text::{QuietMemory, Sink, WriteFailed, absent_line, explain, fault_line, item_lines};
 use machine::Machine;
-use report_text::report;
 use std::alloc::Global;
 use sysregs::Regs;
 use texts::Line;
@@ -35,7 +35,7 @@ pub enum Answer {
         access: Access,
         walked: Walked,
     },
-    /// A trace that was run to its end.
+    /// A trace that is run while its report is written: the machine before the first event.
     Run {
         machine: Machine,
     },
@@ -143,14 +143,14 @@ fn put_walk<O: Sink>(alloc: Global, out: &mut O, answer: &Answer) -> Result<(), 
     out.put(page.bytes.as_slice())
 }
 
-/// Writes the text of an answer: of a walk at once, and of a run in pages.
-pub fn put_answer<O: Sink>(alloc: Global, out: &mut O, answer: &Answer) -> Result<(), WriteFailed>
-    requires { IsPrintable answer.now }
-    ensures text { Wrote (O.written out.old) (O.written out.new) result (answer_text answer.now) }
+/// Writes the text of an answer: of a walk at once, and of a run in pages while it runs.
+pub fn put_answer<O: Sink>(alloc: Global, out: &mut O, answer: Answer) -> Result<(), WriteFailed>
+    requires { IsPrintable answer }
+    ensures text { Wrote (O.written out.old) (O.written out.new) result (answer_text answer) }
     ensures cause { HasCause (O.faults out.old) (O.faults out.new) result }
 {
     match answer {
-        Answer::Raw { .. } | Answer::Explain { .. } => put_walk(alloc, out, answer),
-        Answer::Run { machine } => report(alloc, out, machine.log()),
+        Answer::Raw { .. } | Answer::Explain { .. } => put_walk(alloc, out, &answer),
+        Answer::Run { mut machine } => play(alloc, out, &mut machine),
     }
 }

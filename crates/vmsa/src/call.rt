@@ -42,7 +42,7 @@ fn tell<O: Sink, E: Sink>(
     ensures { Tells (writing_of O.written O.faults out.old out.new) (writing_of E.written E.faults err.old err.new) (due_of due) result }
 {
     match due {
-        Ok(answer) => match put_answer(alloc, out, &answer) {
+        Ok(answer) => match put_answer(alloc, out, answer) {
             Ok(()) => Status::Done,
             Err(_) => Status::WriteFault,
         },

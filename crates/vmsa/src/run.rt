@@ -1,12 +1,12 @@
 //! A trace that is run.
-ghost use Rattle.std.specs.Prelude.{◌≡◌, ◌≤◌, ◌<◌, ◌+◌, ◌^◌, IfOk, IfErr, Some, length, take};
+ghost use Rattle.std.specs.Prelude.{◌≡◌, ◌≤◌, ◌<◌, ◌+◌, IfOk, IfErr, Some};
+ghost use Rattle.bitwords.specs.Causes.{HasCause};
 ghost use Rattle.dump_file.specs.Held.{reading_of};
 ghost use Rattle.dump_file.specs.Opening.{IsOfSize};
-ghost use Rattle.trace_lang.specs.Traces.{Parts, IsTrace};
+ghost use Rattle.trace_lang.specs.Traces.{Parts};
 ghost use Rattle.trace_lang.specs.Limits.{IsBuilt};
 ghost use Rattle.trace_lang.specs.declared.parsing.TheConstants.{MOST_BYTES};
-ghost use Rattle.machine_spec.specs.Machine.{run_of};
-ghost use Rattle.machine.specs.Runs.{AreTold};
+ghost use Rattle.explain_text.specs.Written.{Wrote};
 ghost use Rattle.commands.specs.Asked.{Asked, run_words_of};
 ghost use Rattle.vmsa.specs.Run.{IsTraceOf, IsReport};
 ghost use Rattle.vmsa.specs.Answers.{Form, Stops, IsDue};
@@ -17,8 +17,10 @@ use crate::status::{Status, no_file};
 use bitwords::NoMemory;
 use commands::RunArgs;
 use dump_file::{Files, fill_from};
+use explain_text::{Sink, WriteFailed};
 use machine::Machine;
 use machine_laws::runs_are_allowed;
+use report_text::Report;
 use std::alloc::Global;
 use trace_lang::{MOST_BYTES, Trace, TraceError, TraceRefusal, parse};
 
@@ -78,19 +80,14 @@ fn trace<F: Files>(alloc: Global, name: &str, files: &mut F) -> Result<Trace, St
     }
 }
 
-/// The machine behind the last event of a trace.
-fn ran(alloc: Global, trace: Trace) -> Result<Machine, NoMemory>
+/// The machine before the first event of a trace.
+fn ready(alloc: Global, trace: Trace) -> Result<Machine, NoMemory>
     requires { IsBuilt trace.header }
     ensures report { IfOk result (λ m. IsReport trace (answer_text (Answer.Run m))) }
     ensures printable { IfOk result (λ m. IsPrintable (Answer.Run m)) }
 {
     runs_are_allowed();
-    let count = trace.events().len();
-    let mut machine = Machine::opened(alloc, trace)?;
-    for _ in 0..count {
-        machine.step();
-    }
-    Ok(machine)
+    Machine::opened(alloc, trace)
 }
 
 /// What comes of a run.
@@ -99,8 +96,22 @@ pub fn run<F: Files>(alloc: Global, asked: &RunArgs, files: &mut F) -> Result<An
     ensures due { IsDue (reading_of F.holds F.faults F.missing files.old files.new) (Some (Asked.Run (run_words_of asked.now))) (due_of result) }
 {
     let trace = trace(alloc, asked.trace, files)?;
-    match ran(alloc, trace) {
+    match ready(alloc, trace) {
         Ok(machine) => Ok(Answer::Run { machine }),
         Err(_) => Err(Status::NoMemory),
     }
+}
+
+/// Runs a machine to the end of its trace. The report is written meanwhile, each step while it is at hand.
+pub fn play<O: Sink>(alloc: Global, out: &mut O, machine: &mut Machine) -> Result<(), WriteFailed>
+    requires { IsPrintable (Answer.Run machine.old) }
+    ensures text { Wrote (O.written out.old) (O.written out.new) result (answer_text (Answer.Run machine.old)) }
+    ensures cause { HasCause (O.faults out.old) (O.faults out.new) result }
+{
+    let mut report = Report::new(alloc);
+    for k in 0..machine.left() {
+        machine.step();
+        report.step(out, &machine.log()[k])?;
+    }
+    report.end(out)
 }
