@@ -1,7 +1,6 @@
-ghost use Rattle.std.specs.Prelude.{◌≡◌, ◌≤◌, ◌++◌, length, true, codes, flat_map};
+ghost use Rattle.std.specs.Prelude.{◌≡◌, ◌≤◌, ◌++◌, length, true};
 ghost use Rattle.bitwords.specs.Causes.{HasCause};
 ghost use Rattle.explain_text.specs.Written.{Wrote};
-ghost use Rattle.explain_text.specs.Texts.{item_text};
 ghost use Rattle.explain_text.specs.Explained.{printed, outcome_text, HasText};
 ghost use Rattle.report_text.specs.Report.{event_text, second_text, answer_text, step_text, outcomes_text, marks_text, summary_text, IsPrintable};
 

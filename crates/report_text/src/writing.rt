@@ -1,4 +1,4 @@
-ghost use Rattle.std.specs.Prelude.{◌≡◌, ◌<◌, ◌+◌, ◌^◌, List, Option, ℕ, [], ◌∷◌, ◌++◌};
+ghost use Rattle.std.specs.Prelude.{◌≡◌, ◌<◌, ◌+◌, ◌^◌, List, Option, ℕ, []};
 ghost use Rattle.bitwords.specs.Causes.{HasCause};
 ghost use Rattle.trails.specs.declared.step.Step.{Step as TheStep};
 ghost use Rattle.explain_text.specs.Written.{Wrote};

@@ -3,7 +3,6 @@ ghost use Rattle.std.specs.Prelude.{◌≡◌, ◌≤◌, ◌<◌, ◌+◌, IfOk
 ghost use Rattle.bitwords.specs.Causes.{HasCause};
 ghost use Rattle.dump_file.specs.Held.{reading_of};
 ghost use Rattle.dump_file.specs.Opening.{IsOfSize};
-ghost use Rattle.trace_lang.specs.Traces.{Parts};
 ghost use Rattle.trace_lang.specs.Limits.{IsBuilt};
 ghost use Rattle.trace_lang.specs.declared.parsing.TheConstants.{MOST_BYTES};
 ghost use Rattle.explain_text.specs.Written.{Wrote};

@@ -1,5 +1,4 @@
 use Rattle.std.proofs.Common.{arith, ◌≡◌, ℕ, true, ◌⊎◌, ⊎_elim, refl}
-use Rattle.std.proofs.lemmas.Bool.Decides.{nat_tests}
 use Rattle.trace_lang.specs.Words.{is_blank, is_text}
 use Rattle.trace_lang.proofs.Cutting.{cut_here, cut_nowhere, all_behind, all_passed}
 use Rattle.trace_lang.proofs.cuts.cut_word.Goals as goal

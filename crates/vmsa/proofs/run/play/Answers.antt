@@ -1,4 +1,4 @@
-use Rattle.std.proofs.Common.{rules, arith, ◌≡◌, ℕ, ◌+◌, List, length, take, ap, sym, ◌∙◌, subst, refl}
+use Rattle.std.proofs.Common.{rules, arith, ◌≡◌, ◌+◌, List, length, take, ap, sym, ◌∙◌, subst, refl}
 use Rattle.trails.specs.declared.step.Step.{Step}
 use Rattle.machine_spec.specs.Machine.{run_of}
 use Rattle.report_text.specs.Reports.{IsReportOf}
