@@ -51,8 +51,8 @@ fn word_of<S: Supply1>(entry: &Entry1, supply: &mut S, trail: &mut Trail) -> Res
 /// The walk from a table with so many levels left.
 fn walk_left<const G: u32, S: Supply1>(
     under: &Under,
-    left: u32,
-    table: Table1,
+    mut left: u32,
+    mut table: Table1,
     supply: &mut S,
     trail: &mut Trail,
 ) -> Result<Leaf1, Stop>
@@ -65,17 +65,22 @@ fn walk_left<const G: u32, S: Supply1>(
     ensures code { IfErr result HasCode }
     ensures walked { Walked1 S.gives (asked_under under.now) left table supply.old trail.old trail.new result supply.new }
 {
-    let entry = Entry1 {
-        table,
-        place: place::<G>(&under.sizes, left, table.address, under.address),
-        address: under.address,
-        left,
-    };
-    let word = word_of(&entry, supply, trail)?;
-    match step_by::<G>(under, &entry, last_place(trail), word) {
-        Step::Down { table } => walk_left::<G, S>(under, left - 1, table, supply, trail),
-        Step::Reached { leaf } => Ok(leaf),
-        Step::Stopped { fault } => Err(Stop::Fault { fault }),
+    loop {
+        let entry = Entry1 {
+            table,
+            place: place::<G>(&under.sizes, left, table.address, under.address),
+            address: under.address,
+            left,
+        };
+        let word = word_of(&entry, supply, trail)?;
+        match step_by::<G>(under, &entry, last_place(trail), word) {
+            Step::Down { table: next } => {
+                table = next;
+                left -= 1;
+            }
+            Step::Reached { leaf } => return Ok(leaf),
+            Step::Stopped { fault } => return Err(Stop::Fault { fault }),
+        }
     }
 }
 

@@ -47,8 +47,8 @@ fn read_word<S: Supply>(
 /// The walk from a table with so many levels left.
 fn walk_left<const G: u32, S: Supply>(
     under: &Under,
-    left: u32,
-    table: u64,
+    mut left: u32,
+    mut table: u64,
     supply: &mut S,
     trail: &mut Trail,
 ) -> Result<Leaf2, Stop>
@@ -65,12 +65,17 @@ fn walk_left<const G: u32, S: Supply>(
     ensures sound { IfOk result (IsSoundLeaf under.now.ipa) }
     ensures walked { WalkedLeft (S.memory supply.old) (Rose (S.faults supply.old) (S.faults supply.new)) under.now left table trail.old trail.new result }
 {
-    let place = place::<G>(&under.sizes, left, table, under.ipa);
-    let word = read_word(under, left, place, supply, trail)?;
-    match step_by::<G>(under, left, place, word) {
-        Step::Down { table } => walk_left::<G, S>(under, left - 1, table, supply, trail),
-        Step::Reached { leaf } => Ok(leaf),
-        Step::Stopped { fault } => Err(Stop::Fault { fault }),
+    loop {
+        let place = place::<G>(&under.sizes, left, table, under.ipa);
+        let word = read_word(under, left, place, supply, trail)?;
+        match step_by::<G>(under, left, place, word) {
+            Step::Down { table: next } => {
+                table = next;
+                left -= 1;
+            }
+            Step::Reached { leaf } => return Ok(leaf),
+            Step::Stopped { fault } => return Err(Stop::Fault { fault }),
+        }
     }
 }
 

@@ -1,0 +1,38 @@
+use Rattle.std.proofs.Common.{rules, arith, ◌≡◌, ◌+◌, length, Err, refl, ap, ◌∙◌}
+use Rattle.table_reads.proofs.Weaker.{rose_weaker}
+use Rattle.walk_spec.proofs.Walks.{one_longer}
+use Rattle.stage2_walk.proofs.OnWords.{word_lacks, word_reaches, word_stops, word_goes}
+use Rattle.stage2_walk.proofs.walk.walk_left.Goals as goal
+
+pub returns-in_err-word-clause-walked : goal.returns-in_err-word-clause-walked
+returns-in_err-word-clause-walked g c =
+    let h = rw c.loop-word.invariant.same at c.in_err-word.ensures.read in
+    let e : c.from_residual.result ≡ Err c.in_err-word.field-0.0 = search rules in
+    c.loop-word.invariant.walked _ _ _ (word_lacks _ _ _ _ _ c.place-place.result c.place-place.ensures.value _ _ _ _ h.0 (e ∙ ap Err h.1) h.2)
+
+pub loop-word-preserved : goal.loop-word-preserved
+loop-word-preserved g c =
+    let i = c.loop-word.invariant in
+    let h = rw i.same at c.in_ok-word.ensures.read in
+    let l = c.in_ok-word.ensures.later in
+    let s = c.in-Down.ensures.sound in
+    let n : length c.read_word.new.trail ≡ length c.loop-word.trail + 1 = one_longer _ _ _ h.0 in record {
+      same = c.in_ok-word.ensures.same ∙ i.same;
+      later = omega (arith, i.later, l);
+      kept = search rules;
+      left = omega (arith, i.left);
+      table = (s.1, s.2);
+      most = omega (arith, i.most, n, s.0);
+      walked = λ k new r w. i.walked k new r
+          (word_goes _ _ _ _ _ c.place-place.result c.place-place.ensures.value _ _ _ h.0 h.1 _ _ _ _ _ c.in-Down.ensures.value s.0 (rose_weaker _ _ _ _ l (omega arith)) w);
+    }
+
+pub returns-in-Reached-clause-walked : goal.returns-in-Reached-clause-walked
+returns-in-Reached-clause-walked g c =
+    let h = rw c.loop-word.invariant.same at c.in_ok-word.ensures.read in
+    c.loop-word.invariant.walked _ _ _ (word_reaches _ _ _ _ _ c.place-place.result c.place-place.ensures.value _ _ _ h.0 h.1 _ _ _ c.in-Reached.ensures.value refl)
+
+pub returns-in-Stopped-clause-walked : goal.returns-in-Stopped-clause-walked
+returns-in-Stopped-clause-walked g c =
+    let h = rw c.loop-word.invariant.same at c.in_ok-word.ensures.read in
+    c.loop-word.invariant.walked _ _ _ (word_stops _ _ _ _ _ c.place-place.result c.place-place.ensures.value _ _ _ h.0 h.1 _ _ _ c.in-Stopped.ensures.value refl)
