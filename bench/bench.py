@@ -1,12 +1,15 @@
 #!/usr/bin/env python3
-"""bench.py TRACE PROGRAM.. [--times N]: the least user+sys of N runs (5) of `PROGRAM run TRACE`, with its user and sys, the
-least wall time and the peak memory; for a program named twin also of `run --quiet TRACE`. Output goes to /dev/null."""
+"""bench.py TRACE PROGRAM.. [--times N]: the cost of N runs (5) of `PROGRAM run TRACE`, where the programs take turns: median,
+mean and least of user+sys, medians of user, of sys and of wall time, page faults, and the peak memory; for a program named
+twin also of `run --quiet TRACE`. Output goes to /dev/null."""
 import os
+import statistics
 import sys
 import time
 
 
 def once(words):
+    """User, sys and wall time in ms, page faults, and the peak memory in KB."""
     start = time.perf_counter()
     pid = os.fork()
     if pid == 0:
@@ -15,7 +18,24 @@ def once(words):
         os.execv(words[0], words)
     _, status, usage = os.wait4(pid, 0)
     assert status == 0, status
-    return usage.ru_utime + usage.ru_stime, usage.ru_utime, usage.ru_stime, time.perf_counter() - start, usage.ru_maxrss
+    wall = time.perf_counter() - start
+    return 1e3 * usage.ru_utime, 1e3 * usage.ru_stime, 1e3 * wall, usage.ru_minflt, usage.ru_maxrss
+
+
+def commands(programs, trace):
+    for program in programs:
+        yield [program, "run", trace]
+        if os.path.basename(program) == "twin":
+            yield [program, "run", "--quiet", trace]
+
+
+def told(words, runs):
+    user, system, wall, faults, peak = zip(*runs)
+    both = [u + s for u, s in zip(user, system)]
+    middle = statistics.median
+    return ("%s %s: median %.1f ms, mean %.1f, best %.1f; user %.1f, sys %.1f, wall %.1f; %d page faults, peak %d KB"
+            % (os.path.basename(words[0]), " ".join(words[1:-1]), middle(both), statistics.mean(both), min(both), middle(user),
+               middle(system), middle(wall), middle(faults), max(peak)))
 
 
 def main():
@@ -25,14 +45,15 @@ def main():
         at = words.index("--times")
         times = int(words[at + 1])
         del words[at:at + 2]
-    trace, programs = words[0], words[1:]
-    for program in programs:
-        for quiet in ([], ["--quiet"]) if os.path.basename(program) == "twin" else ([],):
-            got = [once([program, "run"] + quiet + [trace]) for _ in range(times)]
-            best = min(got)
-            print("%s run%s: %.1f ms (user %.1f, sys %.1f), wall %.1f ms, peak %d KB"
-                  % (os.path.basename(program), "".join(" " + q for q in quiet), 1e3 * best[0], 1e3 * best[1], 1e3 * best[2],
-                     1e3 * min(g[3] for g in got), max(g[4] for g in got)))
+    if len(words) < 2:
+        sys.exit(__doc__)
+    asked = list(commands(words[1:], words[0]))
+    runs = [[] for _ in asked]
+    for _ in range(times):
+        for command, got in zip(asked, runs):
+            got.append(once(command))
+    for command, got in zip(asked, runs):
+        print(told(command, got))
 
 
 if __name__ == "__main__":
