@@ -4,3 +4,4 @@ pub mod Sides
 pub mod Refused
 pub mod Equality
 pub mod Names
+pub mod Ops

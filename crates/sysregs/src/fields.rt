@@ -1,8 +1,8 @@
 //! The fields of the registers.
-ghost use Rattle.std.specs.Prelude.{◌≡◌, ◌<◌, ◌≤◌, ◌^◌, Some, None, MatchResult};
+ghost use Rattle.std.specs.Prelude.{◌≡◌, ◌<◌, ◌≤◌, ◌^◌, Some, None, IfOk, MatchResult};
 ghost use Rattle.sysregs.specs.Registers.{tg0_of, tg1_of, granule_of, config_of, InRange, id_in, asid_of, vmid_of};
 ghost use Rattle.sysregs.specs.Registers.{size_named, output_size, base_field, ttbr_base, vttbr_base};
-ghost use Rattle.sysregs.specs.Refused.{refused_field};
+ghost use Rattle.sysregs.specs.Refused.{refused_field, msr_refused_field};
 
 use crate::regs::{Config, Field, Reg, Regs, Side, Tg, Unsupported};
 use bitwords::{field, flag};
@@ -173,6 +173,22 @@ pub fn check_reg(reg: Reg, value: u64) -> Result<(), Unsupported>
         Reg::HcrEl2 if flag::<46>(value) => Field::Fwb,
         Reg::VtcrEl2 if flag::<32>(value) => Field::Ds,
         _ => return Ok(()),
+    };
+    Err(Unsupported { reg, field })
+}
+
+/// Refuses a register write of a trace exactly where it sets a field that a run doesn't support, and names the lowest.
+/// What `check_reg` refuses is refused here too.
+pub fn check_msr(reg: Reg, value: u64) -> Result<(), Unsupported>
+    ensures refusal { MatchResult result (λ _. msr_refused_field reg value ≡ None) (λ e. (e.reg ≡ reg) × (msr_refused_field reg value ≡ Some e.field)) }
+    ensures accepted { IfOk result (λ _. refused_field reg value ≡ None) }
+{
+    let field = match reg {
+        Reg::TcrEl1 if flag::<39>(value) => Field::Ha,
+        Reg::TcrEl1 if flag::<40>(value) => Field::Hd,
+        Reg::VtcrEl2 if flag::<21>(value) => Field::Ha,
+        Reg::VtcrEl2 if flag::<22>(value) => Field::Hd,
+        _ => return check_reg(reg, value),
     };
     Err(Unsupported { reg, field })
 }

@@ -14,7 +14,7 @@ use Rattle.trace_lang.specs.Words.{word_or, word_at, number_at, name_at, no_word
 use Rattle.trace_lang.specs.Events.{Verb, store, msr, settle, isb, tlbi, dsb, deliver, access, event_of, event_by, core_at, place_at, operand_at, pan_at, verbs, reg_names, op_names, origins, barriers, els, kinds}
 use Rattle.std.proofs.lemmas.List.Elements.{All-nil, All-push}
 use Rattle.sysregs.specs.declared.regs.Op.{Op}
-use Rattle.sysregs.specs.Refused.{refused_field}
+use Rattle.sysregs.specs.Refused.{msr_refused_field}
 use Rattle.trails.specs.declared.event.Event.{Event}
 use Rattle.trails.specs.declared.event.Event.TheVariants.{Msr, Tlbi}
 use Rattle.trace_lang.specs.Lines.{State, no_lines, with_header, cores_met, range_met, sizes, caches_met, policies, policy_met, ranges_met, body_met, met, words_met, line_met, without_return, lines_met, refused_in, most_line}
@@ -44,7 +44,7 @@ event_by_known : (h : Header) (ws : List (List ℕ)) (c : ℕ) (verb : Verb) →
 event_by_known h ws c store = then_any IsKnown (place_at h ws) _ (λ p. then_any IsKnown (number_at ws 4) _ (λ v. then_any IsKnown (no_word_at ws 5) _ (λ _. refl)))
 event_by_known h ws c msr =
     then_any IsKnown (name_at (named reg_names) ws 3) _ (λ reg. then_any IsKnown (number_at ws 4) _ (λ v. then_any IsKnown (no_word_at ws 5) _ (λ _.
-    supported IsKnown reg (refused_field reg v) (Msr c reg v) (λ _. refl))))
+    supported IsKnown reg (msr_refused_field reg v) (Msr c reg v) (λ _. refl))))
 event_by_known h ws c settle = then_any IsKnown (no_word_at ws 3) _ (λ _. refl)
 event_by_known h ws c isb = then_any IsKnown (no_word_at ws 3) _ (λ _. refl)
 event_by_known h ws c tlbi =

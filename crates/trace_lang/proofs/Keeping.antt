@@ -7,7 +7,7 @@ use Rattle.std.proofs.lemmas.List.Elements.{All-nil, All-same, All-push}
 use Rattle.sysregs.specs.declared.regs.Op.{Op}
 use Rattle.sysregs.specs.declared.regs.Field.{Field}
 use Rattle.sysregs.specs.declared.regs.Reg.{Reg}
-use Rattle.sysregs.specs.Refused.{refused_field}
+use Rattle.sysregs.specs.Refused.{msr_refused_field}
 use Rattle.trails.specs.declared.event.Event.{Event}
 use Rattle.trails.specs.declared.event.Event.TheVariants.{Msr, Tlbi}
 use Rattle.trace_lang.specs.declared.refusals.Phase.{Phase}
@@ -74,7 +74,7 @@ event_by_fits h ws c store l =
     then_any (EventFits h) (number_at ws 4) _ (λ v. then_any (EventFits h) (no_word_at ws 5) _ (λ _. (l, q))))
 event_by_fits h ws c msr l =
     then_any (EventFits h) (name_at (named reg_names) ws 3) _ (λ reg. then_any (EventFits h) (number_at ws 4) _ (λ v. then_any (EventFits h) (no_word_at ws 5) _ (λ _.
-    supported (EventFits h) reg (refused_field reg v) (Msr c reg v) (λ e. (l, e)))))
+    supported (EventFits h) reg (msr_refused_field reg v) (Msr c reg v) (λ e. (l, e)))))
 event_by_fits h ws c settle l = then_any (EventFits h) (no_word_at ws 3) _ (λ _. (l, tt))
 event_by_fits h ws c isb l = then_any (EventFits h) (no_word_at ws 3) _ (λ _. (l, tt))
 event_by_fits h ws c tlbi l =

@@ -7,7 +7,7 @@ use Rattle.sysregs.specs.declared.regs.Reg.TheVariants.{SctlrEl1}
 use Rattle.sysregs.specs.declared.regs.Op.{Op}
 use Rattle.sysregs.specs.declared.regs.Op.TheVariants.{Vmalle1}
 use Rattle.sysregs.specs.Names.{reg_text}
-use Rattle.sysregs.specs.Refused.{refused_field}
+use Rattle.sysregs.specs.Refused.{msr_refused_field}
 use Rattle.permissions.specs.declared.bits.El.{El}
 use Rattle.permissions.specs.declared.bits.El.TheVariants.{El0, El1}
 use Rattle.permissions.specs.declared.bits.Kind.{Kind}
@@ -141,11 +141,11 @@ store_back h c p v l m a b =
     go (place_at h ws) p (λ p. number_at ws 4 >>= (λ v. no_word_at ws 5 >>= (λ _. Ok (Store c p v)))) (place_back h (codes "store") (decimal c) p (hex_text v ∷ []) l a b)
     ∙ go (number_or 4 (number_of (hex_text v))) v (λ v. no_word_at ws 5 >>= (λ _. Ok (Store c p v))) (hex_at 4 v m)
 
-msr_back : (h : Header) (c : ℕ) (reg : Reg) (v : ℕ) → v < 2 ^ 64 → refused_field reg v ≡ None → event_by h (event_words (Msr c reg v)) c msr ≡ Ok (Msr c reg v)
+msr_back : (h : Header) (c : ℕ) (reg : Reg) (v : ℕ) → v < 2 ^ 64 → msr_refused_field reg v ≡ None → event_by h (event_words (Msr c reg v)) c msr ≡ Ok (Msr c reg v)
 msr_back h c reg v l f =
     let ws = event_words (Msr c reg v) in
-    go (word_or 3 (named reg_names (reg_text reg))) reg (λ reg. number_at ws 4 >>= (λ v. no_word_at ws 5 >>= (λ _. supported_by reg (refused_field reg v) (Msr c reg v)))) (ap (word_or 3) (reg_back reg))
-    ∙ go (number_or 4 (number_of (hex_text v))) v (λ v. no_word_at ws 5 >>= (λ _. supported_by reg (refused_field reg v) (Msr c reg v))) (hex_at 4 v l)
+    go (word_or 3 (named reg_names (reg_text reg))) reg (λ reg. number_at ws 4 >>= (λ v. no_word_at ws 5 >>= (λ _. supported_by reg (msr_refused_field reg v) (Msr c reg v)))) (ap (word_or 3) (reg_back reg))
+    ∙ go (number_or 4 (number_of (hex_text v))) v (λ v. no_word_at ws 5 >>= (λ _. supported_by reg (msr_refused_field reg v) (Msr c reg v))) (hex_at 4 v l)
     ∙ ap (λ o. supported_by reg o (Msr c reg v)) f
 
 tlbi_back : (h : Header) (c : ℕ) (from : Origin) (op : Op) (shared : Bool) (n : ℕ) → n < 2 ^ 64 → may_issue from op ≡ true → (has_operand op ≡ false → n ≡ 0) →

@@ -8,7 +8,7 @@ use Rattle.sysregs.specs.declared.regs.Op.TheVariants.{Vmalle1, Vae1, Vaae1, Val
 use Rattle.sysregs.specs.declared.regs.Op.TheVariants.{Rvaae1, Rvale1, Rvaale1, Ripas2e1, Ripas2le1}
 use Rattle.sysregs.specs.declared.regs.Field.{Field}
 use Rattle.sysregs.specs.Names.{reg_text}
-use Rattle.sysregs.specs.Refused.{refused_field}
+use Rattle.sysregs.specs.Refused.{msr_refused_field}
 use Rattle.permissions.specs.declared.bits.El.{El}
 use Rattle.permissions.specs.declared.bits.El.TheVariants.{El0, El1}
 use Rattle.permissions.specs.declared.bits.Kind.{Kind}
@@ -114,7 +114,7 @@ pan_at ws = if nat_lt (length ws) 6 then Ok false else name_at (named ((codes "p
 abbrev pub event_by : (header : Header) (words : List (List ℕ)) (core : ℕ) (verb : Verb) → Result Event LineRefusal
 event_by h ws c store = place_at h ws >>= (λ p. number_at ws 4 >>= (λ v. no_word_at ws 5 >>= (λ _. Ok (Store c p v))))
 event_by h ws c msr =
-    name_at (named reg_names) ws 3 >>= (λ reg. number_at ws 4 >>= (λ v. no_word_at ws 5 >>= (λ _. supported_by reg (refused_field reg v) (Msr c reg v))))
+    name_at (named reg_names) ws 3 >>= (λ reg. number_at ws 4 >>= (λ v. no_word_at ws 5 >>= (λ _. supported_by reg (msr_refused_field reg v) (Msr c reg v))))
 event_by h ws c settle = no_word_at ws 3 >>= (λ _. Ok (Settle c))
 event_by h ws c isb = no_word_at ws 3 >>= (λ _. Ok (Isb c))
 event_by h ws c tlbi =

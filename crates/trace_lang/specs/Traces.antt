@@ -5,7 +5,7 @@ use Rattle.std.specs.List.{list_any}
 use Rattle.sysregs.specs.declared.regs.Op.{Op}
 use Rattle.sysregs.specs.declared.regs.Op.TheVariants.{Vmalle1, Vae1, Vaae1, Vale1, Vaale1, Aside1, Ipas2e1, Ipas2le1, Vmalls12e1, Alle1, Rvae1}
 use Rattle.sysregs.specs.declared.regs.Op.TheVariants.{Rvaae1, Rvale1, Rvaale1, Ripas2e1, Ripas2le1}
-use Rattle.sysregs.specs.Refused.{refused_field}
+use Rattle.sysregs.specs.Refused.{msr_refused_field}
 use Rattle.trails.specs.declared.event.Event.{Event}
 use Rattle.trails.specs.declared.event.Event.TheVariants.{Store, Msr, Settle, Isb, Tlbi, Dsb, Deliver, Access, Prefetch}
 use Rattle.trails.specs.declared.event.Origin.{Origin}
@@ -118,7 +118,7 @@ RangesFitBehind earlier (r ∷ ranges) = RangeFits earlier r × RangesFitBehind 
 -- what an event of a core needs besides
 abbrev pub EventFitsBy : (header : Header) (event : Event) → Type 0
 EventFitsBy h (Store core pa value) = (is_aligned pa ≡ true) × (is_within h.ranges pa ≡ true)
-EventFitsBy h (Msr core reg value) = refused_field reg value ≡ None
+EventFitsBy h (Msr core reg value) = msr_refused_field reg value ≡ None
 EventFitsBy h (Settle core) = Unit {0}
 EventFitsBy h (Isb core) = Unit {0}
 EventFitsBy h (Tlbi core from op shared operand) = (may_issue from op ≡ true) × (has_operand op ≡ false → operand ≡ 0)

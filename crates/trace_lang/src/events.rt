@@ -8,7 +8,7 @@ use crate::names::{self, Verb};
 use crate::places::{LineError, in_range, no_word_at, number_at, refused, word_at, word_or};
 use crate::reading::{Head, is_aligned};
 use sysregs::Op;
-use sysregs::fields::check_reg;
+use sysregs::fields::check_msr;
 use trails::{Access, Event, Origin};
 
 /// The number of a core.
@@ -44,7 +44,7 @@ fn msr(head: &Head, core: u8, words: &[&[u8]]) -> Result<Event, LineError>
     let reg = word_or(3, names::register_named(word))?;
     let value = number_at(words, 4)?;
     no_word_at(words, 5)?;
-    match check_reg(reg, value) {
+    match check_msr(reg, value) {
         Ok(()) => Ok(Event::Msr { core, reg, value }),
         Err(at) => refused(LineRefusal::Unsupported { at }),
     }
