@@ -3,9 +3,10 @@ use Rattle.std.proofs.Common.{◌≤◌, ◌<◌, ◌+◌, ◌-◌, ◌^◌, ℕ
 use Rattle.bitwords.specs.Fields.{bits_of}
 use Rattle.std.specs.Prelude.{◌==◌}
 use Rattle.std.proofs.lemmas.Bool.{cond_both}
-use Rattle.tlbi_ops.specs.declared.operands.Names.{Names}
-use Rattle.tlbi_ops.specs.declared.operands.Names.TheVariants.{Everything, PageVa, PageIpa, RangeVa, RangeIpa}
-use Rattle.tlbi_ops.specs.Operands.{range_granule, names_of, inval_of, extent_by, range_with, start_va, start_ipa}
+use Rattle.sysregs.specs.declared.ops.Scope.{Scope}
+use Rattle.sysregs.specs.declared.ops.Scope.TheVariants.{All, Vmid, Stage1, Asid, PageVa, PageIpa, RangeVa, RangeIpa}
+use Rattle.sysregs.specs.Ops.{form_of}
+use Rattle.tlbi_ops.specs.Operands.{range_granule, inval_of, extent_by, range_with, start_va, start_ipa}
 use Rattle.tlbi_ops.specs.Laws.{end_of, StaysBelow, EndsBelow}
 
 cut_below : (end start count address : ℕ) → start ≤ address → address < start + min count (end - start) → address < end
@@ -16,8 +17,11 @@ range_below : (operand : ℕ) (start : ℕ → ℕ) (end : ℕ) (granule : Optio
 range_below w start end None a h below = omega arith
 range_below w start end (Some g) a h below = omega arith
 
-stays : (w : ℕ) (names : Names) (address : ℕ) → (extent_by w names).start ≤ address → address < (extent_by w names).start + (extent_by w names).count → address < end_of names
-stays w Everything a h below = omega arith
+stays : (w : ℕ) (scope : Scope) (address : ℕ) → (extent_by w scope).start ≤ address → address < (extent_by w scope).start + (extent_by w scope).count → address < end_of scope
+stays w All a h below = omega arith
+stays w Vmid a h below = omega arith
+stays w Stage1 a h below = omega arith
+stays w Asid a h below = omega arith
 stays w PageVa a h below = omega arith
 stays w PageIpa a h below = omega arith
 stays w RangeVa a h below = range_below w (λ g. start_va g w) (2 ^ 56) (range_granule w) a h below
@@ -25,7 +29,7 @@ stays w RangeIpa a h below = range_below w (λ g. start_ipa g w) (2 ^ 52) (range
 
 pub stays_below : StaysBelow
 unfolding inval_of
-stays_below op shared at_el1 w r issuer issued a h below = stays w (names_of op) a h below
+stays_below op shared at_el1 w r issuer issued a h below = stays w (form_of op).scope a h below
 
 -- what is so of no granule and of each granule is so of the granule that a range names
 each_granule : (operand : ℕ) (P : Option ℕ → Type 0) → P None → P (Some 12) → P (Some 14) → P (Some 16) → P (range_granule operand)
@@ -46,8 +50,11 @@ va_starts w = each_granule w (λ o. IfSome o (λ g. start_va g w ≤ 2 ^ 56)) tt
 ipa_starts : (w : ℕ) → IfSome (range_granule w) (λ g. start_ipa g w ≤ 2 ^ 56)
 ipa_starts w = each_granule w (λ o. IfSome o (λ g. start_ipa g w ≤ 2 ^ 56)) tt (omega arith) (omega arith) (omega arith)
 
-fits : (w : ℕ) (names : Names) → (extent_by w names).start + (extent_by w names).count ≤ 2 ^ 56
-fits w Everything = omega arith
+fits : (w : ℕ) (scope : Scope) → (extent_by w scope).start + (extent_by w scope).count ≤ 2 ^ 56
+fits w All = omega arith
+fits w Vmid = omega arith
+fits w Stage1 = omega arith
+fits w Asid = omega arith
 fits w PageVa = omega arith
 fits w PageIpa = omega arith
 fits w RangeVa = range_fits w (λ g. start_va g w) (2 ^ 56) (range_granule w) (omega arith) (va_starts w)
@@ -55,4 +62,4 @@ fits w RangeIpa = range_fits w (λ g. start_ipa g w) (2 ^ 52) (range_granule w) 
 
 pub ends_below : EndsBelow
 unfolding inval_of
-ends_below op shared at_el1 w r issuer issued = fits w (names_of op)
+ends_below op shared at_el1 w r issuer issued = fits w (form_of op).scope

@@ -1,8 +1,9 @@
 -- Which rows an invalidation covers (DDI 0487, AArch64.TLBI).
 use Rattle.std.specs.Prelude.{ℕ, ◌+◌, ◌^◌, Bool, true, false, not, ◌==◌, ◌&&◌, ◌||◌, nat_lt, Option, Some, None}
-use Rattle.sysregs.specs.declared.regs.Op.{Op}
-use Rattle.sysregs.specs.declared.regs.Op.TheVariants.{Vmalle1, Vae1, Vaae1, Vale1, Vaale1, Aside1, Ipas2e1, Ipas2le1, Vmalls12e1, Alle1, Rvae1, Rvaae1}
-use Rattle.sysregs.specs.declared.regs.Op.TheVariants.{Rvale1, Rvaale1, Ripas2e1, Ripas2le1}
+use Rattle.sysregs.specs.declared.ops.Scope.{Scope}
+use Rattle.sysregs.specs.declared.ops.Scope.TheVariants.{All, Vmid, Stage1, Asid, PageVa, PageIpa, RangeVa, RangeIpa}
+use Rattle.sysregs.specs.declared.ops.OpForm.{OpForm}
+use Rattle.sysregs.specs.Ops.{form_of}
 use Rattle.fault_codes.specs.declared.fault.Stage.{Stage}
 use Rattle.fault_codes.specs.declared.fault.Stage.TheVariants.{S1, S2}
 use Rattle.tlbi_ops.specs.declared.inval.Inval.{Inval}
@@ -30,48 +31,34 @@ holds_va i t = is_stage1 t.stage && shares_address i t
 abbrev pub holds_ipa : (inval : Inval) (tag : Tag) → Bool
 holds_ipa i t = not (is_stage1 t.stage) && shares_address i t
 
--- a global row, or one of the ASID that the operand names
-abbrev pub suits_asid : (inval : Inval) (tag : Tag) → Bool
-suits_asid i t = t.global || (i.asid == t.asid)
+-- the rows of a scope, of any VMID
+abbrev pub is_in : (scope : Scope) (inval : Inval) (tag : Tag) → Bool
+is_in All i t = true
+is_in Vmid i t = true
+is_in Stage1 i t = is_stage1 t.stage
+is_in Asid i t = is_stage1 t.stage && not t.global
+is_in PageVa i t = holds_va i t
+is_in PageIpa i t = holds_ipa i t
+is_in RangeVa i t = is_of_granule i.granule t && holds_va i t
+is_in RangeIpa i t = is_of_granule i.granule t && holds_ipa i t
 
--- the rows that an operation takes, of any VMID
-abbrev pub takes : (op : Op) (inval : Inval) (tag : Tag) → Bool
-takes Vmalle1 i t = is_stage1 t.stage
-takes Vae1 i t = holds_va i t && suits_asid i t
-takes Vaae1 i t = holds_va i t
-takes Vale1 i t = not t.table && holds_va i t && suits_asid i t
-takes Vaale1 i t = not t.table && holds_va i t
-takes Aside1 i t = is_stage1 t.stage && not t.global && (i.asid == t.asid)
-takes Ipas2e1 i t = holds_ipa i t
-takes Ipas2le1 i t = not t.table && holds_ipa i t
-takes Vmalls12e1 i t = true
-takes Alle1 i t = true
-takes Rvae1 i t = is_of_granule i.granule t && holds_va i t && suits_asid i t
-takes Rvaae1 i t = is_of_granule i.granule t && holds_va i t
-takes Rvale1 i t = is_of_granule i.granule t && not t.table && holds_va i t && suits_asid i t
-takes Rvaale1 i t = is_of_granule i.granule t && not t.table && holds_va i t
-takes Ripas2e1 i t = is_of_granule i.granule t && holds_ipa i t
-takes Ripas2le1 i t = is_of_granule i.granule t && not t.table && holds_ipa i t
+-- a global row, one of the ASID that the operand names, or any where it names none
+abbrev pub suits_asid : (form : OpForm) (inval : Inval) (tag : Tag) → Bool
+suits_asid f i t = not f.asid || t.global || (i.asid == t.asid)
 
--- ALLE1 takes the rows of every VMID
-abbrev pub is_of_all : (op : Op) → Bool
-is_of_all Vmalle1 = false
-is_of_all Vae1 = false
-is_of_all Vaae1 = false
-is_of_all Vale1 = false
-is_of_all Vaale1 = false
-is_of_all Aside1 = false
-is_of_all Ipas2e1 = false
-is_of_all Ipas2le1 = false
-is_of_all Vmalls12e1 = false
-is_of_all Alle1 = true
-is_of_all Rvae1 = false
-is_of_all Rvaae1 = false
-is_of_all Rvale1 = false
-is_of_all Rvaale1 = false
-is_of_all Ripas2e1 = false
-is_of_all Ripas2le1 = false
+-- no table, where the operation spares tables
+abbrev pub suits_level : (form : OpForm) (tag : Tag) → Bool
+suits_level f t = not (f.last_level && t.table)
 
--- the rows that an invalidation covers, which are of its VMID
+-- the rows that an operation of this form takes, of any VMID
+abbrev pub takes : (form : OpForm) (inval : Inval) (tag : Tag) → Bool
+takes f i t = is_in f.scope i t && suits_asid f i t && suits_level f t
+
+-- ALLE1 takes the rows of every VMID, each other operation those of one
+abbrev pub suits_vmid : (scope : Scope) (inval : Inval) (tag : Tag) → Bool
+suits_vmid All i t = true
+suits_vmid _ i t = i.vmid == t.vmid
+
+-- the rows that an invalidation covers
 unfoldable pub covers : (inval : Inval) (tag : Tag) → Bool
-covers i t = (is_of_all i.op || (i.vmid == t.vmid)) && takes i.op i t
+covers i t = let form = form_of i.op in suits_vmid form.scope i t && takes form i t

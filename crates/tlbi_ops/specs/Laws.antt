@@ -6,18 +6,17 @@ use Rattle.sysregs.specs.declared.regs.Op.{Op}
 use Rattle.sysregs.specs.declared.regs.Op.TheVariants.{Vmalle1, Vae1, Vaae1, Vale1, Aside1, Ipas2e1, Ipas2le1, Vmalls12e1, Alle1}
 use Rattle.tlbi_ops.specs.declared.inval.Inval.{Inval}
 use Rattle.tlbi_ops.specs.declared.inval.Tag.{Tag}
-use Rattle.tlbi_ops.specs.declared.operands.Names.{Names}
-use Rattle.tlbi_ops.specs.declared.operands.Names.TheVariants.{Everything, PageVa, PageIpa, RangeVa, RangeIpa}
-use Rattle.tlbi_ops.specs.Operands.{names_of, inval_of}
+use Rattle.sysregs.specs.declared.ops.Scope.{Scope}
+use Rattle.sysregs.specs.declared.ops.Scope.TheVariants.{PageIpa, RangeIpa}
+use Rattle.sysregs.specs.Ops.{form_of}
+use Rattle.tlbi_ops.specs.Operands.{inval_of}
 use Rattle.tlbi_ops.specs.Covers.{covers}
 
 -- where the addresses end that an operand can name
-abbrev pub end_of : (names : Names) → ℕ
-end_of Everything = 2 ^ 56
-end_of PageVa = 2 ^ 56
+abbrev pub end_of : (scope : Scope) → ℕ
 end_of PageIpa = 2 ^ 52
-end_of RangeVa = 2 ^ 56
 end_of RangeIpa = 2 ^ 52
+end_of _ = 2 ^ 56
 
 -- an invalidation holds no address beyond them. (More than six parameters: those of the call.)
 abbrev pub StaysBelow : Type 0
@@ -25,7 +24,7 @@ StaysBelow =
     (op : Op) (shared at_el1 : Bool) (operand : ℕ) (registers : Regs) (issuer issued address : ℕ)
     → (inval_of op shared at_el1 operand registers issuer issued).start ≤ address
     → address < (inval_of op shared at_el1 operand registers issuer issued).start + (inval_of op shared at_el1 operand registers issuer issued).count
-    → address < end_of (names_of op)
+    → address < end_of (form_of op).scope
 
 -- start and count don't overflow
 abbrev pub EndsBelow : Type 0

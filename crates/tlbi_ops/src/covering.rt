@@ -1,10 +1,10 @@
 //! Which cached rows an invalidation covers.
 ghost use Rattle.std.specs.Prelude.{◌≡◌, ◌+◌, ◌^◌, nat_lt};
-ghost use Rattle.tlbi_ops.specs.Covers.{shares_address, is_of_granule, holds_va, holds_ipa, suits_asid, takes, covers};
+ghost use Rattle.tlbi_ops.specs.Covers.{shares_address, is_of_granule, holds_va, holds_ipa, is_in, suits_asid, suits_level, suits_vmid, takes, covers};
 
 use crate::inval::{Inval, Tag};
 use fault_codes::Stage;
-use sysregs::Op;
+use sysregs::{OpForm, Scope};
 
 /// Whether the row's region reaches beyond where the invalidation starts.
 fn ends_behind(start: u64, tag: &Tag) -> bool
@@ -44,36 +44,47 @@ fn holds_ipa(inval: &Inval, tag: &Tag) -> bool
     tag.stage == Stage::S2 && shares_address(inval, tag)
 }
 
-/// Whether the row is global or of the ASID that the operand names.
-fn suits_asid(inval: &Inval, tag: &Tag) -> bool
-    ensures { result ≡ suits_asid inval.now tag.now }
+/// Whether the row is one of the scope, whatever its VMID.
+fn is_in(scope: Scope, inval: &Inval, tag: &Tag) -> bool
+    ensures { result ≡ is_in scope inval.now tag.now }
 {
-    tag.global || inval.asid == tag.asid
+    match scope {
+        Scope::All | Scope::Vmid => true,
+        Scope::Stage1 => tag.stage == Stage::S1,
+        Scope::Asid => tag.stage == Stage::S1 && !tag.global,
+        Scope::PageVa => holds_va(inval, tag),
+        Scope::PageIpa => holds_ipa(inval, tag),
+        Scope::RangeVa => in_granule(inval, tag) && holds_va(inval, tag),
+        Scope::RangeIpa => in_granule(inval, tag) && holds_ipa(inval, tag),
+    }
 }
 
-/// Whether the operation takes the row, whatever its VMID.
-fn takes(inval: &Inval, tag: &Tag) -> bool
-    ensures { result ≡ takes inval.now.op inval.now tag.now }
+/// Whether the row is global or of the ASID that the operand names, where it names one.
+fn suits_asid(form: OpForm, inval: &Inval, tag: &Tag) -> bool
+    ensures { result ≡ suits_asid form inval.now tag.now }
 {
-    match inval.op {
-        Op::Vmalle1 => tag.stage == Stage::S1,
-        Op::Vae1 => holds_va(inval, tag) && suits_asid(inval, tag),
-        Op::Vaae1 => holds_va(inval, tag),
-        Op::Vale1 => !tag.table && holds_va(inval, tag) && suits_asid(inval, tag),
-        Op::Vaale1 => !tag.table && holds_va(inval, tag),
-        Op::Aside1 => tag.stage == Stage::S1 && !tag.global && inval.asid == tag.asid,
-        Op::Ipas2e1 => holds_ipa(inval, tag),
-        Op::Ipas2le1 => !tag.table && holds_ipa(inval, tag),
-        Op::Vmalls12e1 | Op::Alle1 => true,
-        Op::Rvae1 => in_granule(inval, tag) && holds_va(inval, tag) && suits_asid(inval, tag),
-        Op::Rvaae1 => in_granule(inval, tag) && holds_va(inval, tag),
-        Op::Rvale1 => {
-            in_granule(inval, tag) && !tag.table && holds_va(inval, tag) && suits_asid(inval, tag)
-        }
-        Op::Rvaale1 => in_granule(inval, tag) && !tag.table && holds_va(inval, tag),
-        Op::Ripas2e1 => in_granule(inval, tag) && holds_ipa(inval, tag),
-        Op::Ripas2le1 => in_granule(inval, tag) && !tag.table && holds_ipa(inval, tag),
-    }
+    !form.asid || tag.global || inval.asid == tag.asid
+}
+
+/// Whether the row is no table, where the operation spares tables.
+fn suits_level(form: OpForm, tag: &Tag) -> bool
+    ensures { result ≡ suits_level form tag.now }
+{
+    !(form.last_level && tag.table)
+}
+
+/// Whether an operation of this form takes the row, whatever its VMID.
+fn takes(form: OpForm, inval: &Inval, tag: &Tag) -> bool
+    ensures { result ≡ takes form inval.now tag.now }
+{
+    is_in(form.scope, inval, tag) && suits_asid(form, inval, tag) && suits_level(form, tag)
+}
+
+/// Whether the operation is of every VMID, or the row of its own.
+fn suits_vmid(scope: Scope, inval: &Inval, tag: &Tag) -> bool
+    ensures { result ≡ suits_vmid scope inval.now tag.now }
+{
+    scope == Scope::All || inval.vmid == tag.vmid
 }
 
 /// Whether the invalidation covers the row.
@@ -81,5 +92,6 @@ fn takes(inval: &Inval, tag: &Tag) -> bool
 pub fn covers(inval: &Inval, tag: &Tag) -> bool
     ensures { result ≡ covers inval.now tag.now }
 {
-    (inval.op == Op::Alle1 || inval.vmid == tag.vmid) && takes(inval, tag)
+    let form = inval.op.form();
+    suits_vmid(form.scope, inval, tag) && takes(form, inval, tag)
 }

@@ -1,25 +1,10 @@
 //! What an operand names: an ASID, addresses, and the granule of a range.
 ghost use Rattle.std.specs.Prelude.{◌≡◌, ◌≤◌, ◌<◌, ◌*◌, ◌^◌, min, ◌-◌, IfSome};
-ghost use Rattle.tlbi_ops.specs.declared.operands.Names.TheVariants.{RangeVa, RangeIpa};
-ghost use Rattle.tlbi_ops.specs.Operands.{names_of, asid_named, range_granule, range_bytes, cut_at, start_va, start_ipa, extent_by, granule_by};
+ghost use Rattle.sysregs.specs.declared.ops.Scope.TheVariants.{RangeVa, RangeIpa};
+ghost use Rattle.tlbi_ops.specs.Operands.{asid_named, range_granule, range_bytes, cut_at, start_va, start_ipa, extent_by, granule_by};
 
 use bitwords::{field, flag, power};
-use sysregs::{Op, Regs};
-
-/// What an operation names by its operand.
-#[derive(Clone, Copy, Debug, PartialEq, Eq)]
-pub enum Names {
-    /// No address.
-    Everything,
-    /// One page by `VA[55:12]` in bits 43:0.
-    PageVa,
-    /// One page by `IPA[51:12]` in bits 39:0.
-    PageIpa,
-    /// A range of virtual addresses.
-    RangeVa,
-    /// A range of IPAs.
-    RangeIpa,
-}
+use sysregs::{OpForm, Regs, Scope};
 
 /// So many bytes of address space from a start.
 #[derive(Clone, Copy, Debug, PartialEq, Eq)]
@@ -37,32 +22,17 @@ const END_IPA: u64 = 1 << 52;
 /// The bytes of a page that is named by itself.
 const PAGE: u64 = 4096;
 
-/// What an operation names.
-pub fn names_of(op: Op) -> Names
-    ensures { result ≡ names_of op }
-{
-    match op {
-        Op::Vmalle1 | Op::Aside1 | Op::Vmalls12e1 | Op::Alle1 => Names::Everything,
-        Op::Vae1 | Op::Vaae1 | Op::Vale1 | Op::Vaale1 => Names::PageVa,
-        Op::Ipas2e1 | Op::Ipas2le1 => Names::PageIpa,
-        Op::Rvae1 | Op::Rvaae1 | Op::Rvale1 | Op::Rvaale1 => Names::RangeVa,
-        Op::Ripas2e1 | Op::Ripas2le1 => Names::RangeIpa,
-    }
-}
-
 /// The ASID that an operand names, of eight bits where the issuer's ASIDs have eight; 0 where the operation names none.
-pub fn asid(regs: &Regs, op: Op, operand: u64) -> u16
-    ensures { result ≡ asid_named regs.now op operand }
+pub fn asid(regs: &Regs, form: OpForm, operand: u64) -> u16
+    ensures { result ≡ asid_named regs.now form operand }
 {
-    match op {
-        Op::Vae1 | Op::Vale1 | Op::Rvae1 | Op::Rvale1 | Op::Aside1 => {
-            if flag::<36>(regs.tcr_el1) {
-                field::<63, 48>(operand) as u16
-            } else {
-                field::<55, 48>(operand) as u16
-            }
-        }
-        _ => 0,
+    if !form.asid {
+        return 0;
+    }
+    if flag::<36>(regs.tcr_el1) {
+        field::<63, 48>(operand) as u16
+    } else {
+        field::<55, 48>(operand) as u16
     }
 }
 
@@ -80,12 +50,12 @@ fn granule_in(operand: u64) -> Option<u32>
 }
 
 /// The granule of a range, and None of another operand.
-pub fn granule(names: Names, operand: u64) -> Option<u32>
-    ensures { result ≡ granule_by operand names }
+pub fn granule(scope: Scope, operand: u64) -> Option<u32>
+    ensures { result ≡ granule_by operand scope }
 {
-    match names {
-        Names::RangeVa | Names::RangeIpa => granule_in(operand),
-        Names::Everything | Names::PageVa | Names::PageIpa => None,
+    match scope {
+        Scope::RangeVa | Scope::RangeIpa => granule_in(operand),
+        _ => None,
     }
 }
 
@@ -158,24 +128,24 @@ fn range_ipa(operand: u64) -> Extent
     cut(END_IPA, start, range_bytes(granule, operand))
 }
 
-/// The addresses of an operand.
-pub fn addresses(names: Names, operand: u64) -> Extent
-    ensures { result ≡ extent_by operand names }
+/// The addresses of an operand; all, where the operation names none.
+pub fn addresses(scope: Scope, operand: u64) -> Extent
+    ensures { result ≡ extent_by operand scope }
 {
-    match names {
-        Names::Everything => Extent {
-            start: 0,
-            count: END_VA,
-        },
-        Names::PageVa => Extent {
+    match scope {
+        Scope::PageVa => Extent {
             start: PAGE * field::<43, 0>(operand),
             count: PAGE,
         },
-        Names::PageIpa => Extent {
+        Scope::PageIpa => Extent {
             start: PAGE * field::<39, 0>(operand),
             count: PAGE,
         },
-        Names::RangeVa => range_va(operand),
-        Names::RangeIpa => range_ipa(operand),
+        Scope::RangeVa => range_va(operand),
+        Scope::RangeIpa => range_ipa(operand),
+        _ => Extent {
+            start: 0,
+            count: END_VA,
+        },
     }
 }
