@@ -3,11 +3,11 @@ use Rattle.std.proofs.Common.{◌≡◌, ◌≤◌, ◌+◌, ◌*◌, ◌/◌, �
 use Rattle.std.specs.Prelude.{◌&&◌, ◌||◌, nat_lt, nat_le, is_some}
 use Rattle.std.specs.List.{list_any}
 use Rattle.std.proofs.Math.Path.{fun_ext}
-use Rattle.std.proofs.lemmas.List.Sums.{fold_push}
 use Rattle.phys_mem.specs.Memory.{zeros as words_at_first}
 use Rattle.phys_mem.specs.Ranges.{is_range, share_byte, first_place, overlap_behind, bytes_of, refusal_of}
 use Rattle.phys_mem.specs.Words.{Held, memory_of, seen_at, index_from, holds_word}
-use Rattle.trace_lang.specs.Traces.{most_memory, shares_byte, bytes_in, is_within, RangeFits, RangesFitBehind}
+use Rattle.phys_mem.proofs.WholeRanges.{bytes_of-push}
+use Rattle.trace_lang.specs.Traces.{most_memory, is_within, RangesFitBehind}
 use Rattle.machine_spec.specs.Moments.{zeros}
 
 -- MEMORY
@@ -37,11 +37,7 @@ has_word held p h = found held.words _ 0 held.ranges p h
 bad_behind : (k : ℕ) (earlier ranges : List (ℕ × ℕ)) → RangesFitBehind earlier ranges → first_place (λ r. not (is_range r)) k ranges ≡ None
 bad_behind k earlier [] h = refl
 bad_behind k earlier (r ∷ ranges) h =
-    let ok : is_range r ≡ true = is_one r earlier h.0 in
-    rw ok (bad_behind (k + 1) (earlier ++ r ∷ []) ranges h.1)
-  where
-    is_one : (r : ℕ × ℕ) (earlier : List (ℕ × ℕ)) → RangeFits earlier r → is_range r ≡ true
-    is_one r earlier f = grind (arith, f.base, f.size, f.some, f.end)
+    let ok = h.0.range in rw ok (bad_behind (k + 1) (earlier ++ r ∷ []) ranges h.1)
 
 swapped : (x y : Bool) → (x && y) ≡ (y && x)
 swapped true true = refl
@@ -53,10 +49,10 @@ neither : (x y : Bool) → (x || y) ≡ false → (x ≡ false) × (y ≡ false)
 neither true y h = absurd cc
 neither false y h = (refl, h)
 
-none_shares : (k : ℕ) (r : ℕ × ℕ) (earlier : List (ℕ × ℕ)) → list_any (shares_byte r) earlier ≡ false → first_place (λ other. share_byte other r) k earlier ≡ None
+none_shares : (k : ℕ) (r : ℕ × ℕ) (earlier : List (ℕ × ℕ)) → list_any (share_byte r) earlier ≡ false → first_place (λ other. share_byte other r) k earlier ≡ None
 none_shares k r [] h = refl
 none_shares k r (s ∷ earlier) h =
-    let n = neither (shares_byte r s) (list_any (shares_byte r) earlier) h in
+    let n = neither (share_byte r s) (list_any (share_byte r) earlier) h in
     let e : share_byte s r ≡ false = swapped (nat_lt s.0 (r.0 + r.1)) (nat_lt r.0 (s.0 + s.1)) ∙ n.0 in
     rw e (none_shares (k + 1) r earlier n.1)
 
@@ -64,11 +60,11 @@ no_overlap : (earlier ranges : List (ℕ × ℕ)) → RangesFitBehind earlier ra
 no_overlap earlier [] h = refl
 no_overlap earlier (r ∷ ranges) h = rw (none_shares 0 r earlier h.0.apart) (no_overlap (earlier ++ r ∷ []) ranges h.1)
 
-bytes_fit : (earlier ranges : List (ℕ × ℕ)) → bytes_in earlier ≤ most_memory → RangesFitBehind earlier ranges → bytes_in earlier + bytes_of ranges ≤ most_memory
+bytes_fit : (earlier ranges : List (ℕ × ℕ)) → bytes_of earlier ≤ most_memory → RangesFitBehind earlier ranges → bytes_of earlier + bytes_of ranges ≤ most_memory
 bytes_fit earlier [] few h = omega (arith, few)
 bytes_fit earlier (r ∷ ranges) few h =
     let sum = h.0.sum in
-    let e : bytes_in (earlier ++ r ∷ []) ≡ bytes_in earlier + r.1 = fold_push (λ n (s : ℕ × ℕ). n + s.1) 0 earlier r in
+    let e : bytes_of (earlier ++ r ∷ []) ≡ bytes_of earlier + r.1 = bytes_of-push earlier r in
     let rest = bytes_fit (earlier ++ r ∷ []) ranges (omega (arith, sum, e)) h.1 in
     omega (arith, rest, e)
 

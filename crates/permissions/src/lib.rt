@@ -3,6 +3,7 @@
 
 mod bits;
 pub mod laws;
+mod names;
 mod rights;
 mod set;
 #[cfg(test)]

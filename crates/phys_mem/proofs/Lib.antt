@@ -1,3 +1,3 @@
-pub mod Ranges
+pub mod WholeRanges
 pub mod Places
 mod Worked

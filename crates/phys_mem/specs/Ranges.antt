@@ -1,13 +1,14 @@
 -- Which lists of ranges are physical memory, and why others aren't (this project's own rules; that a physical address has
 -- at most 52 bits: DDI 0487, FEAT_LPA).
-use Rattle.std.specs.Prelude.{ℕ, ◌+◌, ◌*◌, ◌%◌, ◌^◌, Bool, not, ◌==◌, ◌&&◌, ◌||◌, nat_lt, nat_le, if◌then◌else◌, List, []}
+use Rattle.std.specs.Prelude.{ℕ, ◌+◌, ◌*◌, ◌^◌, Bool, not, ◌&&◌, ◌||◌, nat_lt, nat_le, if◌then◌else◌, List, []}
 use Rattle.std.specs.Prelude.{◌∷◌, ◌++◌, length, Option, Some, None}
+use Rattle.phys_mem.specs.Memory.{is_aligned}
 use Rattle.phys_mem.specs.declared.refusal.PhysError.{PhysError}
 use Rattle.phys_mem.specs.declared.refusal.PhysError.TheVariants.{BadRange, Overlap, TooLarge, NoMemory}
 
 -- a range has whole words, at least one, and ends at the latest where physical addresses end
 abbrev pub is_range : (range : ℕ × ℕ) → Bool
-is_range r = r.0 % 8 == 0 && r.1 % 8 == 0 && nat_lt 0 r.1 && nat_le (r.0 + r.1) (2 ^ 52)
+is_range r = is_aligned r.0 && is_aligned r.1 && nat_lt 0 r.1 && nat_le (r.0 + r.1) (2 ^ 52)
 
 -- two ranges have a byte in common
 abbrev pub share_byte : (one other : ℕ × ℕ) → Bool

@@ -3,6 +3,7 @@
 
 mod checks;
 mod phys;
+pub mod ranges;
 mod refusal;
 
 pub use phys::Phys;

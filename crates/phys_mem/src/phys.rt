@@ -3,7 +3,8 @@ ghost use Rattle.phys_mem.specs.Memory.{zeros, stored_at, loaded, is_aligned};
 ghost use Rattle.phys_mem.specs.Ranges.{bytes_of, refusal_of, refusal_in};
 ghost use Rattle.phys_mem.specs.Words.{IsWhole, AreKept, memory_of, index_from, index_of};
 
-use crate::checks::{WORD, bytes_in, check};
+use crate::checks::check;
+use crate::ranges::{WORD, bytes_in, is_aligned};
 use crate::refusal::PhysError;
 use std::alloc::Global;
 use std::marker::Model;
@@ -46,7 +47,7 @@ fn index_of(ranges: &[(u64, u64)], pa: u64) -> Option<usize>
     ensures is { result ≡ index_of ranges.now pa }
     ensures within { IfSome result (λ k. 8 * k + 8 ≤ bytes_of ranges.now) }
 {
-    if pa % WORD == 0 {
+    if is_aligned(pa) {
         index_in(ranges, pa)
     } else {
         None

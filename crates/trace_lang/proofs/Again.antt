@@ -14,7 +14,9 @@ use Rattle.trace_lang.specs.declared.refusals.LineRefusal.TheVariants.{TooMany}
 use Rattle.trace_lang.specs.declared.refusals.TraceRefusal.TheVariants as refusal
 use Rattle.trace_lang.specs.declared.header.Size.TheVariants.{NoRows}
 use Rattle.trace_lang.specs.declared.header.Policy.TheVariants.{Fifo}
-use Rattle.trace_lang.specs.Traces.{Header, Parts, parts_of, IsTrace, RangeFits, RangesFitBehind, is_aligned, shares_byte, bytes_in, most_cores, most_ranges, most_events, most_memory}
+use Rattle.phys_mem.specs.Memory.{is_aligned}
+use Rattle.phys_mem.specs.Ranges.{is_range, share_byte, bytes_of}
+use Rattle.trace_lang.specs.Traces.{Header, Parts, parts_of, IsTrace, RangeFits, RangesFitBehind, most_cores, most_ranges, most_events, most_memory}
 use Rattle.trace_lang.specs.Words.{◌>>=◌, is_end, in_range, number_or, no_word_at}
 use Rattle.trace_lang.specs.Events.{event_of}
 use Rattle.trace_lang.specs.Lines.{State, no_lines, with_event, is_base, is_size, words_met, range_met, body_met, lines_met, then_ended, most_text, trace_of}
@@ -71,33 +73,36 @@ state_in p h es = record { phase = p; trace = record { header = h; events = es }
 abbrev in_ranges : (cores : ℕ) (ranges : List (ℕ × ℕ)) → State
 in_ranges c rs = state_in Ranges (header c rs) []
 
+-- what a range's test says
+range_parts : (r : ℕ × ℕ) → is_range r ≡ true → (is_base r.0 ≡ true) × ((is_aligned r.1 && nat_lt 0 r.1 && nat_le (r.0 + r.1) (2 ^ 52)) ≡ true) × (r.0 + r.1 ≤ 2 ^ 52)
+range_parts r h = (grind (arith, h), grind (arith, h), grind (arith, h))
+
 fits_base : (done : List (ℕ × ℕ)) (r : ℕ × ℕ) → RangeFits done r → is_base r.0 ≡ true
-fits_base done r f = and_from (is_aligned r.0) (nat_lt r.0 (2 ^ 52)) f.base (lt-ltb r.0 (2 ^ 52) f.below)
+fits_base done r f = (range_parts r f.range).0
 
 fits_size : (done : List (ℕ × ℕ)) (r : ℕ × ℕ) → RangeFits done r → is_size done r.0 r.1 ≡ true
 fits_size done r f =
-    let some = and_from (is_aligned r.1) (nat_lt 0 r.1) f.size (lt-ltb 0 r.1 f.some) in
-    let end = and_from (is_aligned r.1 && nat_lt 0 r.1) (nat_le (r.0 + r.1) (2 ^ 52)) some (le-leb (r.0 + r.1) (2 ^ 52) f.end) in
-    and_from (is_aligned r.1 && nat_lt 0 r.1 && nat_le (r.0 + r.1) (2 ^ 52)) (nat_le (bytes_in done + r.1) most_memory) end (le-leb (bytes_in done + r.1) most_memory f.sum)
+    and_from (is_aligned r.1 && nat_lt 0 r.1 && nat_le (r.0 + r.1) (2 ^ 52)) (nat_le (bytes_of done + r.1) most_memory)
+    (range_parts r f.range).1 (le-leb (bytes_of done + r.1) most_memory f.sum)
 
 base_word : (done : List (ℕ × ℕ)) (r : ℕ × ℕ) → RangeFits done r → r.0 < 2 ^ 64
-base_word done r f = let l = f.below in omega (arith, l)
+base_word done r f = let l = (range_parts r f.range).2 in omega (arith, l)
 
 size_word : (done : List (ℕ × ℕ)) (r : ℕ × ℕ) → RangeFits done r → r.1 < 2 ^ 64
-size_word done r f = let l = f.end in omega (arith, l)
+size_word done r f = let l = (range_parts r f.range).2 in omega (arith, l)
 
 range_back : (c : ℕ) (done : List (ℕ × ℕ)) (r : ℕ × ℕ) → RangeFits done r → range_met (in_ranges c done) (range_words r) ≡ Ok (in_ranges c (done ++ r ∷ []))
 range_back c done r f =
     let ws = range_words r in
     let whole : (b n : ℕ) → Result State LineRefusal = λ b n. Ok (in_ranges c (done ++ (b, n) ∷ [])) in
-    let apart : (b n : ℕ) → Result State LineRefusal = λ b n. no_word_at ws 4 >>= (λ _. in_range 2 (not (list_any (shares_byte (b, n)) done)) b >>= (λ _. whole b n)) in
+    let apart : (b n : ℕ) → Result State LineRefusal = λ b n. no_word_at ws 4 >>= (λ _. in_range 2 (not (list_any (share_byte (b, n)) done)) b >>= (λ _. whole b n)) in
     let second : (b : ℕ) → Result State LineRefusal = λ b. number_or 3 (number_of (hex_text r.1)) >>= (λ n. in_range 3 (is_size done b n) n >>= apart b) in
     go (number_or 2 (number_of (hex_text r.0))) r.0 (λ b. in_range 2 (is_base b) b >>= second) (hex_at 2 r.0 (base_word done r f))
     ∙ go (in_range 2 (is_base r.0) r.0) r.0 second (within 2 (is_base r.0) r.0 (fits_base done r f))
     ∙ go (number_or 3 (number_of (hex_text r.1))) r.1 (λ n. in_range 3 (is_size done r.0 n) n >>= apart r.0) (hex_at 3 r.1 (size_word done r f))
     ∙ go (in_range 3 (is_size done r.0 r.1) r.1) r.1 (apart r.0) (within 3 (is_size done r.0 r.1) r.1 (fits_size done r f))
-    ∙ go (in_range 2 (not (list_any (shares_byte r) done)) r.0) r.0 (λ _. whole r.0 r.1)
-    (within 2 (not (list_any (shares_byte r) done)) r.0 (not_from_false (list_any (shares_byte r) done) f.apart))
+    ∙ go (in_range 2 (not (list_any (share_byte r) done)) r.0) r.0 (λ _. whole r.0 r.1)
+    (within 2 (not (list_any (share_byte r) done)) r.0 (not_from_false (list_any (share_byte r) done) f.apart))
 
 range_line : (c : ℕ) (done : List (ℕ × ℕ)) (r : ℕ × ℕ) → length done < most_ranges → RangeFits done r → IsLine range_words (in_ranges c) done r
 range_line c done r l f = record {

@@ -9,9 +9,13 @@ use Rattle.trace_lang.specs.declared.refusals.Phase.TheVariants.{Cores, Ranges, 
 use Rattle.trace_lang.specs.declared.refusals.LineRefusal.{LineRefusal}
 use Rattle.trace_lang.specs.declared.refusals.LineRefusal.TheVariants.{NotText, LongLine, TooMany, NotAtEl1}
 use Rattle.trace_lang.specs.declared.refusals.TraceRefusal.{TraceRefusal}
-use Rattle.trace_lang.specs.Traces.{Header, shares_byte, most_ranges, most_events, may_issue}
+use Rattle.sysregs.specs.Ops.{form_of, has_operand}
+use Rattle.permissions.specs.AccessNames.{el_text, kind_text, el_of, kind_of}
+use Rattle.phys_mem.specs.Memory.{is_aligned}
+use Rattle.phys_mem.specs.Ranges.{is_range, share_byte, bytes_of}
+use Rattle.trace_lang.specs.Traces.{Header, most_ranges, most_events, may_issue}
 use Rattle.trace_lang.specs.Words.{word_or, word_at, number_at, name_at, no_word_at, named, words_of, is_text, in_range}
-use Rattle.trace_lang.specs.Events.{Verb, store, msr, settle, isb, tlbi, dsb, deliver, access, event_of, event_by, core_at, place_at, operand_at, pan_at, verbs, reg_names, op_names, origins, barriers, els, kinds}
+use Rattle.trace_lang.specs.Events.{Verb, store, msr, settle, isb, tlbi, dsb, deliver, access, event_of, event_by, core_at, place_at, operand_at, pan_at, verbs, reg_names, op_names, origins, barriers}
 use Rattle.std.proofs.lemmas.List.Elements.{All-nil, All-push}
 use Rattle.sysregs.specs.declared.regs.Op.{Op}
 use Rattle.sysregs.specs.Refused.{msr_refused_field}
@@ -53,7 +57,7 @@ event_by_known h ws c tlbi =
 event_by_known h ws c dsb = then_any IsKnown (name_at (named barriers) ws 3) _ (λ k. then_any IsKnown (no_word_at ws 4) _ (λ _. refl))
 event_by_known h ws c deliver = then_any IsKnown (no_word_at ws 3) _ (λ _. refl)
 event_by_known h ws c access =
-    then_any IsKnown (name_at (named els) ws 3) _ (λ el. then_any IsKnown (name_at (named kinds) ws 4) _ (λ kind.
+    then_any IsKnown (name_at el_of ws 3) _ (λ el. then_any IsKnown (name_at kind_of ws 4) _ (λ kind.
     then_any IsKnown (number_at ws 5) _ (λ va. then_any IsKnown (pan_at ws) _ (λ pan. refl))))
 
 event_known : (h : Header) (ws : List (List ℕ)) → IfOk (event_of h ws) IsKnown
@@ -80,7 +84,7 @@ cores_built s ws h =
 range_built : (s : State) (ws : List (List ℕ)) → Builds s → IfOk (range_met s ws) Builds
 range_built s ws h =
     then_any Builds (number_at ws 2) _ (λ b. then_any Builds (in_range 2 _ b) _ (λ c. then_any Builds (number_at ws 3) _ (λ n. then_any Builds (in_range 3 _ n) _ (λ m.
-    then_any Builds (no_word_at ws 4) _ (λ x. then_any Builds (in_range 2 (not (list_any (shares_byte (c, m)) s.trace.header.ranges)) c)
+    then_any Builds (no_word_at ws 4) _ (λ x. then_any Builds (in_range 2 (not (list_any (share_byte (c, m)) s.trace.header.ranges)) c)
     (λ y. Ok (with_header s Ranges (record s.trace.header { ranges = s.trace.header.ranges ++ (c, m) ∷ [] })))
     (λ y. (record { size = h.0.size; policy = h.0.policy }, h.1)))))))
 

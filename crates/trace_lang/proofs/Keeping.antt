@@ -15,9 +15,13 @@ use Rattle.trace_lang.specs.declared.refusals.Phase.TheVariants.{Cores, Ranges, 
 use Rattle.trace_lang.specs.declared.refusals.LineRefusal.{LineRefusal}
 use Rattle.trace_lang.specs.declared.refusals.LineRefusal.TheVariants.{NotText, LongLine, OutOfRange, NotAtEl1, TooMany}
 use Rattle.trace_lang.specs.declared.refusals.TraceRefusal.{TraceRefusal}
-use Rattle.trace_lang.specs.Traces.{Header, Parts, IsTrace, RangeFits, RangesFitBehind, EventFits, is_aligned, is_within, has_operand, may_issue, bytes_in, shares_byte, most_cores, most_ranges, most_events, most_memory}
+use Rattle.sysregs.specs.Ops.{form_of, has_operand}
+use Rattle.permissions.specs.AccessNames.{el_text, kind_text, el_of, kind_of}
+use Rattle.phys_mem.specs.Memory.{is_aligned}
+use Rattle.phys_mem.specs.Ranges.{is_range, share_byte, bytes_of}
+use Rattle.trace_lang.specs.Traces.{Header, Parts, IsTrace, RangeFits, RangesFitBehind, EventFits, is_within, may_issue, most_cores, most_ranges, most_events, most_memory}
 use Rattle.trace_lang.specs.Words.{◌>>=◌, in_range, number_at, name_at, no_word_at, named, words_of, is_text}
-use Rattle.trace_lang.specs.Events.{Verb, store, msr, settle, isb, tlbi, dsb, deliver, access, event_of, event_by, core_at, place_at, operand_at, pan_at, supported_by, verbs, reg_names, op_names, origins, barriers, els, kinds}
+use Rattle.trace_lang.specs.Events.{Verb, store, msr, settle, isb, tlbi, dsb, deliver, access, event_of, event_by, core_at, place_at, operand_at, pan_at, supported_by, verbs, reg_names, op_names, origins, barriers}
 use Rattle.trace_lang.specs.Lines.{State, no_lines, with_header, with_event, cores_met, is_base, is_size, range_met, caches_met, policy_met, ranges_met, body_met, met, words_met, line_met, without_return, lines_met, refused_in, most_line, sizes, policies}
 use Rattle.trace_lang.specs.Limits.{KeepsLimits, KeepsLimitsIn}
 
@@ -56,12 +60,12 @@ place_fits : (h : Header) (ws : List (List ℕ)) → IfOk (place_at h ws) (Place
 place_fits h ws = then_any (PlaceFits h) (number_at ws 3) _ (λ p. passes (PlaceFits h) 3 (is_aligned p && is_within h.ranges p) p (and_parts (is_aligned p) (is_within h.ranges p)))
 
 abbrev OperandFits : (op : Op) (operand : ℕ) → Type 0
-OperandFits op n = has_operand op ≡ false → n ≡ 0
+OperandFits op n = has_operand (form_of op).scope ≡ false → n ≡ 0
 
 operand_fits : (op : Op) (ws : List (List ℕ)) → IfOk (operand_at op ws) (OperandFits op)
 operand_fits op ws =
-    either (OperandFits op) (has_operand op) _ _
-    (λ t. then_any (OperandFits op) (number_at ws 5) _ (λ n. then_any (OperandFits op) (no_word_at ws 6) _ (λ _ f. absurd (both_ways (has_operand op) f t))))
+    either (OperandFits op) (has_operand (form_of op).scope) _ _
+    (λ t. then_any (OperandFits op) (number_at ws 5) _ (λ n. then_any (OperandFits op) (no_word_at ws 6) _ (λ _ f. absurd (both_ways (has_operand (form_of op).scope) f t))))
     (λ f. then_any (OperandFits op) (no_word_at ws 5) _ (λ _ _. refl))
 
 pub supported : (P : Event → Type 0) (reg : Reg) (field : Option Field) (e : Event) → (field ≡ None → P e) → IfOk (supported_by reg field e) P
@@ -84,7 +88,7 @@ event_by_fits h ws c tlbi l =
 event_by_fits h ws c dsb l = then_any (EventFits h) (name_at (named barriers) ws 3) _ (λ k. then_any (EventFits h) (no_word_at ws 4) _ (λ _. (l, tt)))
 event_by_fits h ws c deliver l = then_any (EventFits h) (no_word_at ws 3) _ (λ _. (l, tt))
 event_by_fits h ws c access l =
-    then_any (EventFits h) (name_at (named els) ws 3) _ (λ el. then_any (EventFits h) (name_at (named kinds) ws 4) _ (λ kind.
+    then_any (EventFits h) (name_at el_of ws 3) _ (λ el. then_any (EventFits h) (name_at kind_of ws 4) _ (λ kind.
     then_any (EventFits h) (number_at ws 5) _ (λ va. then_any (EventFits h) (pan_at ws) _ (λ pan. (l, tt)))))
 
 event_fits : (h : Header) (ws : List (List ℕ)) → IfOk (event_of h ws) (EventFits h)
@@ -136,20 +140,14 @@ one_more : (earlier ranges : List (ℕ × ℕ)) (r : ℕ × ℕ) → RangesFitBe
 one_more earlier [] r h k = (subst (λ rs. RangeFits rs r) (append-nil earlier) k, tt)
 one_more earlier (x ∷ ranges) r h k = (h.0, one_more (earlier ++ x ∷ []) ranges r h.1 (subst (λ rs. RangeFits rs r) (sym (append_assoc earlier (x ∷ []) ranges)) k))
 
-range_fits : (earlier : List (ℕ × ℕ)) (b n : ℕ) → is_base b ≡ true → is_size earlier b n ≡ true → not (list_any (shares_byte (b, n)) earlier) ≡ true → RangeFits earlier (b, n)
+range_fits : (earlier : List (ℕ × ℕ)) (b n : ℕ) → is_base b ≡ true → is_size earlier b n ≡ true → not (list_any (share_byte (b, n)) earlier) ≡ true → RangeFits earlier (b, n)
 range_fits earlier b n base size apart =
     let (aligned, below) = and_parts (is_aligned b) (nat_lt b (2 ^ 52)) base in
-    let (rest, sum) = and_parts (is_aligned n && nat_lt 0 n && nat_le (b + n) (2 ^ 52)) (nat_le (bytes_in earlier + n) most_memory) size in
-    let (first, end) = and_parts (is_aligned n && nat_lt 0 n) (nat_le (b + n) (2 ^ 52)) rest in
-    let (whole, some) = and_parts (is_aligned n) (nat_lt 0 n) first in
+    let (rest, sum) = and_parts (is_aligned n && nat_lt 0 n && nat_le (b + n) (2 ^ 52)) (nat_le (bytes_of earlier + n) most_memory) size in
     record {
-      base = aligned;
-      below = ltb-true b (2 ^ 52) below;
-      size = whole;
-      some = ltb-true 0 n some;
-      end = leb-true (b + n) (2 ^ 52) end;
-      sum = leb-true (bytes_in earlier + n) most_memory sum;
-      apart = not-true (list_any (shares_byte (b, n)) earlier) apart;
+      range = grind (arith, aligned, rest);
+      sum = leb-true (bytes_of earlier + n) most_memory sum;
+      apart = not-true (list_any (share_byte (b, n)) earlier) apart;
     }
 
 longer : (h : Header) (r : ℕ × ℕ) → IsHeader h → length h.ranges < most_ranges → RangeFits h.ranges r → IsHeader (record h { ranges = h.ranges ++ r ∷ [] })
@@ -165,7 +163,7 @@ range_keeps s ws t e l =
     let h = s.trace.header in
     then_any KeepsLimits (number_at ws 2) _ (λ b. then_passes KeepsLimits 2 (is_base b) b _ (λ base.
     then_any KeepsLimits (number_at ws 3) _ (λ n. then_passes KeepsLimits 3 (is_size h.ranges b n) n _ (λ size.
-    then_any KeepsLimits (no_word_at ws 4) _ (λ _. then_passes KeepsLimits 2 (not (list_any (shares_byte (b, n)) h.ranges)) b _ (λ apart.
+    then_any KeepsLimits (no_word_at ws 4) _ (λ _. then_passes KeepsLimits 2 (not (list_any (share_byte (b, n)) h.ranges)) b _ (λ apart.
     renewed s (record h { ranges = h.ranges ++ (b, n) ∷ [] }) e (longer h (b, n) (header_in s.trace t) l (range_fits h.ranges b n base size apart))))))))
 
 caches_keeps : (s : State) (ws : List (List ℕ)) → IsTrace s.trace → s.trace.events ≡ [] → IfOk (caches_met s ws) KeepsLimits

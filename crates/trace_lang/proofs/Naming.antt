@@ -8,7 +8,7 @@ use Rattle.std.proofs.lemmas.Bool.{cond-false}
 use Rattle.std.proofs.lemmas.Slice.Eq.{bytes_eq-Decides}
 use Rattle.sysregs.specs.declared.regs.Op.{Op}
 use Rattle.trace_lang.specs.Words.{named}
-use Rattle.trace_lang.specs.Events.{op_text}
+use Rattle.sysregs.specs.Ops.{op_text}
 
 abbrev pub locals : (ops : List Op) → List (List ℕ × Op)
 locals ops = map (λ op. (op_text op, op)) ops

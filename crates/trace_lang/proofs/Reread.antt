@@ -23,11 +23,15 @@ use Rattle.texts.specs.Numbers.{number_of}
 use Rattle.texts.specs.Texts.{hex_text}
 use Rattle.trace_lang.specs.declared.refusals.LineRefusal.{LineRefusal}
 use Rattle.trace_lang.specs.declared.refusals.LineRefusal.TheVariants.{OutOfRange, NotAtEl1}
-use Rattle.trace_lang.specs.Traces.{Header, EventFits, core_of, is_aligned, is_within, has_operand, may_issue}
+use Rattle.sysregs.specs.Ops.{form_of, has_operand}
+use Rattle.permissions.specs.AccessNames.{el_text, kind_text, el_of, kind_of}
+use Rattle.phys_mem.specs.Memory.{is_aligned}
+use Rattle.phys_mem.specs.Ranges.{is_range, share_byte, bytes_of}
+use Rattle.trace_lang.specs.Traces.{Header, EventFits, core_of, is_within, may_issue}
 use Rattle.trace_lang.specs.Words.{◌>>=◌, word_or, number_or, in_range, number_at, name_at, no_word_at, named}
-use Rattle.trace_lang.specs.Events.{Verb, store, msr, settle, isb, tlbi, dsb, deliver, access, event_of, event_by, core_at, place_at, operand_at, pan_at, supported_by, allowed_from, reg_names, op_names, origins, barriers, els, kinds}
+use Rattle.trace_lang.specs.Events.{Verb, store, msr, settle, isb, tlbi, dsb, deliver, access, event_of, event_by, core_at, place_at, operand_at, pan_at, supported_by, allowed_from, reg_names, op_names, origins, barriers}
 use Rattle.trace_lang.specs.Limits.{is_prefetch, HasWords}
-use Rattle.trace_lang.specs.Canonical.{op_word, origin_text, barrier_text, el_text, kind_text, event_words}
+use Rattle.trace_lang.specs.Canonical.{op_word, origin_text, barrier_text, event_words}
 use Rattle.trace_lang.proofs.Spaced.{is_word, AreWords}
 use Rattle.trace_lang.proofs.Numerals.{hex_back, hex_word, decimal_back, decimal_word}
 
@@ -65,11 +69,11 @@ barrier_back Nsh = refl
 barrier_back Ish = refl
 barrier_back Sy = refl
 
-el_back : (el : El) → named els (el_text el) ≡ Some el
+el_back : (el : El) → el_of (el_text el) ≡ Some el
 el_back El0 = refl
 el_back El1 = refl
 
-kind_back : (kind : Kind) → named kinds (kind_text kind) ≡ Some kind
+kind_back : (kind : Kind) → kind_of (kind_text kind) ≡ Some kind
 kind_back Read = refl
 kind_back Write = refl
 kind_back Fetch = refl
@@ -112,11 +116,11 @@ place_back h v c p ws l a b =
     go (number_or 3 (number_of (hex_text p))) p (λ p. in_range 3 (is_aligned p && is_within h.ranges p) p) (hex_at 3 p l)
     ∙ within 3 (is_aligned p && is_within h.ranges p) p (and_from (is_aligned p) (is_within h.ranges p) a b)
 
-operand_back : (op : Op) (b : Bool) (v c from o : List ℕ) (n : ℕ) → has_operand op ≡ b → n < 2 ^ 64 → (b ≡ false → n ≡ 0) →
+operand_back : (op : Op) (b : Bool) (v c from o : List ℕ) (n : ℕ) → has_operand (form_of op).scope ≡ b → n < 2 ^ 64 → (b ≡ false → n ≡ 0) →
     operand_at op (v ∷ c ∷ from ∷ o ∷ cond b (hex_text n ∷ []) []) ≡ Ok n
 operand_back op true v c from o n e l k =
-    cond-true (has_operand op) _ _ e ∙ go (number_or 5 (number_of (hex_text n))) n (λ n. no_word_at (v ∷ c ∷ from ∷ o ∷ hex_text n ∷ []) 6 >>= (λ _. Ok n)) (hex_at 5 n l)
-operand_back op false v c from o n e l k = cond-false (has_operand op) _ _ e ∙ ap Ok (sym (k refl))
+    cond-true (has_operand (form_of op).scope) _ _ e ∙ go (number_or 5 (number_of (hex_text n))) n (λ n. no_word_at (v ∷ c ∷ from ∷ o ∷ hex_text n ∷ []) 6 >>= (λ _. Ok n)) (hex_at 5 n l)
+operand_back op false v c from o n e l k = cond-false (has_operand (form_of op).scope) _ _ e ∙ ap Ok (sym (k refl))
 
 pan_back : (pan : Bool) (v c el kind va : List ℕ) → pan_at (v ∷ c ∷ el ∷ kind ∷ va ∷ cond pan (codes "pan" ∷ []) []) ≡ Ok pan
 pan_back true v c el kind va = refl
@@ -148,14 +152,14 @@ msr_back h c reg v l f =
     ∙ go (number_or 4 (number_of (hex_text v))) v (λ v. no_word_at ws 5 >>= (λ _. supported_by reg (msr_refused_field reg v) (Msr c reg v))) (hex_at 4 v l)
     ∙ ap (λ o. supported_by reg o (Msr c reg v)) f
 
-tlbi_back : (h : Header) (c : ℕ) (from : Origin) (op : Op) (shared : Bool) (n : ℕ) → n < 2 ^ 64 → may_issue from op ≡ true → (has_operand op ≡ false → n ≡ 0) →
+tlbi_back : (h : Header) (c : ℕ) (from : Origin) (op : Op) (shared : Bool) (n : ℕ) → n < 2 ^ 64 → may_issue from op ≡ true → (has_operand (form_of op).scope ≡ false → n ≡ 0) →
     event_by h (event_words (Tlbi c from op shared n)) c tlbi ≡ Ok (Tlbi c from op shared n)
 tlbi_back h c from op shared n l m k =
     let ws = event_words (Tlbi c from op shared n) in
     let last : (from : Origin) (o : Op × Bool) → Result Event LineRefusal = λ from o. operand_at o.0 ws >>= (λ n. allowed_from from o.0 (Tlbi c from o.0 o.1 n)) in
     go (word_or 3 (named origins (origin_text from))) from (λ from. name_at (named op_names) ws 4 >>= last from) (ap (word_or 3) (origin_back from))
     ∙ go (word_or 4 (named op_names (op_word op shared))) (op, shared) (last from) (ap (word_or 4) (op_back op shared))
-    ∙ go (operand_at op ws) n (λ n. allowed_from from op (Tlbi c from op shared n)) (operand_back op (has_operand op) (codes "tlbi") (decimal c) (origin_text from) (op_word op shared) n refl l k)
+    ∙ go (operand_at op ws) n (λ n. allowed_from from op (Tlbi c from op shared n)) (operand_back op (has_operand (form_of op).scope) (codes "tlbi") (decimal c) (origin_text from) (op_word op shared) n refl l k)
     ∙ cond-true (may_issue from op) (Ok (Tlbi c from op shared n)) (Err NotAtEl1) m
 
 dsb_back : (h : Header) (c : ℕ) (kind : Barrier) → event_by h (event_words (Dsb c kind)) c dsb ≡ Ok (Dsb c kind)
@@ -167,8 +171,8 @@ access_back : (h : Header) (c : ℕ) (a : Access) → a.va < 2 ^ 64 → event_by
 access_back h c a l =
     let ws = event_words (AccessOf c a) in
     let whole : (el : El) (kind : Kind) (va : ℕ) (pan : Bool) → Result Event LineRefusal = λ el kind va pan. Ok (AccessOf c record { va = va; el = el; kind = kind; pan = pan }) in
-    go (word_or 3 (named els (el_text a.el))) a.el (λ el. name_at (named kinds) ws 4 >>= (λ kind. number_at ws 5 >>= (λ va. pan_at ws >>= whole el kind va))) (ap (word_or 3) (el_back a.el))
-    ∙ go (word_or 4 (named kinds (kind_text a.kind))) a.kind (λ kind. number_at ws 5 >>= (λ va. pan_at ws >>= whole a.el kind va)) (ap (word_or 4) (kind_back a.kind))
+    go (word_or 3 (el_of (el_text a.el))) a.el (λ el. name_at kind_of ws 4 >>= (λ kind. number_at ws 5 >>= (λ va. pan_at ws >>= whole el kind va))) (ap (word_or 3) (el_back a.el))
+    ∙ go (word_or 4 (kind_of (kind_text a.kind))) a.kind (λ kind. number_at ws 5 >>= (λ va. pan_at ws >>= whole a.el kind va)) (ap (word_or 4) (kind_back a.kind))
     ∙ go (number_or 5 (number_of (hex_text a.va))) a.va (λ va. pan_at ws >>= whole a.el a.kind va) (hex_at 5 a.va l)
     ∙ go (pan_at ws) a.pan (whole a.el a.kind a.va) (pan_back a.pan (codes "access") (decimal c) (el_text a.el) (kind_text a.kind) (hex_text a.va))
 
@@ -200,7 +204,7 @@ event_are_words h (Store c p v) m l w = (refl, (decimal_word c (omega (arith, l,
 event_are_words h (Msr c reg v) m l w = (refl, (decimal_word c (omega (arith, l, m)), (reg_word reg, (hex_word v w, tt))))
 event_are_words h (Settle c) m l w = (refl, (decimal_word c (omega (arith, l, m)), tt))
 event_are_words h (Isb c) m l w = (refl, (decimal_word c (omega (arith, l, m)), tt))
-event_are_words h (Tlbi c from op shared n) m l w = (refl, (decimal_word c (omega (arith, l, m)), (origin_word from, (op_is_word op shared, operand_words (has_operand op) n w))))
+event_are_words h (Tlbi c from op shared n) m l w = (refl, (decimal_word c (omega (arith, l, m)), (origin_word from, (op_is_word op shared, operand_words (has_operand (form_of op).scope) n w))))
 event_are_words h (Dsb c kind) m l w = (refl, (decimal_word c (omega (arith, l, m)), (barrier_word kind, tt)))
 event_are_words h (Deliver c) m l w = (refl, (decimal_word c (omega (arith, l, m)), tt))
 event_are_words h (AccessOf c a) m l w = (refl, (decimal_word c (omega (arith, l, m)), (el_word a.el, (kind_word a.kind, (hex_word a.va w, pan_words a.pan)))))
@@ -211,7 +215,7 @@ few_words (Store c p v) = omega arith
 few_words (Msr c reg v) = omega arith
 few_words (Settle c) = omega arith
 few_words (Isb c) = omega arith
-few_words (Tlbi c from op shared n) = omega (arith, few_behind (has_operand op) (hex_text n))
+few_words (Tlbi c from op shared n) = omega (arith, few_behind (has_operand (form_of op).scope) (hex_text n))
 few_words (Dsb c kind) = omega arith
 few_words (Deliver c) = omega arith
 few_words (AccessOf c a) = omega (arith, few_behind a.pan (codes "pan"))

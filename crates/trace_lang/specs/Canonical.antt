@@ -3,10 +3,8 @@
 use Rattle.std.specs.Prelude.{ℕ, List, [], ◌∷◌, ◌++◌, flat_map, decimal, codes, Bool, if◌then◌else◌}
 use Rattle.sysregs.specs.declared.regs.Op.{Op}
 use Rattle.sysregs.specs.Names.{reg_text}
-use Rattle.permissions.specs.declared.bits.El.{El}
-use Rattle.permissions.specs.declared.bits.El.TheVariants.{El0, El1}
-use Rattle.permissions.specs.declared.bits.Kind.{Kind}
-use Rattle.permissions.specs.declared.bits.Kind.TheVariants.{Read, Write, Fetch}
+use Rattle.sysregs.specs.Ops.{op_text, form_of, has_operand}
+use Rattle.permissions.specs.AccessNames.{el_text, kind_text}
 use Rattle.trails.specs.declared.outcome.Access.{Access}
 use Rattle.trails.specs.declared.event.Event.{Event}
 use Rattle.trails.specs.declared.event.Event.TheVariants.{Store, Msr, Settle, Isb, Tlbi, Dsb, Deliver, Access as AccessOf, Prefetch}
@@ -19,8 +17,7 @@ use Rattle.trace_lang.specs.declared.header.Size.{Size}
 use Rattle.trace_lang.specs.declared.header.Size.TheVariants.{NoRows, Small, Medium, Large}
 use Rattle.trace_lang.specs.declared.header.Policy.{Policy}
 use Rattle.trace_lang.specs.declared.header.Policy.TheVariants.{Lru, Fifo, Random}
-use Rattle.trace_lang.specs.Traces.{Header, Parts, has_operand}
-use Rattle.trace_lang.specs.Events.{op_text}
+use Rattle.trace_lang.specs.Traces.{Header, Parts}
 
 -- words with one space between them, and the line's end
 abbrev pub line_of : (words : List (List ℕ)) → List ℕ
@@ -59,15 +56,6 @@ barrier_text Nsh = codes "nsh"
 barrier_text Ish = codes "ish"
 barrier_text Sy = codes "sy"
 
-abbrev pub el_text : (el : El) → List ℕ
-el_text El0 = codes "el0"
-el_text El1 = codes "el1"
-
-abbrev pub kind_text : (kind : Kind) → List ℕ
-kind_text Read = codes "read"
-kind_text Write = codes "write"
-kind_text Fetch = codes "fetch"
-
 abbrev pub access_words : (access : Access) → List (List ℕ)
 access_words a = el_text a.el ∷ kind_text a.kind ∷ hex_text a.va ∷ (if a.pan then codes "pan" ∷ [] else [])
 
@@ -77,7 +65,7 @@ event_words (Msr core reg value) = codes "msr" ∷ decimal core ∷ reg_text reg
 event_words (Settle core) = codes "settle" ∷ decimal core ∷ []
 event_words (Isb core) = codes "isb" ∷ decimal core ∷ []
 event_words (Tlbi core from op shared operand) =
-    codes "tlbi" ∷ decimal core ∷ origin_text from ∷ op_word op shared ∷ (if has_operand op then hex_text operand ∷ [] else [])
+    codes "tlbi" ∷ decimal core ∷ origin_text from ∷ op_word op shared ∷ (if has_operand (form_of op).scope then hex_text operand ∷ [] else [])
 event_words (Dsb core kind) = codes "dsb" ∷ decimal core ∷ barrier_text kind ∷ []
 event_words (Deliver core) = codes "deliver" ∷ decimal core ∷ []
 event_words (AccessOf core access) = codes "access" ∷ decimal core ∷ access_words access

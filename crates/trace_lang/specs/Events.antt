@@ -4,15 +4,11 @@ use Rattle.std.specs.Prelude.{if◌then◌else◌, Result, Ok, Err}
 use Rattle.sysregs.specs.declared.regs.Reg.{Reg}
 use Rattle.sysregs.specs.declared.regs.Reg.TheVariants.{SctlrEl1, TcrEl1, Ttbr0El1, Ttbr1El1, MairEl1, HcrEl2, VtcrEl2, VttbrEl2}
 use Rattle.sysregs.specs.declared.regs.Op.{Op}
-use Rattle.sysregs.specs.declared.regs.Op.TheVariants.{Vmalle1, Vae1, Vaae1, Vale1, Vaale1, Aside1, Ipas2e1, Ipas2le1, Vmalls12e1, Alle1, Rvae1}
-use Rattle.sysregs.specs.declared.regs.Op.TheVariants.{Rvaae1, Rvale1, Rvaale1, Ripas2e1, Ripas2le1}
 use Rattle.sysregs.specs.declared.regs.Field.{Field}
 use Rattle.sysregs.specs.Names.{reg_text}
+use Rattle.sysregs.specs.Ops.{op_text, all_ops, form_of, has_operand}
 use Rattle.sysregs.specs.Refused.{msr_refused_field}
-use Rattle.permissions.specs.declared.bits.El.{El}
-use Rattle.permissions.specs.declared.bits.El.TheVariants.{El0, El1}
-use Rattle.permissions.specs.declared.bits.Kind.{Kind}
-use Rattle.permissions.specs.declared.bits.Kind.TheVariants.{Read, Write, Fetch}
+use Rattle.permissions.specs.AccessNames.{el_of, kind_of}
 use Rattle.trails.specs.declared.event.Event.{Event}
 use Rattle.trails.specs.declared.event.Event.TheVariants.{Store, Msr, Settle, Isb, Tlbi, Dsb, Deliver, Access}
 use Rattle.trails.specs.declared.event.Barrier.{Barrier}
@@ -21,7 +17,8 @@ use Rattle.trails.specs.declared.event.Origin.{Origin}
 use Rattle.trails.specs.declared.event.Origin.TheVariants.{El1 as FromEl1, El2 as FromEl2}
 use Rattle.trace_lang.specs.declared.refusals.LineRefusal.{LineRefusal}
 use Rattle.trace_lang.specs.declared.refusals.LineRefusal.TheVariants.{Unsupported, NotAtEl1}
-use Rattle.trace_lang.specs.Traces.{Header, is_aligned, is_within, has_operand, may_issue}
+use Rattle.phys_mem.specs.Memory.{is_aligned}
+use Rattle.trace_lang.specs.Traces.{Header, is_within, may_issue}
 use Rattle.trace_lang.specs.Words.{◌>>=◌, in_range, number_at, name_at, no_word_at, named}
 
 -- the words that begin an event
@@ -44,30 +41,6 @@ abbrev pub reg_names : List (List ℕ × Reg)
 reg_names =
     map (λ reg. (reg_text reg, reg)) (SctlrEl1 ∷ TcrEl1 ∷ Ttbr0El1 ∷ Ttbr1El1 ∷ MairEl1 ∷ HcrEl2 ∷ VtcrEl2 ∷ VttbrEl2 ∷ [])
 
--- an operation without its IS
-abbrev pub op_text : (op : Op) → List ℕ
-op_text Vmalle1 = codes "VMALLE1"
-op_text Vae1 = codes "VAE1"
-op_text Vaae1 = codes "VAAE1"
-op_text Vale1 = codes "VALE1"
-op_text Vaale1 = codes "VAALE1"
-op_text Aside1 = codes "ASIDE1"
-op_text Ipas2e1 = codes "IPAS2E1"
-op_text Ipas2le1 = codes "IPAS2LE1"
-op_text Vmalls12e1 = codes "VMALLS12E1"
-op_text Alle1 = codes "ALLE1"
-op_text Rvae1 = codes "RVAE1"
-op_text Rvaae1 = codes "RVAAE1"
-op_text Rvale1 = codes "RVALE1"
-op_text Rvaale1 = codes "RVAALE1"
-op_text Ripas2e1 = codes "RIPAS2E1"
-op_text Ripas2le1 = codes "RIPAS2LE1"
-
-abbrev pub all_ops : List Op
-all_ops =
-    Vmalle1 ∷ Vae1 ∷ Vaae1 ∷ Vale1 ∷ Vaale1 ∷ Aside1 ∷ Ipas2e1 ∷ Ipas2le1 ∷ Vmalls12e1 ∷ Alle1
-    ∷ Rvae1 ∷ Rvaae1 ∷ Rvale1 ∷ Rvaale1 ∷ Ripas2e1 ∷ Ripas2le1 ∷ []
-
 -- the local forms, and the forms with IS at their end
 abbrev pub op_names : List (List ℕ × (Op × Bool))
 op_names = map (λ op. (op_text op, (op, false))) all_ops ++ map (λ op. (op_text op ++ codes "IS", (op, true))) all_ops
@@ -77,12 +50,6 @@ origins = (codes "el1", FromEl1) ∷ (codes "el2", FromEl2) ∷ []
 
 abbrev pub barriers : List (List ℕ × Barrier)
 barriers = (codes "nsh", Nsh) ∷ (codes "ish", Ish) ∷ (codes "sy", Sy) ∷ []
-
-abbrev pub els : List (List ℕ × El)
-els = (codes "el0", El0) ∷ (codes "el1", El1) ∷ []
-
-abbrev pub kinds : List (List ℕ × Kind)
-kinds = (codes "read", Read) ∷ (codes "write", Write) ∷ (codes "fetch", Fetch) ∷ []
 
 -- the number of a core
 abbrev pub core_at : (header : Header) (words : List (List ℕ)) → Result ℕ LineRefusal
@@ -104,7 +71,7 @@ allowed_from from op e = if may_issue from op then Ok e else Err NotAtEl1
 -- the operand of an operation, which is 0 where it has none
 abbrev pub operand_at : (op : Op) (words : List (List ℕ)) → Result ℕ LineRefusal
 operand_at op ws =
-    if has_operand op then number_at ws 5 >>= (λ n. no_word_at ws 6 >>= (λ _. Ok n)) else no_word_at ws 5 >>= (λ _. Ok 0)
+    if has_operand (form_of op).scope then number_at ws 5 >>= (λ n. no_word_at ws 6 >>= (λ _. Ok n)) else no_word_at ws 5 >>= (λ _. Ok 0)
 
 -- the word `pan`, which may stand behind an access
 abbrev pub pan_at : (words : List (List ℕ)) → Result Bool LineRefusal
@@ -123,7 +90,7 @@ event_by h ws c tlbi =
 event_by h ws c dsb = name_at (named barriers) ws 3 >>= (λ k. no_word_at ws 4 >>= (λ _. Ok (Dsb c k)))
 event_by h ws c deliver = no_word_at ws 3 >>= (λ _. Ok (Deliver c))
 event_by h ws c access =
-    name_at (named els) ws 3 >>= (λ el. name_at (named kinds) ws 4 >>= (λ kind. number_at ws 5 >>= (λ va. pan_at ws >>= (λ pan.
+    name_at el_of ws 3 >>= (λ el. name_at kind_of ws 4 >>= (λ kind. number_at ws 5 >>= (λ va. pan_at ws >>= (λ pan.
     Ok (Access c record { va = va; el = el; kind = kind; pan = pan })))))
 
 -- the event of a line

@@ -14,7 +14,9 @@ use Rattle.trace_lang.specs.declared.refusals.LineRefusal.TheVariants.{NotText, 
 use Rattle.trace_lang.specs.declared.refusals.LineRefusal.TheVariants.{Unsupported, NotAtEl1}
 use Rattle.trace_lang.specs.declared.refusals.TraceRefusal.{TraceRefusal}
 use Rattle.trace_lang.specs.declared.refusals.TraceRefusal.TheVariants as refusal
-use Rattle.trace_lang.specs.Traces.{Header, Parts, most_cores, most_ranges, most_events, most_memory, is_aligned, shares_byte, bytes_in}
+use Rattle.trace_lang.specs.Traces.{Header, Parts, most_cores, most_ranges, most_events, most_memory}
+use Rattle.phys_mem.specs.Memory.{is_aligned}
+use Rattle.phys_mem.specs.Ranges.{share_byte, bytes_of}
 use Rattle.trace_lang.specs.Words.{is_text, is_end, words_of, ◌>>=◌, in_range, number_at, name_at, no_word_at, named}
 use Rattle.trace_lang.specs.Events.{event_of}
 
@@ -43,14 +45,14 @@ is_base b = is_aligned b && nat_lt b (2 ^ 52)
 
 -- how long it may be, behind others
 abbrev pub is_size : (earlier : List (ℕ × ℕ)) (base size : ℕ) → Bool
-is_size earlier b n = is_aligned n && nat_lt 0 n && nat_le (b + n) (2 ^ 52) && nat_le (bytes_in earlier + n) most_memory
+is_size earlier b n = is_aligned n && nat_lt 0 n && nat_le (b + n) (2 ^ 52) && nat_le (bytes_of earlier + n) most_memory
 
 abbrev pub range_met : (state : State) (words : List (List ℕ)) → Result State LineRefusal
 range_met s ws =
     let h = s.trace.header in
     number_at ws 2 >>= (λ b. in_range 2 (is_base b) b >>= (λ b.
     number_at ws 3 >>= (λ n. in_range 3 (is_size h.ranges b n) n >>= (λ n. no_word_at ws 4 >>= (λ _.
-    in_range 2 (not (list_any (shares_byte (b, n)) h.ranges)) b >>= (λ _. Ok (with_header s Ranges (record h { ranges = h.ranges ++ (b, n) ∷ [] }))))))))
+    in_range 2 (not (list_any (share_byte (b, n)) h.ranges)) b >>= (λ _. Ok (with_header s Ranges (record h { ranges = h.ranges ++ (b, n) ∷ [] }))))))))
 
 -- the sizes of the caches that may be named
 abbrev pub sizes : List (List ℕ × Size)

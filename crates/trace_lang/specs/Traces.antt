@@ -3,13 +3,15 @@ use Rattle.std.specs.Prelude.{◌≡◌, ℕ, ◌+◌, ◌%◌, ◌^◌, ◌<◌
 use Rattle.std.specs.Prelude.{List, [], ◌∷◌, ◌++◌, length, fold, All, None}
 use Rattle.std.specs.List.{list_any}
 use Rattle.sysregs.specs.declared.regs.Op.{Op}
-use Rattle.sysregs.specs.declared.regs.Op.TheVariants.{Vmalle1, Vae1, Vaae1, Vale1, Vaale1, Aside1, Ipas2e1, Ipas2le1, Vmalls12e1, Alle1, Rvae1}
-use Rattle.sysregs.specs.declared.regs.Op.TheVariants.{Rvaae1, Rvale1, Rvaale1, Ripas2e1, Ripas2le1}
+use Rattle.sysregs.specs.Ops.{form_of, has_operand, is_of_el1}
 use Rattle.sysregs.specs.Refused.{msr_refused_field}
 use Rattle.trails.specs.declared.event.Event.{Event}
 use Rattle.trails.specs.declared.event.Event.TheVariants.{Store, Msr, Settle, Isb, Tlbi, Dsb, Deliver, Access, Prefetch}
 use Rattle.trails.specs.declared.event.Origin.{Origin}
 use Rattle.trails.specs.declared.event.Origin.TheVariants.{El1, El2}
+use Rattle.phys_mem.specs.Memory.{is_aligned}
+use Rattle.phys_mem.specs.Ranges.{is_range, share_byte, bytes_of}
+use Rattle.phys_mem.specs.Words.{holds_word}
 use Rattle.trace_lang.specs.declared.header.Size.{Size}
 use Rattle.trace_lang.specs.declared.header.Policy.{Policy}
 
@@ -41,74 +43,20 @@ most_events = 50000
 abbrev pub most_memory : ℕ
 most_memory = 2 ^ 26
 
--- a multiple of 8
-abbrev pub is_aligned : (number : ℕ) → Bool
-is_aligned n = n % 8 == 0
-
--- two ranges share a byte
-abbrev pub shares_byte : (a b : ℕ × ℕ) → Bool
-shares_byte a b = nat_lt a.0 (b.0 + b.1) && nat_lt b.0 (a.0 + a.1)
-
--- the bytes of all ranges
-abbrev pub bytes_in : (ranges : List (ℕ × ℕ)) → ℕ
-bytes_in ranges = fold (λ n r. n + r.1) 0 ranges
-
 -- the eight bytes at a place lie in one range
 abbrev pub is_within : (ranges : List (ℕ × ℕ)) (place : ℕ) → Bool
-is_within ranges p = list_any (λ r. nat_le r.0 p && nat_le (p + 8) (r.0 + r.1)) ranges
-
--- an operation without an operand
-abbrev pub has_operand : (op : Op) → Bool
-has_operand Vmalle1 = false
-has_operand Vae1 = true
-has_operand Vaae1 = true
-has_operand Vale1 = true
-has_operand Vaale1 = true
-has_operand Aside1 = true
-has_operand Ipas2e1 = true
-has_operand Ipas2le1 = true
-has_operand Vmalls12e1 = false
-has_operand Alle1 = false
-has_operand Rvae1 = true
-has_operand Rvaae1 = true
-has_operand Rvale1 = true
-has_operand Rvaale1 = true
-has_operand Ripas2e1 = true
-has_operand Ripas2le1 = true
-
--- which operations EL1 may issue
-abbrev pub is_for_el1 : (op : Op) → Bool
-is_for_el1 Vmalle1 = true
-is_for_el1 Vae1 = true
-is_for_el1 Vaae1 = true
-is_for_el1 Vale1 = true
-is_for_el1 Vaale1 = true
-is_for_el1 Aside1 = true
-is_for_el1 Ipas2e1 = false
-is_for_el1 Ipas2le1 = false
-is_for_el1 Vmalls12e1 = false
-is_for_el1 Alle1 = false
-is_for_el1 Rvae1 = true
-is_for_el1 Rvaae1 = true
-is_for_el1 Rvale1 = true
-is_for_el1 Rvaale1 = true
-is_for_el1 Ripas2e1 = false
-is_for_el1 Ripas2le1 = false
+is_within ranges p = list_any (λ r. holds_word r p) ranges
 
 -- an exception level may issue an operation
 abbrev pub may_issue : (from : Origin) (op : Op) → Bool
-may_issue El1 op = is_for_el1 op
+may_issue El1 op = is_of_el1 (form_of op).scope
 may_issue El2 op = true
 
--- a range may stand behind others: a multiple of 8, not empty, below 2 ^ 52, with no more memory than there may be
+-- a range may stand behind others: it shares no byte with them, and there is no more memory than there may be
 pub record RangeFits (earlier : List (ℕ × ℕ)) (r : ℕ × ℕ) : Type 0 where
-  pub base : is_aligned r.0 ≡ true
-  pub below : r.0 < 2 ^ 52
-  pub size : is_aligned r.1 ≡ true
-  pub some : 0 < r.1
-  pub end : r.0 + r.1 ≤ 2 ^ 52
-  pub sum : bytes_in earlier + r.1 ≤ most_memory
-  pub apart : list_any (shares_byte r) earlier ≡ false
+  pub range : is_range r ≡ true
+  pub sum : bytes_of earlier + r.1 ≤ most_memory
+  pub apart : list_any (share_byte r) earlier ≡ false
 
 -- each range fits behind those before it
 abbrev pub RangesFitBehind : (earlier ranges : List (ℕ × ℕ)) → Type 0
@@ -121,7 +69,7 @@ EventFitsBy h (Store core pa value) = (is_aligned pa ≡ true) × (is_within h.r
 EventFitsBy h (Msr core reg value) = msr_refused_field reg value ≡ None
 EventFitsBy h (Settle core) = Unit {0}
 EventFitsBy h (Isb core) = Unit {0}
-EventFitsBy h (Tlbi core from op shared operand) = (may_issue from op ≡ true) × (has_operand op ≡ false → operand ≡ 0)
+EventFitsBy h (Tlbi core from op shared operand) = (may_issue from op ≡ true) × (has_operand (form_of op).scope ≡ false → operand ≡ 0)
 EventFitsBy h (Dsb core kind) = Unit {0}
 EventFitsBy h (Deliver core) = Unit {0}
 EventFitsBy h (Access core access) = Unit {0}

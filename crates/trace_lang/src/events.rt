@@ -1,12 +1,14 @@
 ghost use Rattle.std.specs.Prelude.{◌≡◌, map};
-ghost use Rattle.trace_lang.specs.Traces.{has_operand, is_for_el1, may_issue};
+ghost use Rattle.trace_lang.specs.Traces.{may_issue};
 ghost use Rattle.trace_lang.specs.Events.{store, msr, tlbi, dsb, access, core_at, place_at, operand_at, pan_at, event_by, event_of};
 ghost use Rattle.trace_lang.specs.Views.{header_of, Gives};
 
 use crate::LineRefusal;
 use crate::names::{self, Verb};
 use crate::places::{LineError, in_range, no_word_at, number_at, refused, word_at, word_or};
-use crate::reading::{Head, is_aligned};
+use crate::reading::Head;
+use permissions::{El, Kind};
+use phys_mem::ranges::is_aligned;
 use sysregs::Op;
 use sysregs::fields::check_msr;
 use trails::{Access, Event, Origin};
@@ -50,32 +52,18 @@ fn msr(head: &Head, core: u8, words: &[&[u8]]) -> Result<Event, LineError>
     }
 }
 
-/// Whether an operation has an operand.
-pub fn has_operand(op: Op) -> bool
-    ensures { result ≡ has_operand op }
-{
-    !matches!(op, Op::Vmalle1 | Op::Vmalls12e1 | Op::Alle1)
-}
-
 /// Whether an exception level may issue an operation.
 fn may_issue(from: Origin, op: Op) -> bool
     ensures { result ≡ may_issue from op }
 {
-    match (from, op) {
-        (Origin::El2, _) => true,
-        (
-            Origin::El1,
-            Op::Ipas2e1 | Op::Ipas2le1 | Op::Vmalls12e1 | Op::Alle1 | Op::Ripas2e1 | Op::Ripas2le1,
-        ) => false,
-        (Origin::El1, _) => true,
-    }
+    from == Origin::El2 || op.form().scope.is_of_el1()
 }
 
 /// The operand of an operation, which is 0 where it has none.
 fn operand_at(op: Op, words: &[&[u8]]) -> Result<u64, LineError>
     ensures { Gives (λ n. n) result (operand_at op (map (λ w. w.now) words.now)) }
 {
-    if has_operand(op) {
+    if op.form().scope.has_operand() {
         let operand = number_at(words, 5)?;
         no_word_at(words, 6)?;
         return Ok(operand);
@@ -130,9 +118,9 @@ fn access(head: &Head, core: u8, words: &[&[u8]]) -> Result<Event, LineError>
     ensures { Gives (λ e. e) result (event_by (header_of head.now) (map (λ w. w.now) words.now) core access) }
 {
     let word = word_at(words, 3)?;
-    let el = word_or(3, names::level_named(word))?;
+    let el = word_or(3, El::named(word))?;
     let word = word_at(words, 4)?;
-    let kind = word_or(4, names::kind_named(word))?;
+    let kind = word_or(4, Kind::named(word))?;
     let va = number_at(words, 5)?;
     let pan = pan_at(words)?;
     let access = Access { va, el, kind, pan };

@@ -1,13 +1,12 @@
 //! The lines of a trace's text. Each is built from its end.
 ghost use Rattle.std.specs.Prelude.{◌≡◌, ◌≤◌, ◌<◌, ◌^◌, ◌+◌, [], ◌∷◌, ◌++◌, length, codes, decimal, if◌then◌else◌};
 ghost use Rattle.sysregs.specs.Names.{reg_text};
+ghost use Rattle.sysregs.specs.Ops.{form_of, has_operand};
 ghost use Rattle.texts.specs.Texts.{hex_text};
-ghost use Rattle.trace_lang.specs.Traces.{has_operand};
 ghost use Rattle.trace_lang.specs.Canonical.{line_of, origin_text, op_word, barrier_text, access_words, event_words, range_words, size_text, policy_words};
 ghost use Rattle.trace_lang.specs.Limits.{HasWords};
 
-use crate::events::has_operand;
-use crate::names::{barrier_name, kind_name, level_name, op_name, origin_name, size_name};
+use crate::names::{barrier_name, origin_name, size_name};
 use crate::{Policy, Size};
 use sysregs::{Op, Reg};
 use texts::{LINE, Line};
@@ -56,10 +55,10 @@ fn begin(line: &mut Line, first: &[u8], n: u8)
 /// Puts the operand of an operation that has one.
 fn operand(line: &mut Line, op: Op, operand: u64)
     requires { 21 + length line.old ≤ LINE }
-    ensures text { line.new ≡ (if has_operand op then codes " " ++ (hex_text operand ++ line.old) else line.old) }
+    ensures text { line.new ≡ (if has_operand (form_of op).scope then codes " " ++ (hex_text operand ++ line.old) else line.old) }
     ensures room { length line.new ≤ 21 + length line.old }
 {
-    if has_operand(op) {
+    if op.form().scope.has_operand() {
         number(line, operand);
     }
 }
@@ -67,12 +66,12 @@ fn operand(line: &mut Line, op: Op, operand: u64)
 /// The line of a TLBI.
 fn tlbi_line(core: u8, from: Origin, op: Op, shared: bool, n: u64) -> Line
     ensures text { result ≡ line_of (codes "tlbi" ∷ decimal core ∷ origin_text from ∷ op_word op shared
-        ∷ (if has_operand op then hex_text n ∷ [] else [])) }
+        ∷ (if has_operand (form_of op).scope then hex_text n ∷ [] else [])) }
 {
     let mut line = ended();
     operand(&mut line, op, n);
     line.when(shared, b"IS");
-    word(&mut line, op_name(op));
+    word(&mut line, op.name().as_bytes());
     word(&mut line, origin_name(from));
     begin(&mut line, b"tlbi", core);
     line
@@ -87,8 +86,8 @@ fn access_line(first: &[u8], core: u8, access: Access) -> Line
     let mut line = ended();
     line.when(access.pan, b" pan");
     number(&mut line, access.va);
-    word(&mut line, kind_name(access.kind));
-    word(&mut line, level_name(access.el));
+    word(&mut line, access.kind.name().as_bytes());
+    word(&mut line, access.el.name().as_bytes());
     begin(&mut line, first, core);
     line
 }

@@ -1,12 +1,12 @@
 ghost use Rattle.std.specs.Prelude.{◌≡◌, ◌≤◌, [], ◌∷◌, ◌++◌, length, map, option_map, codes, true};
 ghost use Rattle.trace_lang.specs.Words.{named};
-ghost use Rattle.trace_lang.specs.Events.{verbs, reg_names, op_names, op_text, all_ops, origins, barriers, els, kinds};
+ghost use Rattle.sysregs.specs.Ops.{op_text, all_ops};
+ghost use Rattle.trace_lang.specs.Events.{verbs, reg_names, op_names, origins, barriers};
 ghost use Rattle.trace_lang.specs.Lines.{sizes, policies};
-ghost use Rattle.trace_lang.specs.Canonical.{origin_text, barrier_text, el_text, kind_text, size_text};
+ghost use Rattle.trace_lang.specs.Canonical.{origin_text, barrier_text, size_text};
 ghost use Rattle.trace_lang.specs.Views.{verb_of};
 
 use crate::{Policy, Size};
-use permissions::{El, Kind};
 use sysregs::{Op, Reg};
 use trails::{Barrier, Origin};
 
@@ -92,37 +92,12 @@ pub fn register_named(word: &[u8]) -> Option<Reg>
     None
 }
 
-/// The name of an operation without its IS.
-pub fn op_name(op: Op) -> &'static [u8]
-    ensures text { result.now ≡ op_text op }
-    ensures short { length result.now ≤ 10 }
-{
-    match op {
-        Op::Vmalle1 => b"VMALLE1",
-        Op::Vae1 => b"VAE1",
-        Op::Vaae1 => b"VAAE1",
-        Op::Vale1 => b"VALE1",
-        Op::Vaale1 => b"VAALE1",
-        Op::Aside1 => b"ASIDE1",
-        Op::Ipas2e1 => b"IPAS2E1",
-        Op::Ipas2le1 => b"IPAS2LE1",
-        Op::Vmalls12e1 => b"VMALLS12E1",
-        Op::Alle1 => b"ALLE1",
-        Op::Rvae1 => b"RVAE1",
-        Op::Rvaae1 => b"RVAAE1",
-        Op::Rvale1 => b"RVALE1",
-        Op::Rvaale1 => b"RVAALE1",
-        Op::Ripas2e1 => b"RIPAS2E1",
-        Op::Ripas2le1 => b"RIPAS2LE1",
-    }
-}
-
 /// The operation that has this name without an IS.
 fn local_named(word: &[u8]) -> Option<Op>
     ensures { result ≡ named (map (λ op. (op_text op, op)) all_ops) word.now }
 {
     for op in OPS {
-        if word == op_name(op) {
+        if word == op.name().as_bytes() {
             return Some(op);
         }
     }
@@ -170,34 +145,6 @@ pub fn barrier_named(word: &[u8]) -> Option<Barrier>
         Some(Barrier::Ish)
     } else if word == b"sy".as_slice() {
         Some(Barrier::Sy)
-    } else {
-        None
-    }
-}
-
-/// The exception level of an access.
-pub fn level_named(word: &[u8]) -> Option<El>
-    ensures { result ≡ named els word.now }
-{
-    if word == b"el0".as_slice() {
-        Some(El::El0)
-    } else if word == b"el1".as_slice() {
-        Some(El::El1)
-    } else {
-        None
-    }
-}
-
-/// What an access does.
-pub fn kind_named(word: &[u8]) -> Option<Kind>
-    ensures { result ≡ named kinds word.now }
-{
-    if word == b"read".as_slice() {
-        Some(Kind::Read)
-    } else if word == b"write".as_slice() {
-        Some(Kind::Write)
-    } else if word == b"fetch".as_slice() {
-        Some(Kind::Fetch)
     } else {
         None
     }
@@ -256,29 +203,6 @@ pub fn barrier_name(kind: Barrier) -> &'static [u8]
         Barrier::Nsh => b"nsh",
         Barrier::Ish => b"ish",
         Barrier::Sy => b"sy",
-    }
-}
-
-/// The word for the exception level of an access.
-pub fn level_name(el: El) -> &'static [u8]
-    ensures text { result.now ≡ el_text el }
-    ensures short { length result.now ≤ 10 }
-{
-    match el {
-        El::El0 => b"el0",
-        El::El1 => b"el1",
-    }
-}
-
-/// The word for what an access does.
-pub fn kind_name(kind: Kind) -> &'static [u8]
-    ensures text { result.now ≡ kind_text kind }
-    ensures short { length result.now ≤ 10 }
-{
-    match kind {
-        Kind::Read => b"read",
-        Kind::Write => b"write",
-        Kind::Fetch => b"fetch",
     }
 }
 

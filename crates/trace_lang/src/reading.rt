@@ -1,6 +1,7 @@
 ghost use Rattle.std.specs.Prelude.{◌≡◌, ◌+◌, ◌-◌, ◌^◌, ◌<◌, ℕ, map, min, nat_lt, nat_le, ◌&&◌, if◌then◌else◌};
 ghost use Rattle.std.specs.List.{list_all, list_any};
-ghost use Rattle.trace_lang.specs.Traces.{is_aligned, shares_byte, bytes_in, is_within, most_cores};
+ghost use Rattle.trace_lang.specs.Traces.{is_within, most_cores};
+ghost use Rattle.phys_mem.specs.Ranges.{share_byte};
 ghost use Rattle.trace_lang.specs.Words.{is_text};
 ghost use Rattle.trace_lang.specs.declared.refusals.LineRefusal.TheVariants.{NotText, LongLine};
 ghost use Rattle.trace_lang.specs.Lines.{no_lines, is_base, is_size, cores_met, range_met, caches_met, policy_met};
@@ -11,6 +12,7 @@ use crate::cuts::{is_plain, words};
 use crate::events::event;
 use crate::places::{LineError, in_range, no_word_at, number_at, refused, word_at, word_or};
 use crate::{LineRefusal, Phase, Policy, Size, names};
+use phys_mem::ranges::{bytes_in, holds_word, is_aligned, share_byte};
 use std::alloc::Global;
 use trails::Event;
 
@@ -46,12 +48,6 @@ pub struct Reading {
     pub phase: Phase,
 }
 
-pub fn is_aligned(n: u64) -> bool
-    ensures { result ≡ is_aligned n }
-{
-    n % 8 == 0
-}
-
 fn is_count_of_cores(n: u64) -> bool
     ensures { result ≡ nat_le 1 n && nat_le n most_cores }
 {
@@ -62,37 +58,6 @@ fn is_base(base: u64) -> bool
     ensures { result ≡ is_base base }
 {
     is_aligned(base) && base < END_OF_MEMORY
-}
-
-/// Whether a byte lies below the end of a range.
-fn is_below_end(place: u64, range: (u64, u64)) -> bool
-    ensures { result ≡ nat_lt place (range.0 + range.1) }
-{
-    place < range.0 || place - range.0 < range.1
-}
-
-fn shares_byte(a: (u64, u64), b: (u64, u64)) -> bool
-    ensures { result ≡ shares_byte a b }
-{
-    is_below_end(a.0, b) && is_below_end(b.0, a)
-}
-
-/// Whether the eight bytes at a place lie in a range.
-fn holds_word(range: (u64, u64), place: u64) -> bool
-    ensures { result ≡ nat_le range.0 place && nat_le (place + 8) (range.0 + range.1) }
-{
-    range.0 <= place && range.1 >= 8 && place - range.0 <= range.1 - 8
-}
-
-/// The bytes of all ranges, or u64::MAX where they are more.
-fn bytes_in(ranges: &[(u64, u64)]) -> u64
-    ensures { result ≡ min (bytes_in ranges.now) (2 ^ 64 - 1) }
-{
-    let mut sum = 0u64;
-    for range in ranges {
-        sum = sum.saturating_add(range.1);
-    }
-    sum
 }
 
 /// Whether a range of this length may begin at `base`, behind other ranges.
@@ -116,9 +81,9 @@ impl Head {
 
     /// Whether a range shares a byte with one that stands.
     fn shares_byte(&self, range: (u64, u64)) -> bool
-        ensures { result ≡ list_any (shares_byte range) (header_of self.now).ranges }
+        ensures { result ≡ list_any (share_byte range) (header_of self.now).ranges }
     {
-        self.ranges.iter().any(|other| shares_byte(range, *other))
+        self.ranges.iter().any(|other| share_byte(range, *other))
     }
 }
 

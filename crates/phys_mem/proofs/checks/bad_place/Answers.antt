@@ -1,6 +1,6 @@
 use Rattle.std.proofs.Common.{◌∙◌, sym, arith, not}
 use Rattle.phys_mem.specs.Ranges.{is_range}
-use Rattle.phys_mem.proofs.Ranges.{all_whole, none_behind}
+use Rattle.phys_mem.proofs.WholeRanges.{all_whole, none_behind}
 use Rattle.phys_mem.proofs.checks.bad_place.Goals as goal
 
 pub returns-clause-whole : goal.returns-clause-whole

@@ -1,7 +1,7 @@
 use Rattle.std.proofs.Common.{◌≡◌, drop, map, find}
 use Rattle.std.specs.Prelude.{bytes_eq}
 use Rattle.trace_lang.specs.Words.{named}
-use Rattle.trace_lang.specs.Events.{op_text, all_ops}
+use Rattle.sysregs.specs.Ops.{op_text, all_ops}
 use Rattle.trace_lang.proofs.names.local_named.Given as goal
 
 -- none of the names so far is the word

@@ -1,7 +1,7 @@
 use Rattle.std.proofs.Common.{sym, ap, ◌∙◌, option_map}
 use Rattle.std.specs.Option.{option_or}
 use Rattle.trace_lang.specs.Words.{named}
-use Rattle.trace_lang.specs.Events.{all_ops}
+use Rattle.sysregs.specs.Ops.{all_ops}
 use Rattle.trace_lang.proofs.Naming.{either_form, local, shared_forms}
 use Rattle.trace_lang.proofs.names.operation_named.Goals as goal
 

@@ -1,5 +1,5 @@
 use Rattle.std.proofs.Common.{sym, ap, ◌∙◌, option_map}
-use Rattle.trace_lang.specs.Events.{all_ops}
+use Rattle.sysregs.specs.Ops.{all_ops}
 use Rattle.trace_lang.proofs.Cutting.{stripped}
 use Rattle.trace_lang.proofs.Naming.{with_is, shared}
 use Rattle.trace_lang.proofs.names.shared_named.Goals as goal

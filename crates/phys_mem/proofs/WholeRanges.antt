@@ -1,8 +1,8 @@
 -- Ranges of whole words, and their bytes.
-use Rattle.std.proofs.Common.{◌≡◌, ◌≤◌, ◌<◌, ◌+◌, ◌*◌, ◌%◌, ◌/◌, ◌^◌, ℕ, Bool, true, false, not, List, [], ◌∷◌, length, drop, replicate, ◌∙◌, Some, None, Option, All, slice_index_or, refl, sym, ap, arith, if◌then◌else◌}
+use Rattle.std.proofs.Common.{◌≡◌, ◌≤◌, ◌<◌, ◌+◌, ◌*◌, ◌%◌, ◌/◌, ◌^◌, ℕ, Bool, true, false, not, List, [], ◌∷◌, ◌++◌, ◌-◌, min, length, take, drop, replicate, ◌∙◌, Some, None, Option, All, slice_index_or, refl, sym, ap, arith, if◌then◌else◌}
 use Rattle.std.proofs.lemmas.Option.{none-some}
 use Rattle.std.proofs.lemmas.Bool.Decides.{nat_tests}
-use Rattle.std.proofs.lemmas.List.{drop_more, drop_all, length-replicate}
+use Rattle.std.proofs.lemmas.List.{take_more, drop_all, length-replicate}
 use Rattle.std.proofs.lemmas.List.Elements.{All-nil, All-cons, All-head, All-tail}
 use Rattle.phys_mem.specs.Ranges.{is_range, first_place, bytes_of}
 use Rattle.phys_mem.specs.Words.{IsWhole, AreKept, IsKept}
@@ -32,18 +32,23 @@ all_whole k (r ∷ ranges) h =
 pub none_behind : (test : ℕ × ℕ → Bool) (ranges : List (ℕ × ℕ)) (k : ℕ) → length ranges ≤ k → first_place test k (drop k ranges) ≡ None
 none_behind test ranges k h = ap (first_place test k) (drop_all k ranges h)
 
--- ranges of whole words have at most 2 ^ 52 bytes each
-pub bytes_bound : (ranges : List (ℕ × ℕ)) → All IsWhole ranges → bytes_of ranges ≤ 2 ^ 52 * length ranges
-bytes_bound [] h = omega arith
-bytes_bound (r ∷ ranges) h = omega (arith, (All-head IsWhole r ranges h).end, bytes_bound ranges (All-tail IsWhole r ranges h))
+-- the bytes of one range more
+pub bytes_of-push : (ranges : List (ℕ × ℕ)) (r : ℕ × ℕ) → bytes_of (ranges ++ r ∷ []) ≡ bytes_of ranges + r.1
+bytes_of-push [] r = omega arith
+bytes_of-push (x ∷ ranges) r = omega (arith, bytes_of-push ranges r)
 
--- the bytes so far and those of the next range fit a word
-pub next_fits
-    : (ranges : List (ℕ × ℕ)) (place sum : ℕ) → All IsWhole ranges → length ranges ≤ 1024 → place < length ranges → sum + bytes_of (drop place ranges) ≡ bytes_of ranges
-    → sum + (slice_index_or ranges place (0, 0)).1 < 2 ^ 64
-next_fits ranges i sum h few below e =
-    let next : bytes_of (drop i ranges) ≡ bytes_of (slice_index_or ranges i (0, 0) ∷ drop (i + 1) ranges) = ap bytes_of (drop_more ranges i (0, 0) below) in
-    omega (arith, next, bytes_bound ranges h)
+-- the bytes of the ranges so far, as far as a word holds them
+pub sum_goes_on
+    : (ranges : List (ℕ × ℕ)) (place sum next : ℕ) → place < length ranges → sum ≡ min (bytes_of (take place ranges)) (2 ^ 64 - 1)
+    → next ≡ min (sum + (slice_index_or ranges place (0, 0)).1) (2 ^ 64 - 1) → next ≡ min (bytes_of (take (place + 1) ranges)) (2 ^ 64 - 1)
+sum_goes_on ranges i sum next below e n =
+    let more : bytes_of (take (i + 1) ranges) ≡ bytes_of (take i ranges) + (slice_index_or ranges i (0, 0)).1 =
+    ap bytes_of (take_more ranges i (0, 0) below) ∙ bytes_of-push (take i ranges) (slice_index_or ranges i (0, 0)) in
+    omega (arith, more, e, n)
+
+-- memory is small enough that a word holds its bytes
+pub small_sum : (ranges : List (ℕ × ℕ)) (sum : ℕ) → AreKept ranges → sum ≡ min (bytes_of ranges) (2 ^ 64 - 1) → sum ≡ bytes_of ranges
+small_sum ranges sum kept e = let small = kept.small in omega (arith, small, e)
 
 whole_bytes : (ranges : List (ℕ × ℕ)) → All IsWhole ranges → bytes_of ranges % 8 ≡ 0
 whole_bytes [] h = refl
