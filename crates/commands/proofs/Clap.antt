@@ -10,7 +10,8 @@ use Rattle.clap.specs.declared.error.kind.ErrorKind.{ErrorKind}
 use Rattle.clap.specs.declared.error.kind.ErrorKind.TheVariants.{MissingRequiredArgument, UnknownArgument}
 use Rattle.clap.proofs.OnLiterals.{clap_on_literals}
 use Rattle.commands.specs.Asked.{RawWords, ExplainWords, RunWords}
-use Rattle.commands.specs.Command.{is_plain, raw_of, explain_of, run_of, el_of, kind_of, access_with}
+use Rattle.commands.specs.Command.{is_plain, raw_of, explain_of, run_of, access_with}
+use Rattle.permissions.specs.AccessNames.{el_of, kind_of}
 use Rattle.commands.specs.Clap.{raw_app, explain_app, run_app, run_by, number_by, raw_by, explain_by, pan_by}
 
 pub raw_simple : is_simple raw_app ≡ true

@@ -7,8 +7,9 @@ use Rattle.clap.specs.Matches.{found_of}
 use Rattle.clap.specs.declared.parser.matches.ArgMatches.{ArgMatches}
 use Rattle.trails.specs.declared.outcome.Access.{Access}
 use Rattle.texts.specs.Numbers.{number_of}
+use Rattle.permissions.specs.AccessNames.{el_of, kind_of}
 use Rattle.commands.specs.Asked.{RawWords, ExplainWords, RunWords}
-use Rattle.commands.specs.Command.{raw_with, el_of, kind_of, pan_of, access_with, explain_with}
+use Rattle.commands.specs.Command.{raw_with, pan_of, access_with, explain_with}
 
 -- an argument that has to be there
 abbrev pub needed : (name : Text) → Rule
@@ -23,11 +24,13 @@ raw_app =
     with_rule (with_rule (with_rule (with_rule (bare (codes "raw")) (needed (codes "IMAGE"))) (needed (codes "TCR")))
     (needed (codes "TTBR0"))) (needed (codes "VA"))
 
+-- a command with the arguments of an access more
+abbrev pub with_access : (command : App) → App
+with_access command =
+    with_rule (with_rule (with_rule (with_rule command (needed (codes "VA"))) (needed (codes "EL"))) (needed (codes "KIND"))) (new_rule (codes "pan"))
+
 abbrev pub explain_app : App
-explain_app =
-    with_rule (with_rule (with_rule (with_rule (with_rule (with_rule (bare (codes "explain"))
-    (needed (codes "REGS"))) (needed (codes "DUMP"))) (needed (codes "VA"))) (needed (codes "EL"))) (needed (codes "KIND")))
-    (new_rule (codes "pan"))
+explain_app = with_access (with_rule (with_rule (bare (codes "explain")) (needed (codes "REGS"))) (needed (codes "DUMP")))
 
 abbrev pub run_app : App
 run_app = with_rule (bare (codes "run")) (needed (codes "TRACE"))

@@ -3,9 +3,8 @@ use Rattle.std.specs.Prelude.{ℕ, List, [], ◌∷◌, length, slice_index, Opt
 use Rattle.std.specs.Prelude.{option_map, if◌then◌else◌}
 use Rattle.std.specs.List.{list_all}
 use Rattle.permissions.specs.declared.bits.El.{El}
-use Rattle.permissions.specs.declared.bits.El.TheVariants.{El0, El1}
 use Rattle.permissions.specs.declared.bits.Kind.{Kind}
-use Rattle.permissions.specs.declared.bits.Kind.TheVariants.{Read, Write, Fetch}
+use Rattle.permissions.specs.AccessNames.{el_of, kind_of}
 use Rattle.trails.specs.declared.outcome.Access.{Access}
 use Rattle.texts.specs.Numbers.{number_of}
 use Rattle.commands.specs.Asked.{RawWords, ExplainWords, RunWords, Asked, Raw, Explain, Run}
@@ -23,16 +22,6 @@ raw_with image _ _ _ = None
 abbrev pub raw_of : (words : List (List ℕ)) → Option RawWords
 raw_of (image ∷ tcr ∷ ttbr0 ∷ va ∷ []) = raw_with image (number_of tcr) (number_of ttbr0) (number_of va)
 raw_of _ = None
-
--- `el0` or `el1`
-abbrev pub el_of : (word : List ℕ) → Option El
-el_of word = if bytes_eq word (codes "el0") then Some El0 else (if bytes_eq word (codes "el1") then Some El1 else None)
-
--- `read`, `write` or `fetch`
-abbrev pub kind_of : (word : List ℕ) → Option Kind
-kind_of word =
-    if bytes_eq word (codes "read") then Some Read
-    else (if bytes_eq word (codes "write") then Some Write else (if bytes_eq word (codes "fetch") then Some Fetch else None))
 
 -- `pan`
 abbrev pub pan_of : (word : List ℕ) → Option Bool

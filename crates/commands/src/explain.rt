@@ -1,13 +1,14 @@
 ghost use Rattle.std.specs.Prelude.{◌≡◌, ◌≤◌, IfOk, length, map, string_bytes, true, option_map, option_and_then};
 ghost use Rattle.std.specs.List.{list_all};
 ghost use Rattle.clap.specs.Simple.{app_of};
+ghost use Rattle.permissions.specs.AccessNames.{el_of, kind_of};
 ghost use Rattle.commands.specs.Asked.{explain_words_of};
-ghost use Rattle.commands.specs.Command.{is_plain, explain_of, el_of, kind_of, access_with};
+ghost use Rattle.commands.specs.Command.{is_plain, explain_of, access_with};
 ghost use Rattle.clap.specs.Walk.{rows_of};
 ghost use Rattle.clap.specs.Matches.{found_of};
-ghost use Rattle.commands.specs.Clap.{access_in, explain_app, explain_by, pan_by};
+ghost use Rattle.commands.specs.Clap.{access_in, with_access, explain_app, explain_by, pan_by};
 
-use crate::matched::{matched, named, number_in, text_of, with_needed};
+use crate::matched::{matched, named, number_in, text_of, with_needed, with_two};
 use bitwords::NoMemory;
 use clap::{Arg, ArgMatches, Command};
 use permissions::{El, Kind};
@@ -26,23 +27,14 @@ pub struct ExplainArgs<'a> {
 fn el(text: Option<&str>) -> Option<El>
     ensures { result ≡ option_and_then el_of (option_map (λ text. text.now) text.entry) }
 {
-    match text? {
-        "el0" => Some(El::El0),
-        "el1" => Some(El::El1),
-        _ => None,
-    }
+    El::named(text?.as_bytes())
 }
 
 /// The kind of access: `read`, `write` or `fetch`.
 fn kind(text: Option<&str>) -> Option<Kind>
     ensures { result ≡ option_and_then kind_of (option_map (λ text. text.now) text.entry) }
 {
-    match text? {
-        "read" => Some(Kind::Read),
-        "write" => Some(Kind::Write),
-        "fetch" => Some(Kind::Fetch),
-        _ => None,
-    }
+    Kind::named(text?.as_bytes())
 }
 
 /// Whether PSTATE.PAN is set: `pan`, or no word.
@@ -67,16 +59,20 @@ fn access(va: Option<u64>, el: Option<El>, kind: Option<Kind>, pan: Option<bool>
     })
 }
 
+/// A command with the arguments of an access more.
+fn with_access<'a>(alloc: Global, command: Command<'a>) -> Result<Command<'a>, AllocError>
+    ensures { IfOk result (λ more. app_of more ≡ with_access (app_of command.entry)) }
+{
+    let command = with_two(alloc, command, "VA", "EL")?;
+    let command = with_needed(alloc, command, "KIND")?;
+    command.arg(Arg::new(alloc, "pan"))
+}
+
 fn explain_command<'a>(alloc: Global) -> Result<Command<'a>, AllocError>
     ensures { IfOk result (λ command. app_of command ≡ explain_app) }
 {
-    let command = named(alloc, "explain");
-    let command = with_needed(alloc, command, "REGS")?;
-    let command = with_needed(alloc, command, "DUMP")?;
-    let command = with_needed(alloc, command, "VA")?;
-    let command = with_needed(alloc, command, "EL")?;
-    let command = with_needed(alloc, command, "KIND")?;
-    command.arg(Arg::new(alloc, "pan"))
+    let command = with_two(alloc, named(alloc, "explain"), "REGS", "DUMP")?;
+    with_access(alloc, command)
 }
 
 fn explain_from<'a>(

@@ -31,6 +31,19 @@ pub fn with_needed<'a>(
     command.arg(Arg::new(alloc, name).required(true))
 }
 
+/// A command with two arguments more, which have to be there.
+pub fn with_two<'a>(
+    alloc: Global,
+    command: Command<'a>,
+    first: &'a str,
+    second: &'a str,
+) -> Result<Command<'a>, AllocError>
+    ensures { IfOk result (λ more. app_of more ≡ with_rule (with_rule (app_of command.entry) (needed first.now)) (needed second.now)) }
+{
+    let command = with_needed(alloc, command, first)?;
+    with_needed(alloc, command, second)
+}
+
 /// What a command makes of words, or None where it finds a fault in them.
 pub fn matched<'a>(
     command: Command<'a>,

@@ -5,7 +5,7 @@ ghost use Rattle.commands.specs.Asked.{raw_words_of};
 ghost use Rattle.commands.specs.Command.{is_plain, raw_of};
 ghost use Rattle.commands.specs.Clap.{raw_app, raw_by};
 
-use crate::matched::{matched, named, number_in, text_of, with_needed};
+use crate::matched::{matched, named, number_in, text_of, with_two};
 use bitwords::NoMemory;
 use clap::Command;
 use std::alloc::{AllocError, Global};
@@ -22,11 +22,8 @@ pub struct RawArgs<'a> {
 fn raw_command<'a>(alloc: Global) -> Result<Command<'a>, AllocError>
     ensures { IfOk result (λ command. app_of command ≡ raw_app) }
 {
-    let command = named(alloc, "raw");
-    let command = with_needed(alloc, command, "IMAGE")?;
-    let command = with_needed(alloc, command, "TCR")?;
-    let command = with_needed(alloc, command, "TTBR0")?;
-    with_needed(alloc, command, "VA")
+    let command = with_two(alloc, named(alloc, "raw"), "IMAGE", "TCR")?;
+    with_two(alloc, command, "TTBR0", "VA")
 }
 
 fn raw_from<'a>(

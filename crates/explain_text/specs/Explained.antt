@@ -2,10 +2,7 @@
 use Rattle.std.specs.Prelude.{ℕ, List, [], ◌∷◌, ◌++◌, Bool, true, false, flat_map, codes}
 use Rattle.sysregs.specs.Registers.{asid_of, vmid_of}
 use Rattle.sysregs.specs.declared.regs.Regs.{Regs}
-use Rattle.permissions.specs.declared.bits.El.{El}
-use Rattle.permissions.specs.declared.bits.El.TheVariants.{El0, El1}
-use Rattle.permissions.specs.declared.bits.Kind.{Kind}
-use Rattle.permissions.specs.declared.bits.Kind.TheVariants.{Read, Write, Fetch}
+use Rattle.permissions.specs.AccessNames.{el_text, kind_text}
 use Rattle.fault_codes.specs.Status.{HasStatus}
 use Rattle.fault_codes.specs.declared.fault.Class.TheVariants.{External}
 use Rattle.trails.specs.declared.item.Item.{Item}
@@ -16,22 +13,11 @@ use Rattle.texts.specs.Texts.{joined_text, hex_text}
 use Rattle.explain_text.specs.Texts.{shown_if, item_text, fault_text, absent_text}
 use Rattle.explain_text.specs.Mapped.{mapped_text}
 
--- an exception level
-abbrev pub el_text : (el : El) → List ℕ
-el_text El0 = codes " el0"
-el_text El1 = codes " el1"
-
--- what an access does
-abbrev pub kind_text : (kind : Kind) → List ℕ
-kind_text Read = codes " read"
-kind_text Write = codes " write"
-kind_text Fetch = codes " fetch"
-
 -- an access, behind a word and before the line's end
 abbrev pub access_text : (word : List ℕ) (access : Access) (asid vmid : ℕ) → List ℕ
 access_text word a asid vmid =
     joined_text
-    (word ∷ codes " " ∷ hex_text a.va ∷ el_text a.el ∷ kind_text a.kind ∷ shown_if a.pan (codes " pan") ∷
+    (word ∷ codes " " ∷ hex_text a.va ∷ codes " " ∷ el_text a.el ∷ codes " " ∷ kind_text a.kind ∷ shown_if a.pan (codes " pan") ∷
     codes " asid " ∷ hex_text asid ∷ codes " vmid " ∷ hex_text vmid ∷ [])
 
 -- the outcome that is printed: in a run a word that memory lacks is an external abort

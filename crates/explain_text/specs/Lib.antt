@@ -1,6 +1,7 @@
 pub use Rattle.bitwords.specs.Causes
 pub use Rattle.sysregs.specs.Registers
 pub use Rattle.permissions.specs.Rights
+pub use Rattle.permissions.specs.AccessNames
 pub use Rattle.fault_codes.specs.Status
 pub mod Written
 pub mod Texts

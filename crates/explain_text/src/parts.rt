@@ -1,8 +1,8 @@
 //! Parts of lines. Each is put before what stands.
-ghost use Rattle.std.specs.Prelude.{◌≡◌, ◌≤◌, ◌+◌, ◌++◌, length, if◌then◌else◌};
+ghost use Rattle.std.specs.Prelude.{codes, ◌≡◌, ◌≤◌, ◌+◌, ◌++◌, length, if◌then◌else◌};
 ghost use Rattle.explain_text.specs.Texts.{level_text, stage_digit, class_text, what_text, value_text, moment_text};
 ghost use Rattle.explain_text.specs.Mapped.{letters_text, rights_text, hints_text, cache_text, device_text, normal_text, mem_text, share_text};
-ghost use Rattle.explain_text.specs.Explained.{el_text, kind_text};
+ghost use Rattle.permissions.specs.AccessNames.{el_text, kind_text};
 
 use attributes::{Cache, Device, MemType, Share};
 use bitflags::Flags;
@@ -95,31 +95,26 @@ pub fn moment(line: &mut Line, in_run: bool, moment: u32)
     }
 }
 
-/// Puts an exception level.
+/// Puts an exception level behind a space.
 #[inline]
 pub fn el(line: &mut Line, el: El)
     requires { 4 + length line.old ≤ LINE }
-    ensures text { line.new ≡ el_text el ++ line.old }
+    ensures text { line.new ≡ codes " " ++ (el_text el ++ line.old) }
     ensures room { length line.new ≡ 4 + length line.old }
 {
-    match el {
-        El::El0 => line.text(b" el0"),
-        El::El1 => line.text(b" el1"),
-    }
+    line.text(el.name().as_bytes());
+    line.text(b" ");
 }
 
-/// Puts what an access does.
+/// Puts what an access does behind a space.
 #[inline]
 pub fn kind(line: &mut Line, kind: Kind)
     requires { 6 + length line.old ≤ LINE }
-    ensures text { line.new ≡ kind_text kind ++ line.old }
+    ensures text { line.new ≡ codes " " ++ (kind_text kind ++ line.old) }
     ensures room { length line.new ≤ 6 + length line.old }
 {
-    match kind {
-        Kind::Read => line.text(b" read"),
-        Kind::Write => line.text(b" write"),
-        Kind::Fetch => line.text(b" fetch"),
-    }
+    line.text(kind.name().as_bytes());
+    line.text(b" ");
 }
 
 /// A right's letter, or `-` where it isn't given.

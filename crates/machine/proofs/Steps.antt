@@ -11,6 +11,7 @@ use Rattle.trails.specs.declared.event.Event.TheVariants.{Store, Msr, Settle, Is
 use Rattle.table_reads.specs.Memory.{Memory}
 use Rattle.trace_lang.specs.declared.header.Size.{Size}
 use Rattle.trace_lang.specs.declared.header.Policy.{Policy}
+use Rattle.sysregs.proofs.Accepted.{accepted_by_msr}
 use Rattle.trace_lang.specs.Traces.{Parts, IsTrace, EventFits, EventFitsBy, core_of as core_doing}
 use Rattle.phys_mem.specs.Memory.{zeros as words_at_first}
 use Rattle.phys_mem.specs.Words.{Held, memory_of}
@@ -44,7 +45,7 @@ of_core h e f = subst (λ c. c < h.cores) (named_same e) f.0
 
 doable_by : (h : Header) (p : Held) → p.ranges ≡ h.ranges → (e : Event) → EventFitsBy h e → IsDoable (memory_of p) e
 doable_by h p same (Store core pa value) f = (f.0, has_word p pa (rw same f.1))
-doable_by h p same (Msr core reg value) f = f
+doable_by h p same (Msr core reg value) f = accepted_by_msr reg value f
 doable_by h p same (Settle core) f = f
 doable_by h p same (Isb core) f = f
 doable_by h p same (Tlbi core from op shared operand) f = tt
