@@ -124,15 +124,15 @@ impl Cpu {
 
     /// The answer of an access at a moment, which is the number of the step. Without rows it is the walk of that moment.
     #[inline(always)]
-    pub fn access(&mut self, phys: &Phys, now: u32, access: &Access) -> Answer
-        ensures answer { (h : Header) → Suits h self.old → result ≡ (visited (seat_at h self.old (memory_of phys.now) now) access.now).answer }
+    pub fn access(&mut self, phys: &Phys, moment: u32, access: &Access) -> Answer
+        ensures answer { (h : Header) → Suits h self.old → result ≡ (visited (seat_at h self.old (memory_of phys.now) moment) access.now).answer }
         ensures after { (h : Header) → Suits h self.old →
-            self.new ≡ with_cache self.old (visited (seat_at h self.old (memory_of phys.now) now) access.now).cache }
+            self.new ≡ with_cache self.old (visited (seat_at h self.old (memory_of phys.now) moment) access.now).cache }
         ensures line { HasRunLine result.outcome }
     {
         let mut words = Words { phys };
         let mut first = Trail::none();
-        let outcome = translate_at(&self.force, access, now, &mut words, &mut first);
+        let outcome = translate_at(&self.force, access, moment, &mut words, &mut first);
         Answer {
             asid: asid(self.force.regs()),
             vmid: vmid(self.force.regs()),

@@ -42,15 +42,15 @@ fn post_all(seats: &mut [Seat], inval: &Inval)
 }
 
 /// A TLBI of a core: its invalidation, by the registers in force of the core, comes in at the cores that it reaches.
-fn issue(seats: &mut [Seat], core: u8, from: Origin, op: Op, shared: bool, operand: u64, now: u32)
+fn issue(seats: &mut [Seat], core: u8, from: Origin, op: Op, shared: bool, operand: u64, moment: u32)
     requires { core < length seats.old }
     ensures cores { (c : ℕ) → c < length seats.old → core_at (slice_index_or seats.new c no_seat)
         ≡ mailed_by c (core_at (slice_index_or seats.old c no_seat))
-        (Some (inval_of op shared (is_at_el1 from) operand (core_at (slice_index_or seats.old core no_seat)).bank.regs core now)) }
+        (Some (inval_of op shared (is_at_el1 from) operand (core_at (slice_index_or seats.old core no_seat)).bank.regs core moment)) }
     ensures builds { (c : ℕ) → c < length seats.old → build_of (slice_index_or seats.new c no_seat) ≡ build_of (slice_index_or seats.old c no_seat) }
 {
     let regs = seats[core as usize].regs();
-    let inval = decode(op, shared, is_at_el1(from), operand, regs, core, now);
+    let inval = decode(op, shared, is_at_el1(from), operand, regs, core, moment);
     post_all(seats, &inval);
 }
 
@@ -84,29 +84,29 @@ pub fn asked(event: &Event) -> Option<(u8, Access)>
 
 /// The answer of an access that an event asks for.
 #[inline(always)]
-pub fn answer(phys: &Phys, seats: &mut [Seat], now: u32, core: u8, access: &Access) -> Answer
+pub fn answer(phys: &Phys, seats: &mut [Seat], moment: u32, core: u8, access: &Access) -> Answer
     requires { core < length seats.old }
     ensures answer { (h : Header) → (e : TheEvent) → asked_of e ≡ Some (core, access.now) → AreSeats h seats.old →
-        Some result ≡ answer_to h (world_of now (memory_of phys.now) seats.old) e }
+        Some result ≡ answer_to h (world_of moment (memory_of phys.now) seats.old) e }
     ensures cores { (h : Header) → (e : TheEvent) → asked_of e ≡ Some (core, access.now) → AreSeats h seats.old → (c : ℕ) →
         c < length seats.old → core_at (slice_index_or seats.new c no_seat)
-        ≡ moved h (world_of now (memory_of phys.now) seats.old) e c (core_at (slice_index_or seats.old c no_seat)) }
+        ≡ moved h (world_of moment (memory_of phys.now) seats.old) e c (core_at (slice_index_or seats.old c no_seat)) }
     ensures builds { (c : ℕ) → c < length seats.old → build_of (slice_index_or seats.new c no_seat) ≡ build_of (slice_index_or seats.old c no_seat) }
     ensures told { IsTold (Some result) }
 {
-    seats[core as usize].access(phys, now, access)
+    seats[core as usize].access(phys, moment, access)
 }
 
 /// Does an event that asks for no access.
 #[tactic(auto, unfolding(machine_spec::specs::Moments::stored))]
-pub fn act(phys: &mut Phys, seats: &mut [Seat], now: u32, event: &Event)
+pub fn act(phys: &mut Phys, seats: &mut [Seat], moment: u32, event: &Event)
     requires here { core_named event.now < length seats.old }
     requires doable { IsDoable (memory_of phys.old) event.now }
     requires quiet { asked_of event.now ≡ None }
     ensures memory { memory_of phys.new ≡ stored (memory_of phys.old) event.now }
     ensures ranges { phys.new.ranges ≡ phys.old.ranges }
     ensures cores { (h : Header) → AreSeats h seats.old → (c : ℕ) → c < length seats.old → core_at (slice_index_or seats.new c no_seat)
-        ≡ moved h (world_of now (memory_of phys.old) seats.old) event.now c (core_at (slice_index_or seats.old c no_seat)) }
+        ≡ moved h (world_of moment (memory_of phys.old) seats.old) event.now c (core_at (slice_index_or seats.old c no_seat)) }
     ensures builds { (c : ℕ) → c < length seats.old → build_of (slice_index_or seats.new c no_seat) ≡ build_of (slice_index_or seats.old c no_seat) }
 {
     match *event {
@@ -122,7 +122,7 @@ pub fn act(phys: &mut Phys, seats: &mut [Seat], now: u32, event: &Event)
             op,
             shared,
             operand,
-        } => issue(seats, core, from, op, shared, operand, now),
+        } => issue(seats, core, from, op, shared, operand, moment),
         Event::Dsb { core, kind } => finish_all(seats, core, kind),
         Event::Deliver { core } => seats[core as usize].deliver(),
         Event::Access { .. } | Event::Prefetch { .. } => unreachable!(),

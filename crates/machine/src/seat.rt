@@ -150,14 +150,14 @@ impl Seat {
 
     /// The answer of an access at a moment, which is the number of the step.
     #[inline(always)]
-    pub fn access(&mut self, phys: &Phys, now: u32, access: &Access) -> Answer
-        ensures answer { (h : Header) → Suits h self.old.core → result ≡ (visited (seat_at h self.old.core (memory_of phys.now) now) access.now).answer }
+    pub fn access(&mut self, phys: &Phys, moment: u32, access: &Access) -> Answer
+        ensures answer { (h : Header) → Suits h self.old.core → result ≡ (visited (seat_at h self.old.core (memory_of phys.now) moment) access.now).answer }
         ensures core { (h : Header) → Suits h self.old.core →
-            core_at self.new ≡ with_cache (core_at self.old) (visited (seat_at h self.old.core (memory_of phys.now) now) access.now).cache }
+            core_at self.new ≡ with_cache (core_at self.old) (visited (seat_at h self.old.core (memory_of phys.now) moment) access.now).cache }
         ensures build { build_of self.new ≡ build_of self.old }
         ensures line { HasRunLine result.outcome }
     {
-        self.cpu.access(phys, now, access)
+        self.cpu.access(phys, moment, access)
     }
 }
 

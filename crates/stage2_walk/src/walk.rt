@@ -80,13 +80,13 @@ fn walk_left<const G: u32, S: Supply>(
 }
 
 /// The walk through stage 2 from a table down to a leaf, for an IPA that is not refused. `ptw` marks the place of a
-/// stage 1 descriptor. The items of its words are appended, with moment `now`.
+/// stage 1 descriptor. The items of its words are appended, with this moment.
 pub fn walk2<const G: u32, S: Supply>(
     config: &Config,
     from: &From2,
     ipa: u64,
     ptw: bool,
-    now: u32,
+    moment: u32,
     supply: &mut S,
     trail: &mut Trail,
 ) -> Result<Leaf2, Stop>
@@ -102,13 +102,13 @@ pub fn walk2<const G: u32, S: Supply>(
     ensures line { IfErr result HasLineStop }
     ensures sound { IfOk result (IsSoundLeaf ipa) }
     ensures walked { WalkedFrom (S.memory supply.old) (Rose (S.faults supply.old) (S.faults supply.new))
-        (record { config = config.now; ipa = ipa; s1ptw = ptw; moment = now; from = from.now }) trail.old trail.new result }
+        (record { config = config.now; ipa = ipa; s1ptw = ptw; moment = moment; from = from.now }) trail.old trail.new result }
 {
     let under = Under {
         config,
         ipa,
         sizes: sizes2(config),
-        moment: now,
+        moment,
         s1ptw: ptw,
     };
     walk_left::<G, S>(&under, left_below(from.level), from.base, supply, trail)

@@ -80,14 +80,14 @@ fn stopped(stop: Stop) -> Outcome
     }
 }
 
-/// The walk of an access through both stages: how it comes out. The items that it used, all of moment `now`, are put into
+/// The walk of an access through both stages: how it comes out. The items that it used, all of this moment, are put into
 /// an empty trail, which is the caller's since it is large. Where the supply tells its memory and does not fail, both are
 /// those of the fresh walk. It is never a conflict, and a fault has a status code.
 #[inline(never)]
 pub fn translate_at<S: Supply>(
     force: &InForce,
     access: &Access,
-    now: u32,
+    moment: u32,
     supply: &mut S,
     trail: &mut Trail,
 ) -> Outcome
@@ -97,10 +97,10 @@ pub fn translate_at<S: Supply>(
     ensures later { S.faults supply.old ≤ S.faults supply.new }
     ensures kept { S.keeps supply.old supply.new }
     ensures line { HasLine result }
-    ensures walked { WalkedWhole force.now access.now now (S.memory supply.old) (Rose (S.faults supply.old) (S.faults supply.new)) trail.new result }
-    ensures fresh { IsFresh force.now access.now now (S.memory supply.old) (Rose (S.faults supply.old) (S.faults supply.new)) trail.new result }
+    ensures walked { WalkedWhole force.now access.now moment (S.memory supply.old) (Rose (S.faults supply.old) (S.faults supply.new)) trail.new result }
+    ensures fresh { IsFresh force.now access.now moment (S.memory supply.old) (Rose (S.faults supply.old) (S.faults supply.new)) trail.new result }
 {
-    match whole(&Under::of(force, now), access, supply, trail) {
+    match whole(&Under::of(force, moment), access, supply, trail) {
         Ok(outcome) => outcome,
         Err(stop) => stopped(stop),
     }

@@ -62,14 +62,14 @@ fn first1(base: u64, level: i8) -> From1
     }
 }
 
-/// Appends the base of stage 1 for a side, with moment `now`, and answers its table, without bits of tables above it, or
+/// Appends the base of stage 1 for a side, with this moment, and answers its table, without bits of tables above it, or
 /// the fault of a base that is too large. `level` is the side's start level.
 pub fn root1(
     regs: &Regs,
     config: &Config,
     side: Side,
     level: i8,
-    now: u32,
+    moment: u32,
     trail: &mut Trail,
 ) -> Result<From1, Fault>
     requires fields { AreFieldsOf config.now regs.now }
@@ -78,14 +78,14 @@ pub fn root1(
     requires level { level ≡ level_of (Rattle.table_reads.specs.Numbers.sizes1 config.now side).start }
     requires room { length trail.old < most_items }
     ensures item { trail.new
-        ≡ trail.old ++ base_item now S1 (Rattle.table_reads.specs.Numbers.sizes1 (config_of regs.now) side) (start_base1 regs.now side) ∷ [] }
+        ≡ trail.old ++ base_item moment S1 (Rattle.table_reads.specs.Numbers.sizes1 (config_of regs.now) side) (start_base1 regs.now side) ∷ [] }
     ensures value { result ≡ root1_of regs.now side }
     ensures table { IfOk result (Clauses.IsTableOf config.now side) }
 {
     let sizes = sizes_of1(regs, config, side);
     let base = base_of1(regs, side, &sizes);
     let walker = Walker {
-        moment: now,
+        moment,
         stage: Stage::S1,
         s1ptw: false,
     };
@@ -127,14 +127,14 @@ fn first2(base: u64, level: i8) -> From2
     From2 { base, level }
 }
 
-/// Appends the base of stage 2, with moment `now`, and answers its table, or the fault of a base that is too large.
+/// Appends the base of stage 2, with this moment, and answers its table, or the fault of a base that is too large.
 /// `level` is the start level of stage 2, and `ptw` marks the place of a stage 1 descriptor.
 pub fn root2(
     regs: &Regs,
     config: &Config,
     level: i8,
     ptw: bool,
-    now: u32,
+    moment: u32,
     trail: &mut Trail,
 ) -> Result<From2, Fault>
     requires fields { AreFieldsOf config.now regs.now }
@@ -142,14 +142,14 @@ pub fn root2(
     requires sized { IsTrue (is_sized2 config.now) }
     requires level { level ≡ level_of (Rattle.table_reads.specs.Numbers.sizes2 config.now).start }
     requires room { length trail.old < most_items }
-    ensures item { trail.new ≡ trail.old ++ base_item now S2 (Rattle.table_reads.specs.Numbers.sizes2 (config_of regs.now)) (start_base2 regs.now) ∷ [] }
+    ensures item { trail.new ≡ trail.old ++ base_item moment S2 (Rattle.table_reads.specs.Numbers.sizes2 (config_of regs.now)) (start_base2 regs.now) ∷ [] }
     ensures value { result ≡ root2_of regs.now ptw }
     ensures table { IfOk result (Clauses2.IsTableOf config.now) }
 {
     let sizes = sizes_of2(regs, config);
     let base = base_of2(regs, &sizes);
     let walker = Walker {
-        moment: now,
+        moment,
         stage: Stage::S2,
         s1ptw: ptw,
     };

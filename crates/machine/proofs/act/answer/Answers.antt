@@ -12,24 +12,24 @@ unfolding answer_to
 returns-clause-answer c h e is are =
     let m = memory_of c.args.phys.now in
     let s = c.args.seats.now in
-    let w : World = world_of c.args.now m s in
+    let w : World = world_of c.args.moment m s in
     let j = c.args.core in
     let a = c.args.access.now in
     let x = c.index-seats-core.result in
-    let by_walk = ap Some (c.access.ensures.answer h (suits h c.args.now m s are j x c.requires)
-    ∙ ap (λ (p : Seat). (visited p a).answer) (seat_is h c.args.now m s are j x c.requires ∙ ap (seat_of h w j) (sym (core_in c.args.now m s j x c.requires)))) in
+    let by_walk = ap Some (c.access.ensures.answer h (suits h c.args.moment m s are j x c.requires)
+    ∙ ap (λ (p : Seat). (visited p a).answer) (seat_is h c.args.moment m s are j x c.requires ∙ ap (seat_of h w j) (sym (core_in c.args.moment m s j x c.requires)))) in
     by_asked (λ (v : Event). Some c.access.result ≡ answer_to h w v) j a by_walk by_walk e is
 
 pub returns-clause-cores : goal.returns-clause-cores
 returns-clause-cores c h e is are d lt =
     let m = memory_of c.args.phys.now in
     let s = c.args.seats.now in
-    let w : World = world_of c.args.now m s in
+    let w : World = world_of c.args.moment m s in
     let j = c.args.core in
     let a = c.args.access.now in
     let x = c.index-seats-core.result in
-    let visit = c.access.ensures.core h (suits h c.args.now m s are j x c.requires)
-    ∙ ap (λ (p : Seat). with_cache (core_at (get_or s j x)) (visited p a).cache) (seat_is h c.args.now m s are j x c.requires) in
+    let visit = c.access.ensures.core h (suits h c.args.moment m s are j x c.requires)
+    ∙ ap (λ (p : Seat). with_cache (core_at (get_or s j x)) (visited p a).cache) (seat_is h c.args.moment m s are j x c.requires) in
     by_asked (λ (v : Event). core_at (get_or (set s j c.access.new.self) d no_seat) ≡ moved h w v d (core_at (get_or s d no_seat))) j a
     (one_at core_at (moved h w (AccessOf j a)) s j x c.access.new.self c.requires (visit ∙ access_own h w j a _) (λ k v ne. access_other h w j a k v ne) d)
     (one_at core_at (moved h w (Prefetch j a)) s j x c.access.new.self c.requires (visit ∙ prefetch_own h w j a _) (λ k v ne. prefetch_other h w j a k v ne) d) e is
