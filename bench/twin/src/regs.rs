@@ -41,15 +41,15 @@ impl Reg {
         })
     }
 
-    /// The lowest field that a value sets and that is not supported, with the register's name.
+    /// The lowest field that a value sets and that a run does not support, with the register's name.
     pub fn unsupported(self, value: u64) -> Option<&'static str> {
         let refused: &[(u32, &'static str)] = match self {
             Reg::Sctlr => &[(25, "SCTLR_EL1.EE")],
-            Reg::Tcr => &[(59, "TCR_EL1.DS")],
+            Reg::Tcr => &[(39, "TCR_EL1.HA"), (40, "TCR_EL1.HD"), (59, "TCR_EL1.DS")],
             Reg::Hcr => {
                 &[(12, "HCR_EL2.DC"), (27, "HCR_EL2.TGE"), (32, "HCR_EL2.CD"), (33, "HCR_EL2.ID"), (46, "HCR_EL2.FWB")]
             }
-            Reg::Vtcr => &[(32, "VTCR_EL2.DS")],
+            Reg::Vtcr => &[(21, "VTCR_EL2.HA"), (22, "VTCR_EL2.HD"), (32, "VTCR_EL2.DS")],
             _ => &[],
         };
         refused.iter().find(|(bit, _)| flag(value, *bit)).map(|(_, name)| *name)
