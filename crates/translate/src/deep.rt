@@ -2,22 +2,21 @@
 ghost use Rattle.std.specs.Prelude.{◌≡◌, ◌+◌, ◌*◌, ◌≤◌, length, true, IsFalse, IfErr};
 ghost use Rattle.bitwords.specs.Causes.{Rose};
 ghost use Rattle.geometry.specs.Tables.{left_below};
-ghost use Rattle.sysregs.specs.Registers.{InRange, config_of};
+ghost use Rattle.sysregs.specs.Registers.{config_of};
 ghost use Rattle.sysregs.specs.Sides.{side_of};
 ghost use Rattle.trails.specs.Lengths.{most_items, most_per_word};
-ghost use Rattle.walk_spec.specs.BothStages.{asked, is_refused1};
+ghost use Rattle.walk_spec.specs.BothStages.{is_refused1};
 ghost use Rattle.walk_spec.specs.Walked.{HasLineStop};
 ghost use Rattle.stage1_walk.specs.Clauses.{IsTableOf, table_from};
-ghost use Rattle.stage1_walk.specs.Gave.{HasCode, Walked1};
+ghost use Rattle.stage1_walk.specs.Gave.{Walked1};
 ghost use Rattle.translate.specs.Deep.{DeepGave, WalkedFrom1, walker1};
 
 use crate::parts::descriptor_read;
 use crate::stage2::stage2;
+use crate::tables::walk1_from;
 use crate::under::Under;
 use fault_codes::Stage;
-use geometry::case_table;
-use stage1_walk::{From1, Supply1, walk1};
-use sysregs::{Config, Tg};
+use stage1_walk::{From1, Supply1};
 use table_reads::{Supply, Walker, read};
 use trails::{Access, Stop, Trail};
 use walk_spec::Leaf1;
@@ -60,27 +59,6 @@ impl<'a, S: Supply> Supply1 for Deep<'a, S> {
     }
 }
 
-/// The walk from a table over any supply of words of stage 1, by the granule of the side.
-fn walk_granule<D: Supply1>(
-    config: &Config,
-    access: &Access,
-    from: &From1,
-    supply: &mut D,
-    trail: &mut Trail,
-) -> Result<Leaf1, Stop>
-    requires config { InRange config.now }
-    requires accepted { IsFalse (is_refused1 config.now access.now) }
-    requires table { IsTableOf config.now (side_of access.now.va) from.now }
-    requires room { length trail.old + most_per_word * (left_below from.now.level + 1) ≤ most_items }
-    ensures most { length trail.new ≤ length trail.old + most_per_word * (left_below from.now.level + 1) }
-    ensures code { IfErr result HasCode }
-    ensures walked { Walked1 D.gives (asked config.now true access.now) (left_below from.now.level) (table_from from.now)
-        supply.old trail.old trail.new result supply.new }
-{
-    let tg = config.tg(sysregs::side(access.va));
-    case_table!(granule tg; walk1::<_, D>(config, access, from, supply, trail))
-}
-
 /// Stage 1 from a table, over a supply that keeps its reference.
 fn walk_kept<S: Supply>(
     under: &Under,
@@ -102,7 +80,7 @@ fn walk_kept<S: Supply>(
     ensures walked { WalkedFrom1 (S.memory deep.old.supply.now) (Rose (S.faults deep.old.supply.now) (S.faults deep.new.supply.now))
         under.now access.now (left_below from.now.level) (table_from from.now) trail.old trail.new result }
 {
-    walk_granule::<Deep<S>>(under.config(), access, from, deep, trail)
+    walk1_from::<Deep<S>>(under.config(), access, from, deep, trail)
 }
 
 /// Stage 1 from a table, with the stage 2 of its words.

@@ -9,13 +9,15 @@ mod replayed;
 mod stage1;
 mod stage2;
 mod stand;
+mod tables;
 mod under;
 mod whole;
 
 pub use begin::Begin1;
 pub use replayed::Replay;
+pub use tables::{walk1_from, walk2_from};
 pub use under::InForce;
-pub use whole::{translate, translate_at};
+pub use whole::{output, translate, translate_at};
 
 #[cfg(test)]
 mod tests;

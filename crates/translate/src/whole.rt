@@ -16,7 +16,7 @@ use trails::{Access, Outcome, Stop, Trail};
 use walk_spec::Leaf1;
 
 /// The output of stage 1 in bytes; while it is off, VA bits 51 to 0.
-pub(crate) fn output(access: &Access, leaf: Option<&Leaf1>) -> u64
+pub fn output(access: &Access, leaf: Option<&Leaf1>) -> u64
     ensures { result ≡ out_of access.now (option_map (λ l. l.now) leaf.entry) }
 {
     match leaf {
