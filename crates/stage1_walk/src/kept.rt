@@ -18,10 +18,10 @@ use crate::walk::untagged;
 use descriptors::Kind1;
 use fault_codes::Stage;
 use geometry::serves_run;
+use kept_items::is_word;
 use sysregs::Config;
 use table_reads::{Step, place};
 use trails::{Access, Item};
-use walk_spec::items::is_word;
 use walk_spec::{Entry1, Leaf1, Table1};
 
 /// What a walk of an access that is not refused is done under.

@@ -21,11 +21,11 @@ use crate::walk::From2;
 use descriptors::Kind2;
 use fault_codes::{Class, Fault, Stage};
 use geometry::{case_table, serves_run};
+use kept_items::{fits_base, is_word, item_at};
 use sysregs::{Config, Tg};
 use table_reads::{MOST_LEFT, Step, Walker, fault, is_too_large, level, place};
 use trails::Item;
 use walk_spec::Leaf2;
-use walk_spec::items::{fits_base, is_word};
 
 /// How a walk through stage 2 stands on the items of a list, from a place of the list on: at a leaf or a fault, with the
 /// place of the first item that is left over; before the word that it needs of a table; before its base; or at an item
@@ -37,14 +37,6 @@ pub enum Stood2 {
     Within { from: From2 },
     Before,
     Unfit,
-}
-
-/// The item at a place.
-fn item_at(items: &[Item], at: usize) -> Item
-    requires { at < length items.now }
-    ensures { result ≡ slice_index_or items.now at result }
-{
-    items[at]
 }
 
 /// A table with so many levels left.

@@ -17,17 +17,17 @@ ghost use Rattle.translate.specs.Replayed.{IsReplayed, IsStoodOn, stands_stage1}
 use crate::begin::Begin1;
 use crate::parts::{begin1, finish, refusal};
 use crate::replayed::Replay;
-use crate::stand::{Stood1, item_at, stand1};
+use crate::stand::{Stood1, stand1};
 use crate::whole::output;
 use fault_codes::{Class, Fault, Stage};
 use geometry::case_table;
+use kept_items::{fits_base, item_at};
 use permissions::TableBits;
 use stage1_walk::sizes1;
 use stage2_walk::{Stood2, stand2};
 use sysregs::{Config, Tg};
 use table_reads::{Sizes, is_too_large};
 use trails::{Access, Item, Outcome, Trail};
-use walk_spec::items::fits_base;
 use walk_spec::{Leaf1, Table1};
 
 /// It ended with a fault.

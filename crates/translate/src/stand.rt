@@ -14,12 +14,34 @@ ghost use Rattle.translate.specs.Standing.{IsStoodWord, IsStood1, EndsAtTop, fro
 use crate::parts::descriptor_read;
 use fault_codes::Fault;
 use geometry::case_table;
+use kept_items::item_at;
 use stage1_walk::{From1, entry1, fits_entry, step_kept};
 use stage2_walk::{Stood2, stand2};
 use sysregs::{Config, Tg};
 use table_reads::{Step, level};
 use trails::{Access, Item};
 use walk_spec::{Entry1, Leaf1, Table1};
+
+/// How the word of an entry stands on the items of a list, from a place of the list on: it is there, or a fault is, with
+/// the place of the first item that is left over; an item is needed; or one doesn't fit.
+#[derive(Clone, Copy, Debug, PartialEq, Eq)]
+pub(crate) enum StoodWord {
+    Had { item: Item, at: usize },
+    Refused { fault: Fault, at: usize },
+    Needs,
+    Unfit,
+}
+
+/// How stage 1 stands: at a leaf or a fault; before the words of a table, of which no item was taken; within the items of
+/// a word; or at an item that doesn't fit.
+#[derive(Clone, Copy, Debug, PartialEq, Eq)]
+pub(crate) enum Stood1 {
+    Found { leaf: Leaf1, at: usize },
+    Refused { fault: Fault, at: usize },
+    AtTable { from: From1 },
+    Within,
+    Unfit,
+}
 
 /// How the word of an entry stands on the items of a list, from a place of the list on: it is there, or a fault is, with
 /// the place of the first item that is left over; an item is needed; or one doesn't fit.

@@ -3,7 +3,6 @@ pub mod Feeding
 pub mod Finer
 pub mod Walks
 pub mod Kept
-pub mod StartTables
 pub mod FreshWalks
 pub mod Worked
 pub mod WorkedSizes

@@ -2,7 +2,6 @@
 #![tactic(auto)]
 
 mod entry;
-pub mod items;
 mod leaf;
 
 pub use entry::{Entry1, Table1};

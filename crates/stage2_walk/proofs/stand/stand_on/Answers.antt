@@ -3,7 +3,7 @@ use Rattle.walk_spec.specs.Needs.{fits}
 use Rattle.stage2_walk.specs.Under.{asked_under, regime_under}
 use Rattle.stage2_walk.specs.Standing.{IsStood2}
 use Rattle.walk_spec.proofs.Kept.{asks_none, asks_off, asks_by}
-use Rattle.walk_spec.proofs.StartTables.{base2_sound}
+use Rattle.kept_items.proofs.StartTables.{base2_sound}
 use Rattle.sysregs.specs.declared.regs.Side.TheVariants.{Low}
 use Rattle.stage2_walk.proofs.OnKept.{asks_base}
 use Rattle.stage2_walk.proofs.stand.stand_on.Goals as goal

@@ -1,7 +1,7 @@
 use Rattle.std.proofs.Common.{◌<◌, length, arith}
 use Rattle.sysregs.specs.Sides.{side_of}
 use Rattle.walk_spec.specs.Needs.{regime_of}
-use Rattle.walk_spec.proofs.StartTables.{base1_sound}
+use Rattle.kept_items.proofs.StartTables.{base1_sound}
 use Rattle.translate.proofs.Begins1.{started, start_top}
 use Rattle.translate.proofs.replay.stand_start.Goals as goal
 

@@ -1,5 +1,7 @@
-//! Which kept items are what a walk needs.
-ghost use Rattle.std.specs.Prelude.{◌≡◌, ◌≤◌, ◌<◌, ◌&&◌};
+//! Items of a trail that was kept: whether one is what a walk needs.
+#![tactic(auto)]
+
+ghost use Rattle.std.specs.Prelude.{◌≡◌, ◌≤◌, ◌<◌, ◌&&◌, length, slice_index_or};
 ghost use Rattle.geometry.specs.Tables.{most_left, level_of, table_size};
 ghost use Rattle.table_reads.specs.Numbers.{AreSound};
 ghost use Rattle.walk_spec.specs.Needs;
@@ -8,6 +10,14 @@ use bitwords::power;
 use fault_codes::Stage;
 use table_reads::{Sizes, level};
 use trails::{Item, What};
+
+/// The item at a place of a trail.
+pub fn item_at(items: &[Item], at: usize) -> Item
+    requires { at < length items.now }
+    ensures { result ≡ slice_index_or items.now at result }
+{
+    items[at]
+}
 
 fn is_same_level(a: i8, b: i8) -> bool
     ensures { result ≡ Needs.level_eq a b }
