@@ -25,15 +25,9 @@ machine_of s = world_of (length s.log) (memory_of s.phys) s.seats
 
 -- the core and the access of an event that asks for one
 abbrev pub asked_of : (event : Event) → Option (ℕ × Access)
-asked_of (Store core pa value) = None
-asked_of (Msr core reg value) = None
-asked_of (Settle core) = None
-asked_of (Isb core) = None
-asked_of (Tlbi core from op shared operand) = None
-asked_of (Dsb core kind) = None
-asked_of (Deliver core) = None
 asked_of (AccessOf core access) = Some (core, access)
 asked_of (Prefetch core access) = Some (core, access)
+asked_of _ = None
 
 -- an outcome that is no conflict has a line
 abbrev pub IsTold : (answer : Option Answer) → Type 0

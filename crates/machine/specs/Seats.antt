@@ -59,10 +59,4 @@ world_of k m seats = record { step = k; memory = m; cores = map core_at seats }
 abbrev pub IsDoable : (memory : Memory) (event : Event) → Type 0
 IsDoable m (Store core pa value) = (is_aligned pa ≡ true) × (is_some (m pa) ≡ true)
 IsDoable m (Msr core reg value) = refused_field reg value ≡ None
-IsDoable m (Settle core) = Unit {0}
-IsDoable m (Isb core) = Unit {0}
-IsDoable m (Tlbi core from op shared operand) = Unit {0}
-IsDoable m (Dsb core kind) = Unit {0}
-IsDoable m (Deliver core) = Unit {0}
-IsDoable m (Access core access) = Unit {0}
-IsDoable m (Prefetch core access) = Unit {0}
+IsDoable m _ = Unit {0}

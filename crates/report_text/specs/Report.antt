@@ -34,15 +34,9 @@ answered_text n core word access (Some a) = event_text n core word access a.asid
 
 -- the lines of an event with its answer: only accesses and prefetches have some
 abbrev pub lines_of : (number : ℕ) (event : Event) (answer : Option Answer) → List ℕ
-lines_of n (Store core pa value) a = []
-lines_of n (Msr core reg value) a = []
-lines_of n (Settle core) a = []
-lines_of n (Isb core) a = []
-lines_of n (Tlbi core from op shared operand) a = []
-lines_of n (Dsb core kind) a = []
-lines_of n (Deliver core) a = []
 lines_of n (AccessOf core access) a = answered_text n core (codes "access") access a
 lines_of n (Prefetch core access) a = answered_text n core (codes "prefetch") access a
+lines_of n _ a = []
 
 -- the lines of a step
 abbrev pub step_text : (number : ℕ) (step : Step) → List ℕ

@@ -16,15 +16,8 @@ pub record IsBuilt (h : Header) : Type 0 where
 
 -- whether an event is a prefetch, which no text may name today
 abbrev pub is_prefetch : (event : Event) → Bool
-is_prefetch (Store core pa value) = false
-is_prefetch (Msr core reg value) = false
-is_prefetch (Settle core) = false
-is_prefetch (Isb core) = false
-is_prefetch (Tlbi core from op shared operand) = false
-is_prefetch (Dsb core kind) = false
-is_prefetch (Deliver core) = false
-is_prefetch (Access core access) = false
 is_prefetch (Prefetch core access) = true
+is_prefetch _ = false
 
 -- no event of a trace is one
 abbrev pub HasNoPrefetch : (t : Parts) → Type 0
@@ -34,13 +27,10 @@ HasNoPrefetch t = All (λ e. is_prefetch e ≡ false) t.events
 abbrev pub HasWords : (event : Event) → Type 0
 HasWords (Store core pa value) = (pa < 2 ^ 64) × (value < 2 ^ 64)
 HasWords (Msr core reg value) = value < 2 ^ 64
-HasWords (Settle core) = Unit {0}
-HasWords (Isb core) = Unit {0}
 HasWords (Tlbi core from op shared operand) = operand < 2 ^ 64
-HasWords (Dsb core kind) = Unit {0}
-HasWords (Deliver core) = Unit {0}
 HasWords (Access core access) = access.va < 2 ^ 64
 HasWords (Prefetch core access) = access.va < 2 ^ 64
+HasWords _ = Unit {0}
 
 -- before the first event there is none, and before the first range neither
 abbrev pub KeepsLimitsIn : (phase : Phase) (trace : Parts) → Type 0

@@ -67,13 +67,9 @@ RangesFitBehind earlier (r ∷ ranges) = RangeFits earlier r × RangesFitBehind 
 abbrev pub EventFitsBy : (header : Header) (event : Event) → Type 0
 EventFitsBy h (Store core pa value) = (is_aligned pa ≡ true) × (is_within h.ranges pa ≡ true)
 EventFitsBy h (Msr core reg value) = msr_refused_field reg value ≡ None
-EventFitsBy h (Settle core) = Unit {0}
-EventFitsBy h (Isb core) = Unit {0}
 EventFitsBy h (Tlbi core from op shared operand) = (may_issue from op ≡ true) × (has_operand (form_of op).scope ≡ false → operand ≡ 0)
-EventFitsBy h (Dsb core kind) = Unit {0}
-EventFitsBy h (Deliver core) = Unit {0}
-EventFitsBy h (Access core access) = Unit {0}
 EventFitsBy h (Prefetch core access) = access.pan ≡ false
+EventFitsBy h _ = Unit {0}
 
 -- the core that does an event
 abbrev pub core_of : (event : Event) → ℕ

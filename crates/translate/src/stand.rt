@@ -43,35 +43,6 @@ pub(crate) enum Stood1 {
     Unfit,
 }
 
-/// How the word of an entry stands on the items of a list, from a place of the list on: it is there, or a fault is, with
-/// the place of the first item that is left over; an item is needed; or one doesn't fit.
-#[derive(Clone, Copy, Debug, PartialEq, Eq)]
-pub(crate) enum StoodWord {
-    Had { item: Item, at: usize },
-    Refused { fault: Fault, at: usize },
-    Needs,
-    Unfit,
-}
-
-/// How stage 1 stands: at a leaf or a fault; before the words of a table, of which no item was taken; within the items of
-/// a word; or at an item that doesn't fit.
-#[derive(Clone, Copy, Debug, PartialEq, Eq)]
-pub(crate) enum Stood1 {
-    Found { leaf: Leaf1, at: usize },
-    Refused { fault: Fault, at: usize },
-    AtTable { from: From1 },
-    Within,
-    Unfit,
-}
-
-/// The item at a place.
-pub(crate) fn item_at(items: &[Item], at: usize) -> Item
-    requires { at < length items.now }
-    ensures { result ≡ slice_index_or items.now at result }
-{
-    items[at]
-}
-
 /// How the word of an entry stands that is read at a physical place.
 fn stand_read<const G: u32>(
     config: &Config,
