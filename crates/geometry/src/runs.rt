@@ -1,6 +1,6 @@
 ghost use Rattle.std.specs.Prelude.{◌≡◌, ◌≤◌};
 ghost use Rattle.geometry.specs.Tables.{IsGranule, most_left};
-ghost use Rattle.geometry.specs.Runs.{run_of};
+ghost use Rattle.geometry.specs.Runs.{run_class};
 
 use crate::case_table;
 
@@ -8,7 +8,7 @@ use crate::case_table;
 pub fn run_class<const G: u32, const LEFT: u32>() -> Option<u32>
     requires granule { IsGranule G }
     requires left { LEFT ≤ most_left }
-    ensures { result ≡ run_of G LEFT }
+    ensures { result ≡ run_class G LEFT }
 {
     case_table!((G, LEFT);
         (12, 2) => Some(34),

@@ -5,7 +5,7 @@ use Rattle.std.proofs.lemmas.Bool.Decides.{nat_tests}
 use Rattle.std.proofs.lemmas.List.{take_more, drop_all, length-replicate}
 use Rattle.std.proofs.lemmas.List.Elements.{All-nil, All-cons, All-head, All-tail}
 use Rattle.phys_mem.specs.Ranges.{is_range, first_place, bytes_of}
-use Rattle.phys_mem.specs.Words.{IsWhole, AreKept, IsKept}
+use Rattle.phys_mem.specs.Words.{IsWhole, AreHeld, IsHeld}
 
 -- what passes the test is whole words, at least one
 pub whole : (r : ℕ × ℕ) → is_range r ≡ true → IsWhole r
@@ -47,7 +47,7 @@ sum_goes_on ranges i sum next below e n =
     omega (arith, more, e, n)
 
 -- memory is small enough that a word holds its bytes
-pub small_sum : (ranges : List (ℕ × ℕ)) (sum : ℕ) → AreKept ranges → sum ≡ min (bytes_of ranges) (2 ^ 64 - 1) → sum ≡ bytes_of ranges
+pub small_sum : (ranges : List (ℕ × ℕ)) (sum : ℕ) → AreHeld ranges → sum ≡ min (bytes_of ranges) (2 ^ 64 - 1) → sum ≡ bytes_of ranges
 small_sum ranges sum kept e = let small = kept.small in omega (arith, small, e)
 
 whole_bytes : (ranges : List (ℕ × ℕ)) → All IsWhole ranges → bytes_of ranges % 8 ≡ 0
@@ -56,8 +56,8 @@ whole_bytes (r ∷ ranges) h = omega (arith, (All-head IsWhole r ranges h).lengt
 
 -- so many words are all bytes of the ranges
 pub opened
-    : (given ranges : List (ℕ × ℕ)) (words : List ℕ) (bytes : ℕ) → ranges ≡ given → AreKept given → bytes ≡ bytes_of given → words ≡ replicate (bytes / 8) 0
-    → IsKept (record { ranges = ranges; words = words })
+    : (given ranges : List (ℕ × ℕ)) (words : List ℕ) (bytes : ℕ) → ranges ≡ given → AreHeld given → bytes ≡ bytes_of given → words ≡ replicate (bytes / 8) 0
+    → IsHeld (record { ranges = ranges; words = words })
 opened given ranges words bytes same kept e n =
     let count : length words ≡ bytes / 8 = ap length n ∙ length-replicate (bytes / 8) 0 in
     let all : 8 * length words ≡ bytes_of given = omega (arith, count, e, whole_bytes given kept.whole) in

@@ -39,12 +39,12 @@ pub record IsWhole (r : ℕ × ℕ) : Type 0 where
   pub end : r.0 + r.1 ≤ 2 ^ 52
 
 -- at most 16 ranges of whole words, of 64 MiB at most
-pub record AreKept (ranges : List (ℕ × ℕ)) : Type 0 where
+pub record AreHeld (ranges : List (ℕ × ℕ)) : Type 0 where
   pub whole : All IsWhole ranges
   pub few : length ranges ≤ 16
   pub small : bytes_of ranges ≤ 64 * 2 ^ 20
 
 -- such ranges, and a word for each eight bytes of them
-pub record IsKept (held : Held) : Type 0 where
-  pub kept : AreKept held.ranges
+pub record IsHeld (held : Held) : Type 0 where
+  pub kept : AreHeld held.ranges
   pub all : 8 * length held.words ≡ bytes_of held.ranges

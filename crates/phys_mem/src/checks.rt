@@ -1,7 +1,7 @@
 //! Which lists of ranges are refused.
 ghost use Rattle.std.specs.Prelude.{◌≡◌, All, [], not, IfOk, IfNone, MatchResult};
 ghost use Rattle.phys_mem.specs.Ranges.{share_byte, first_place, bad_place, overlap_behind, is_too_large, refusal_of, refusal_in};
-ghost use Rattle.phys_mem.specs.Words.{IsWhole, AreKept};
+ghost use Rattle.phys_mem.specs.Words.{IsWhole, AreHeld};
 
 use crate::ranges::{bytes_in, is_range, share_byte};
 use crate::refusal::PhysError;
@@ -60,7 +60,7 @@ fn is_too_large(ranges: &[(u64, u64)]) -> bool
 #[tactic(auto, unfolding(crate::specs::Ranges::refusal_of))]
 pub fn check(ranges: &[(u64, u64)]) -> Result<(), PhysError>
     ensures refusal { MatchResult result (λ _. refusal_of ranges.now ≡ None) (λ e. refusal_of ranges.now ≡ refusal_in e) }
-    ensures fits { IfOk result (λ _. AreKept ranges.now) }
+    ensures fits { IfOk result (λ _. AreHeld ranges.now) }
 {
     if let Some(place) = bad_place(ranges) {
         return Err(PhysError::BadRange { place });

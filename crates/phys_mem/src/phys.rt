@@ -1,7 +1,7 @@
 ghost use Rattle.std.specs.Prelude.{◌≡◌, ◌≤◌, ◌+◌, ◌*◌, ◌&&◌, length, All, is_some, IfOk, IfErr, IfSome, MatchBool};
 ghost use Rattle.phys_mem.specs.Memory.{zeros, stored_at, loaded, is_aligned};
 ghost use Rattle.phys_mem.specs.Ranges.{bytes_of, refusal_of, refusal_in};
-ghost use Rattle.phys_mem.specs.Words.{IsWhole, AreKept, memory_of, index_from, index_of};
+ghost use Rattle.phys_mem.specs.Words.{IsWhole, AreHeld, memory_of, index_from, index_of};
 
 use crate::checks::check;
 use crate::ranges::{WORD, bytes_in, is_aligned};
@@ -17,18 +17,18 @@ pub struct Phys {
 }
 
 impl Model for Phys {
-    ghost use Rattle.phys_mem.specs.Words.{Held, IsKept};
+    ghost use Rattle.phys_mem.specs.Words.{Held, IsHeld};
 
     ghost Value = { Held };
 
     ghost view = { λ p. record { ranges = p.ranges.items; words = p.words.items } };
 
-    ghost invariant = { λ p. IsKept (record { ranges = p.ranges.items; words = p.words.items }) };
+    ghost invariant = { λ p. IsHeld (record { ranges = p.ranges.items; words = p.words.items }) };
 }
 
 /// Which word holds the eight bytes from a place on, where the words of all ranges stand one behind the other.
 fn index_in(ranges: &[(u64, u64)], pa: u64) -> Option<usize>
-    requires { AreKept ranges.now }
+    requires { AreHeld ranges.now }
     ensures { result ≡ index_from 0 ranges.now pa }
 {
     let mut first = 0;
@@ -43,7 +43,7 @@ fn index_in(ranges: &[(u64, u64)], pa: u64) -> Option<usize>
 
 /// Which word stands at a place.
 fn index_of(ranges: &[(u64, u64)], pa: u64) -> Option<usize>
-    requires { AreKept ranges.now }
+    requires { AreHeld ranges.now }
     ensures is { result ≡ index_of ranges.now pa }
     ensures within { IfSome result (λ k. 8 * k + 8 ≤ bytes_of ranges.now) }
 {
