@@ -5,7 +5,7 @@ use Rattle.std.proofs.lemmas.Nat.{mod_below, pow_pos, shl_below}
 use Rattle.std.proofs.Math.Nat.{div-mul-le_self, mul-le-mul_left}
 use Rattle.std.proofs.Math.Pow.{pow_mono}
 use Rattle.geometry.specs.Tables.{IsGranule, class_of}
-use Rattle.geometry.specs.Runs.{run_class}
+use Rattle.geometry.specs.Runs.{run_at}
 
 pub index_small : (x top k : ℕ) → top ≤ 56 → 12 ≤ k → x % 2 ^ top / 2 ^ k < 2 ^ 44
 index_small x top k h l =
@@ -23,7 +23,7 @@ offset_small p run class h l =
     omega arith
 
 -- a run is larger than its entries
-pub run_sizes : (g left run : ℕ) → IsGranule g → run_class g left ≡ Some run → (class_of g left ≤ run) × (run ≤ 34)
+pub run_sizes : (g left run : ℕ) → IsGranule g → run_at g left ≡ Some run → (class_of g left ≤ run) × (run ≤ 34)
 run_sizes g left run h e = (grind (arith, nat_tests), grind (arith, nat_tests))
 
 -- the words of a run take no more than 2 ^ 37 bytes

@@ -8,8 +8,8 @@ abbrev pub run_rows : List (ℕ × ℕ × ℕ)
 run_rows = (12, 2, 34) ∷ (12, 1, 25) ∷ (12, 0, 16) ∷ (14, 1, 30) ∷ (14, 0, 21) ∷ (16, 1, 34) ∷ (16, 0, 21) ∷ []
 
 -- the class of a run at a level, where it has one
-abbrev pub run_class : (granule left : ℕ) → Option ℕ
-run_class g left = row_at run_rows g left
+abbrev pub run_at : (granule left : ℕ) → Option ℕ
+run_at g left = row_at run_rows g left
 
 -- where an address goes by an entry or a run of this class whose output is out
 abbrev pub goes_to : (out class address : ℕ) → ℕ
@@ -23,7 +23,7 @@ fits_run (Some run) class input out place = nat_le run input && (out % 2 ^ run =
 -- A Contiguous bit counts: the level has a run, the run is no larger than the input range, and the output stands in
 -- it as the word at its place stands among the run's words. Where it doesn't, the bit is ignored (this project's own rule).
 abbrev pub is_counted : (granule input left out place : ℕ) → Bool
-is_counted g input left out place = fits_run (run_class g left) (class_of g left) input out place
+is_counted g input left out place = fits_run (run_at g left) (class_of g left) input out place
 
 -- the class of the run, or of the entry where there is none
 abbrev pub class_in : (run : Option ℕ) (class : ℕ) → ℕ
@@ -33,8 +33,8 @@ class_in (Some run) class = run
 -- the class of a leaf: that of its run where the Contiguous bit is set and counts, else that of the entry
 abbrev pub leaf_class : (granule input left out : ℕ) (contiguous : Bool) (place : ℕ) → ℕ
 leaf_class g input left out contiguous place =
-    if contiguous && is_counted g input left out place then class_in (run_class g left) (class_of g left) else class_of g left
+    if contiguous && is_counted g input left out place then class_in (run_at g left) (class_of g left) else class_of g left
 
 -- two places hold words of one run of this level
 abbrev pub is_one_run : (granule left place other : ℕ) → Bool
-is_one_run g left place other = let line = 8 * 2 ^ (class_in (run_class g left) (class_of g left) - class_of g left) in place / line == other / line
+is_one_run g left place other = let line = 8 * 2 ^ (class_in (run_at g left) (class_of g left) - class_of g left) in place / line == other / line

@@ -5,7 +5,7 @@ use Rattle.std.proofs.lemmas.Bool.Decides.{nat_tests}
 use Rattle.std.proofs.lemmas.Bool.{leb-true}
 use Rattle.std.proofs.Math.Nat.{mul-le-mul_right}
 use Rattle.geometry.specs.Tables.{IsGranule, class_of, top_of, level_of}
-use Rattle.geometry.specs.Runs.{run_class, class_in, fits_run, is_counted, is_one_run}
+use Rattle.geometry.specs.Runs.{run_at, class_in, fits_run, is_counted, is_one_run}
 use Rattle.geometry.proofs.Indices.{same_index}
 use Rattle.fault_codes.specs.declared.fault.Fault.{Fault}
 use Rattle.fault_codes.specs.declared.fault.Stage.{Stage}
@@ -20,7 +20,7 @@ use Rattle.walk_laws.proofs.Numbers.{coarser, one_line, line_bytes}
 
 -- the class of a run of a level, or of an entry where the level has none
 abbrev pub run_class : (granule left : ℕ) → ℕ
-run_class g left = class_in (run_class g left) (class_of g left)
+run_class g left = class_in (run_at g left) (class_of g left)
 
 -- a run has 2 to this many entries
 abbrev pub run_bits : (granule left : ℕ) → ℕ
@@ -75,7 +75,7 @@ run_fits (Some run) class input out place h = leb-true run input (first_of_and _
 -- a run that counts is no larger than the input range
 pub counted_fits : (m : Option (ℕ × Bool)) (n : Sizes) (left pa : ℕ) → counted_by m n left pa ≡ true → run_class n.granule left ≤ n.input
 counted_fits None n left pa h = absurd cc
-counted_fits (Some m) n left pa h = run_fits (run_class n.granule left) (class_of n.granule left) n.input m.0 pa (second_of_and m.1 _ h)
+counted_fits (Some m) n left pa h = run_fits (run_at n.granule left) (class_of n.granule left) n.input m.0 pa (second_of_and m.1 _ h)
 
 -- the class of a word lies between those of an entry and a run
 pub class_by_least : (m : Option (ℕ × Bool)) (n : Sizes) (left pa : ℕ) → IsGranule n.granule → class_of n.granule left ≤ class_by m n left pa
