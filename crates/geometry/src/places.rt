@@ -4,7 +4,7 @@ ghost use Rattle.geometry.specs.Runs.{run_at, goes_to, is_counted, is_one_run, l
 
 use crate::case_table;
 use crate::levels::{class_at, index};
-use crate::runs::run_at;
+use crate::runs::run_class;
 use bitwords::power;
 
 /// The class of a run at this level, or None where the level has no run.
@@ -13,7 +13,7 @@ fn run_at<const G: u32>(left: u32) -> Option<u32>
     requires left { left ≤ most_left }
     ensures { result ≡ run_at G left }
 {
-    case_table!(level left; run_at::<G>())
+    case_table!(level left; run_class::<G>())
 }
 
 /// Which entry an address selects at this level, by the input bits below `top`.
@@ -69,7 +69,7 @@ fn run_offset(pa: u64, run: u32, class: u32) -> u64
 fn counts<const G: u32>(run: u32, input: u32, left: u32, out: u64, pa: u64) -> bool
     requires granule { IsGranule G }
     requires left { left ≤ most_left }
-    requires run { run_at G left ≡ Some run }
+    requires run { run_class G left ≡ Some run }
     ensures { result ≡ is_counted G input left out pa }
 {
     run <= input && out % power(run) == run_offset(pa, run, class_at::<G>(left))

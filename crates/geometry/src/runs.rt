@@ -5,7 +5,7 @@ ghost use Rattle.geometry.specs.Runs.{run_at};
 use crate::case_table;
 
 /// The class of a run of entries with the Contiguous bit, or None where the level has no run.
-pub fn run_at<const G: u32, const LEFT: u32>() -> Option<u32>
+pub fn run_class<const G: u32, const LEFT: u32>() -> Option<u32>
     requires granule { IsGranule G }
     requires left { LEFT ≤ most_left }
     ensures { result ≡ run_at G LEFT }

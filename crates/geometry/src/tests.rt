@@ -1,7 +1,7 @@
 ghost use Rattle.geometry.specs.Tables.{IsGranule};
 
 use crate::{
-    block_allowed, case_table, entry_class, goes_to, index, leaf_class, place, run_at,
+    block_allowed, case_table, entry_class, goes_to, index, leaf_class, place, run_class,
     start_level1, start_level2, suits2,
 };
 
@@ -81,7 +81,7 @@ fn level<const G: u32>(left: u32) -> (u32, bool, Option<u32>)
     (
         case_table!(level left; entry_class::<G>()),
         case_table!(level left; block_allowed::<G>()),
-        case_table!(level left; run_at::<G>()),
+        case_table!(level left; run_class::<G>()),
     )
 }
 
