@@ -175,7 +175,9 @@ raw_read _ (one x1 t1 _ h1 (one x2 t2 _ h2 none)) e = absurd (a_fault MissingReq
 raw_read _ (one x1 t1 _ h1 (one x2 t2 _ h2 (one x3 t3 _ h3 none))) e = absurd (a_fault MissingRequiredArgument [] (raw_has_3 x1 x2 x3 t1 t2 t3 h1 h2 h3) e)
 raw_read _ (one x1 t1 _ h1 (one x2 t2 _ h2 (one x3 t3 _ h3 (one x4 t4 _ h4 none)))) e = ap raw_by_texts (raw_reads_4 x1 x2 x3 x4 t1 t2 t3 t4 h1 h2 h3 h4)
 raw_read _ (one x1 t1 _ h1 (one x2 t2 _ h2 (one x3 t3 _ h3 (one x4 t4 _ h4 (one x5 t5 _ h5 p))))) e =
-    absurd (a_fault UnknownArgument [] (fault_first raw_app ((x1 ∷ t1) ∷ (x2 ∷ t2) ∷ (x3 ∷ t3) ∷ (x4 ∷ t4) ∷ (x5 ∷ t5) ∷ []) _ UnknownArgument refl (raw_meets_more x1 x2 x3 x4 x5 t1 t2 t3 t4 t5 h1 h2 h3 h4 h5)) e)
+    absurd (a_fault UnknownArgument []
+    (fault_first raw_app ((x1 ∷ t1) ∷ (x2 ∷ t2) ∷ (x3 ∷ t3) ∷ (x4 ∷ t4) ∷ (x5 ∷ t5) ∷ []) _ UnknownArgument refl
+    (raw_meets_more x1 x2 x3 x4 x5 t1 t2 t3 t4 t5 h1 h2 h3 h4 h5)) e)
 
 -- where there is a fault, the words are not those of `raw`
 pub raw_refused : (words : List Text) → Plain words → (fault_of raw_app words ≡ [] → ⊥) → raw_read words ≡ None
@@ -243,14 +245,19 @@ unfolding clap_on_literals
 explain_reads_6 x1 x2 x3 x4 x5 x6 t1 t2 t3 t4 t5 t6 h1 h2 h3 h4 h5 h6 = simp h1 (simp h2 (simp h3 (simp h4 (simp h5 (rw h6 (rw h6 refl))))))
 
 -- where there is no fault, the matches are what the words say
-pub explain_read : (words : List Text) → Plain words → length words ≤ 6 → fault_of explain_app words ≡ [] → explain_in (matches_of explain_app words) ≡ explain_read words
+pub explain_read : (words : List Text) → Plain words → length words ≤ 6 → fault_of explain_app words ≡ [] →
+    explain_in (matches_of explain_app words) ≡ explain_read words
 explain_read _ none n e = absurd (a_fault MissingRequiredArgument [] (explain_has_0) e)
 explain_read _ (one x1 t1 _ h1 none) n e = absurd (a_fault MissingRequiredArgument [] (explain_has_1 x1 t1 h1) e)
 explain_read _ (one x1 t1 _ h1 (one x2 t2 _ h2 none)) n e = absurd (a_fault MissingRequiredArgument [] (explain_has_2 x1 x2 t1 t2 h1 h2) e)
-explain_read _ (one x1 t1 _ h1 (one x2 t2 _ h2 (one x3 t3 _ h3 none))) n e = absurd (a_fault MissingRequiredArgument [] (explain_has_3 x1 x2 x3 t1 t2 t3 h1 h2 h3) e)
-explain_read _ (one x1 t1 _ h1 (one x2 t2 _ h2 (one x3 t3 _ h3 (one x4 t4 _ h4 none)))) n e = absurd (a_fault MissingRequiredArgument [] (explain_has_4 x1 x2 x3 x4 t1 t2 t3 t4 h1 h2 h3 h4) e)
-explain_read _ (one x1 t1 _ h1 (one x2 t2 _ h2 (one x3 t3 _ h3 (one x4 t4 _ h4 (one x5 t5 _ h5 none))))) n e = ap explain_by_texts (explain_reads_5 x1 x2 x3 x4 x5 t1 t2 t3 t4 t5 h1 h2 h3 h4 h5)
-explain_read _ (one x1 t1 _ h1 (one x2 t2 _ h2 (one x3 t3 _ h3 (one x4 t4 _ h4 (one x5 t5 _ h5 (one x6 t6 _ h6 none)))))) n e = ap explain_by_texts (explain_reads_6 x1 x2 x3 x4 x5 x6 t1 t2 t3 t4 t5 t6 h1 h2 h3 h4 h5 h6)
+explain_read _ (one x1 t1 _ h1 (one x2 t2 _ h2 (one x3 t3 _ h3 none))) n e =
+    absurd (a_fault MissingRequiredArgument [] (explain_has_3 x1 x2 x3 t1 t2 t3 h1 h2 h3) e)
+explain_read _ (one x1 t1 _ h1 (one x2 t2 _ h2 (one x3 t3 _ h3 (one x4 t4 _ h4 none)))) n e =
+    absurd (a_fault MissingRequiredArgument [] (explain_has_4 x1 x2 x3 x4 t1 t2 t3 t4 h1 h2 h3 h4) e)
+explain_read _ (one x1 t1 _ h1 (one x2 t2 _ h2 (one x3 t3 _ h3 (one x4 t4 _ h4 (one x5 t5 _ h5 none))))) n e =
+    ap explain_by_texts (explain_reads_5 x1 x2 x3 x4 x5 t1 t2 t3 t4 t5 h1 h2 h3 h4 h5)
+explain_read _ (one x1 t1 _ h1 (one x2 t2 _ h2 (one x3 t3 _ h3 (one x4 t4 _ h4 (one x5 t5 _ h5 (one x6 t6 _ h6 none)))))) n e =
+    ap explain_by_texts (explain_reads_6 x1 x2 x3 x4 x5 x6 t1 t2 t3 t4 t5 t6 h1 h2 h3 h4 h5 h6)
 explain_read _ (one x1 t1 _ h1 (one x2 t2 _ h2 (one x3 t3 _ h3 (one x4 t4 _ h4 (one x5 t5 _ h5 (one x6 t6 _ h6 (one x7 t7 rest h7 p))))))) n e =
     let short : suc (suc (suc (suc (suc (suc (suc (length rest))))))) ≤ 6 = n in absurd (omega arith)
 
@@ -261,8 +268,10 @@ explain_refused _ (one x1 t1 _ h1 none) f = refl
 explain_refused _ (one x1 t1 _ h1 (one x2 t2 _ h2 none)) f = refl
 explain_refused _ (one x1 t1 _ h1 (one x2 t2 _ h2 (one x3 t3 _ h3 none))) f = refl
 explain_refused _ (one x1 t1 _ h1 (one x2 t2 _ h2 (one x3 t3 _ h3 (one x4 t4 _ h4 none)))) f = refl
-explain_refused _ (one x1 t1 _ h1 (one x2 t2 _ h2 (one x3 t3 _ h3 (one x4 t4 _ h4 (one x5 t5 _ h5 none))))) f = absurd (f (explain_has_5 x1 x2 x3 x4 x5 t1 t2 t3 t4 t5 h1 h2 h3 h4 h5))
-explain_refused _ (one x1 t1 _ h1 (one x2 t2 _ h2 (one x3 t3 _ h3 (one x4 t4 _ h4 (one x5 t5 _ h5 (one x6 t6 _ h6 none)))))) f = absurd (f (explain_has_6 x1 x2 x3 x4 x5 x6 t1 t2 t3 t4 t5 t6 h1 h2 h3 h4 h5 h6))
+explain_refused _ (one x1 t1 _ h1 (one x2 t2 _ h2 (one x3 t3 _ h3 (one x4 t4 _ h4 (one x5 t5 _ h5 none))))) f =
+    absurd (f (explain_has_5 x1 x2 x3 x4 x5 t1 t2 t3 t4 t5 h1 h2 h3 h4 h5))
+explain_refused _ (one x1 t1 _ h1 (one x2 t2 _ h2 (one x3 t3 _ h3 (one x4 t4 _ h4 (one x5 t5 _ h5 (one x6 t6 _ h6 none)))))) f =
+    absurd (f (explain_has_6 x1 x2 x3 x4 x5 x6 t1 t2 t3 t4 t5 t6 h1 h2 h3 h4 h5 h6))
 explain_refused _ (one x1 t1 _ h1 (one x2 t2 _ h2 (one x3 t3 _ h3 (one x4 t4 _ h4 (one x5 t5 _ h5 (one x6 t6 _ h6 (one x7 t7 _ h7 p))))))) f = refl
 
 -- more words than `explain` takes

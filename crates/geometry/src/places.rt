@@ -69,7 +69,7 @@ fn run_offset(pa: u64, run: u32, class: u32) -> u64
 fn counts<const G: u32>(run: u32, input: u32, left: u32, out: u64, pa: u64) -> bool
     requires granule { IsGranule G }
     requires left { left ≤ most_left }
-    requires run { run_class G left ≡ Some run }
+    requires run { run_at G left ≡ Some run }
     ensures { result ≡ is_counted G input left out pa }
 {
     run <= input && out % power(run) == run_offset(pa, run, class_at::<G>(left))

@@ -23,11 +23,13 @@ index_within first (r ∷ ranges) place k h e =
       | inl here ↦ let found : first + (place - r.0) / 8 ≡ k = same_Some _ _ (grind (arith, here, e)) in
           (omega arith, grind (arith, nat_tests, here, found, one.length, one.start))
       | inr not_here ↦ let later : index_from (first + r.1 / 8) ranges place ≡ Some k = grind (arith, not_here, e) in
-          let rest : (first + r.1 / 8 ≤ k) × (8 * k + 8 ≤ 8 * (first + r.1 / 8) + bytes_of ranges) = index_within (first + r.1 / 8) ranges place k (All-tail IsWhole r ranges h) later in
+          let rest : (first + r.1 / 8 ≤ k) × (8 * k + 8 ≤ 8 * (first + r.1 / 8) + bytes_of ranges) =
+          index_within (first + r.1 / 8) ranges place k (All-tail IsWhole r ranges h) later in
           (omega (arith, rest.0), omega (arith, rest.1, one.length))
     ]
 
-pub within_if : (ranges : List (ℕ × ℕ)) (place : ℕ) (index : Option ℕ) → All IsWhole ranges → index_from 0 ranges place ≡ index → IfSome index (λ k. 8 * k + 8 ≤ bytes_of ranges)
+pub within_if : (ranges : List (ℕ × ℕ)) (place : ℕ) (index : Option ℕ) → All IsWhole ranges → index_from 0 ranges place ≡ index →
+    IfSome index (λ k. 8 * k + 8 ≤ bytes_of ranges)
 within_if ranges place None h e = tt
 within_if ranges place (Some k) h e = omega (arith, (index_within 0 ranges place k h e).1)
 
@@ -41,7 +43,8 @@ one_place first (r ∷ ranges) p q k h a b e f =
     let more : All IsWhole ranges = All-tail IsWhole r ranges h in
     elim (cases_Bool (holds_word r p)) [
       | inl here ↦ elim (cases_Bool (holds_word r q)) [
-        | inl too ↦ grind (arith, nat_tests, here, too, same_Some (first + (p - r.0) / 8) k (grind (arith, here, e)), same_Some (first + (q - r.0) / 8) k (grind (arith, too, f)), a, b, one.start)
+        | inl too ↦ grind (arith, nat_tests, here, too, same_Some (first + (p - r.0) / 8) k (grind (arith, here, e)), same_Some (first + (q - r.0) / 8) k
+        (grind (arith, too, f)), a, b, one.start)
         | inr other ↦ let later : first + r.1 / 8 ≤ k = (index_within (first + r.1 / 8) ranges q k more (grind (arith, other, f))).0 in
             absurd (grind (arith, nat_tests, here, later, same_Some (first + (p - r.0) / 8) k (grind (arith, here, e)), one.length))
       ]
@@ -57,7 +60,8 @@ zero_at zero k = refl
 zero_at (suc n) zero = refl
 zero_at (suc n) (suc k) = zero_at n k
 
-zero_or : (holds aligned : Bool) (n k : ℕ) (later memory : Option ℕ) → seen_at (replicate n 0) aligned later ≡ memory → seen_at (replicate n 0) aligned (if holds then Some k else later) ≡ (if holds then Some 0 else memory)
+zero_or : (holds aligned : Bool) (n k : ℕ) (later memory : Option ℕ) → seen_at (replicate n 0) aligned later ≡ memory →
+    seen_at (replicate n 0) aligned (if holds then Some k else later) ≡ (if holds then Some 0 else memory)
 zero_or true true n k later memory e = ap (λ (v : ℕ). Some v) (zero_at n k)
 zero_or true false n k later memory e = refl
 zero_or false aligned n k later memory e = e
@@ -65,16 +69,19 @@ zero_or false aligned n k later memory e = e
 -- words of 0 are a memory of 0
 zero_seen : (n first : ℕ) (ranges : List (ℕ × ℕ)) (place : ℕ) → seen_at (replicate n 0) (is_aligned place) (index_from first ranges place) ≡ zeros ranges place
 zero_seen n first [] place = refl
-zero_seen n first (r ∷ ranges) place = zero_or (holds_word r place) (is_aligned place) n (first + (place - r.0) / 8) _ _ (zero_seen n (first + r.1 / 8) ranges place)
+zero_seen n first (r ∷ ranges) place =
+    zero_or (holds_word r place) (is_aligned place) n (first + (place - r.0) / 8) _ _ (zero_seen n (first + r.1 / 8) ranges place)
 
 zero_memory : (h : Held) (n : ℕ) → h.words ≡ replicate n 0 → memory_of h ≡ zeros h.ranges
 unfolding memory_of
 zero_memory h n e = fun_ext (λ p. ap (λ (w : List ℕ). seen_at w (is_aligned p) (index_from 0 h.ranges p)) e ∙ zero_seen n 0 h.ranges p)
 
-pub zero_opened : (given ranges : List (ℕ × ℕ)) (words : List ℕ) (n : ℕ) → ranges ≡ given → words ≡ replicate n 0 → memory_of (record { ranges = ranges; words = words }) ≡ zeros given
+pub zero_opened : (given ranges : List (ℕ × ℕ)) (words : List ℕ) (n : ℕ) → ranges ≡ given → words ≡ replicate n 0 →
+    memory_of (record { ranges = ranges; words = words }) ≡ zeros given
 zero_opened given ranges words n same e = zero_memory (record { ranges = ranges; words = words }) n e ∙ ap zeros same
 
-word_seen : (words : List ℕ) (aligned : Bool) (index : Option ℕ) (k : ℕ) → (if aligned then index else None) ≡ Some k → Some (slice_index words k) ≡ (if aligned then seen_at words aligned index else None)
+word_seen : (words : List ℕ) (aligned : Bool) (index : Option ℕ) (k : ℕ) → (if aligned then index else None) ≡ Some k →
+    Some (slice_index words k) ≡ (if aligned then seen_at words aligned index else None)
 word_seen words true None k e = absurd (none-some k e)
 word_seen words true (Some j) k e = ap (λ (n : ℕ). Some (slice_index words n)) (sym (same_Some j k e))
 word_seen words false index k e = absurd (none-some k e)
@@ -85,10 +92,12 @@ unfolding memory_of
 loaded_some h pa k e = word_seen h.words (is_aligned pa) (index_from 0 h.ranges pa) k e
 
 -- the same, as the word is read
-pub loaded_read : (h : Held) (pa k x : ℕ) → index_of h.ranges pa ≡ Some k → k < length h.words → x ≡ slice_index_or h.words k x → Some x ≡ loaded (memory_of h) pa
+pub loaded_read : (h : Held) (pa k x : ℕ) → index_of h.ranges pa ≡ Some k → k < length h.words → x ≡ slice_index_or h.words k x →
+    Some x ≡ loaded (memory_of h) pa
 loaded_read h pa k x e within read = ap (λ (v : ℕ). Some v) (get_or_read h.words k x within read 0) ∙ loaded_some h pa k e
 
-nothing_seen : (words : List ℕ) (aligned : Bool) (index : Option ℕ) → is_some (if aligned then index else None) ≡ (aligned && is_some (seen_at words aligned index))
+nothing_seen : (words : List ℕ) (aligned : Bool) (index : Option ℕ) →
+    is_some (if aligned then index else None) ≡ (aligned && is_some (seen_at words aligned index))
 nothing_seen words true None = refl
 nothing_seen words true (Some j) = refl
 nothing_seen words false index = refl
@@ -112,13 +121,15 @@ aligned_by true index k e = (refl, e)
 aligned_by false index k e = absurd (none-some k e)
 
 -- a word that is written is seen at no other place
-other_seen : (words : List ℕ) (aligned : Bool) (index : Option ℕ) (k value : ℕ) → (aligned ≡ true → index ≡ Some k → ⊥) → seen_at (slice_set words k value) aligned index ≡ seen_at words aligned index
+other_seen : (words : List ℕ) (aligned : Bool) (index : Option ℕ) (k value : ℕ) → (aligned ≡ true → index ≡ Some k → ⊥) →
+    seen_at (slice_set words k value) aligned index ≡ seen_at words aligned index
 other_seen words aligned None k value h = refl
 other_seen words true (Some j) k value h = ap (λ (v : ℕ). Some v) (get_or-set_other words k j value 0 (λ e. h refl (ap (λ (n : ℕ). Some n) e)))
 other_seen words false (Some j) k value h = refl
 
 -- a word that is written is seen at its place
-same_seen : (words : List ℕ) (aligned : Bool) (index : Option ℕ) (k value : ℕ) → aligned ≡ true → index ≡ Some k → k < length words → seen_at (slice_set words k value) aligned index ≡ Some value
+same_seen : (words : List ℕ) (aligned : Bool) (index : Option ℕ) (k value : ℕ) → aligned ≡ true → index ≡ Some k → k < length words →
+    seen_at (slice_set words k value) aligned index ≡ Some value
 same_seen words aligned index k value a e h = rw (a, e) (ap (λ (v : ℕ). Some v) (get_or-set_same words k value 0 h))
 
 pub stored

@@ -29,10 +29,13 @@ pub too_large : (radix most : ℕ) (ds : List ℕ) → 2 ^ 64 ≤ digits_value r
 too_large radix most ds h = rw (not_below (digits_value radix ds) (2 ^ 64) h, and_false) refl
 
 -- one digit more gives a value that is too large
-pub too_large_at : (radix most n i : ℕ) (ds : List ℕ) → 1 ≤ radix → i < length ds → digits_value_after radix n (drop i ds) ≡ digits_value radix ds → 2 ^ 64 ≤ n * radix + digit_value (get_or ds i 0) → number_in radix most ds ≡ None
+pub too_large_at : (radix most n i : ℕ) (ds : List ℕ) → 1 ≤ radix → i < length ds → digits_value_after radix n (drop i ds) ≡ digits_value radix ds →
+    2 ^ 64 ≤ n * radix + digit_value (get_or ds i 0) → number_in radix most ds ≡ None
 too_large_at radix most n i ds h k e m =
-    let step : digits_value_after radix n (drop i ds) ≡ digits_value_after radix (n * radix + digit_value (get_or ds i 0)) (drop (i + 1) ds) = ap (digits_value_after radix n) (drop_more ds i 0 k) in
-    let more : n * radix + digit_value (get_or ds i 0) ≤ digits_value_after radix (n * radix + digit_value (get_or ds i 0)) (drop (i + 1) ds) = value_grows radix _ (drop (i + 1) ds) h in
+    let step : digits_value_after radix n (drop i ds) ≡ digits_value_after radix (n * radix + digit_value (get_or ds i 0)) (drop (i + 1) ds) =
+    ap (digits_value_after radix n) (drop_more ds i 0 k) in
+    let more : n * radix + digit_value (get_or ds i 0) ≤ digits_value_after radix (n * radix + digit_value (get_or ds i 0)) (drop (i + 1) ds) =
+    value_grows radix _ (drop (i + 1) ds) h in
     too_large radix most ds (omega arith)
 
 -- what `grown` says at None
@@ -40,5 +43,6 @@ pub none_grown : (m : ℕ) → cond (ltb m (2 ^ 64)) (Some m) None ≡ None → 
 none_grown m h = grind (arith, nat_tests)
 
 -- all are read
-pub all_read : (radix most n i : ℕ) (ds : List ℕ) → 0 < length ds → length ds ≤ most → length ds ≤ i → n < 2 ^ 64 → all_digits radix (drop i ds) ≡ all_digits radix ds → digits_value_after radix n (drop i ds) ≡ digits_value radix ds → Some n ≡ number_in radix most ds
+pub all_read : (radix most n i : ℕ) (ds : List ℕ) → 0 < length ds → length ds ≤ most → length ds ≤ i → n < 2 ^ 64 →
+    all_digits radix (drop i ds) ≡ all_digits radix ds → digits_value_after radix n (drop i ds) ≡ digits_value radix ds → Some n ≡ number_in radix most ds
 all_read radix most n i ds h k m fits a v = grind (arith, common_steps, nat_tests)

@@ -17,7 +17,8 @@ onto_last : (room radix n : ℕ) (acc : List ℕ) → eqb (n / radix) 0 ≡ true
 unfolding onto
 onto_last room radix n acc h = rw h refl
 
-onto_more : (room radix n : ℕ) (acc : List ℕ) → eqb (n / radix) 0 ≡ false → onto (suc room) radix n acc ≡ onto room radix (n / radix) (digit_glyph false (n % radix) ∷ acc)
+onto_more : (room radix n : ℕ) (acc : List ℕ) → eqb (n / radix) 0 ≡ false →
+    onto (suc room) radix n acc ≡ onto room radix (n / radix) (digit_glyph false (n % radix) ∷ acc)
 unfolding onto
 onto_more room radix n acc h = rw h refl
 
@@ -25,7 +26,8 @@ onto_none : (radix n : ℕ) (acc : List ℕ) → onto zero radix n acc ≡ acc
 unfolding onto
 onto_none radix n acc = refl
 
-acc_case : (room radix n : ℕ) (acc : List ℕ) (b : Bool) → eqb (n / radix) 0 ≡ b → ((m : ℕ) (more : List ℕ) → onto room radix m more ≡ onto room radix m [] ++ more) → onto (suc room) radix n acc ≡ onto (suc room) radix n [] ++ acc
+acc_case : (room radix n : ℕ) (acc : List ℕ) (b : Bool) → eqb (n / radix) 0 ≡ b →
+    ((m : ℕ) (more : List ℕ) → onto room radix m more ≡ onto room radix m [] ++ more) → onto (suc room) radix n acc ≡ onto (suc room) radix n [] ++ acc
 acc_case room radix n acc true e ih = onto_last room radix n acc e ∙ sym (ap (λ (x : List ℕ). x ++ acc) (onto_last room radix n [] e))
 acc_case room radix n acc false e ih =
     let d : ℕ = digit_glyph false (n % radix) in
@@ -43,25 +45,29 @@ digits_start most radix n acc h =
     ap (λ (r : ℕ). onto r radix n acc) e ∙ onto_acc 64 radix n acc ∙ ap (λ (x : List ℕ). x ++ acc) (onto_start radix n)
 
 placed : (s y : ℕ) (bytes : List ℕ) → 0 < s → s ≤ length bytes → drop (s - 1) (set bytes (s - 1) y) ≡ y ∷ drop s bytes
-placed s y bytes h k = let one : (s - 1) + 1 ≡ s = omega arith in let small : s - 1 < length bytes = omega arith in drop-set bytes (s - 1) y small ∙ ap (λ (i : ℕ). y ∷ drop i bytes) one
+placed s y bytes h k = let one : (s - 1) + 1 ≡ s = omega arith in let small : s - 1 < length bytes = omega arith in drop-set bytes (s - 1) y small
+    ∙ ap (λ (i : ℕ). y ∷ drop i bytes) one
 
 fuel : (b k : ℕ) → 0 < k → b + k ≡ suc (b + (k - 1))
 fuel b k h = omega arith
 
-pub digit_put : (b k radix s n : ℕ) (bytes : List ℕ) → 0 < s → s ≤ length bytes → 0 < k → n / radix ≢ 0 → onto (b + (k - 1)) radix (n / radix) (drop (s - 1) (set bytes (s - 1) (digit_glyph false (n % radix)))) ≡ onto (b + k) radix n (drop s bytes)
+pub digit_put : (b k radix s n : ℕ) (bytes : List ℕ) → 0 < s → s ≤ length bytes → 0 < k → n / radix ≢ 0 →
+    onto (b + (k - 1)) radix (n / radix) (drop (s - 1) (set bytes (s - 1) (digit_glyph false (n % radix)))) ≡ onto (b + k) radix n (drop s bytes)
 digit_put b k radix s n bytes h j p m =
     ap (onto (b + (k - 1)) radix (n / radix)) (placed s (digit_glyph false (n % radix)) bytes h j)
     ∙ sym (onto_more (b + (k - 1)) radix n (drop s bytes) (grind (arith, nat_tests)))
     ∙ ap (λ (r : ℕ). onto r radix n (drop s bytes)) (sym (fuel b k p))
 
-pub last_put : (b k radix s n : ℕ) (bytes : List ℕ) → 0 < s → s ≤ length bytes → 0 < k → n / radix ≡ 0 → drop (s - 1) (set bytes (s - 1) (digit_glyph false (n % radix))) ≡ onto (b + k) radix n (drop s bytes)
+pub last_put : (b k radix s n : ℕ) (bytes : List ℕ) → 0 < s → s ≤ length bytes → 0 < k → n / radix ≡ 0 →
+    drop (s - 1) (set bytes (s - 1) (digit_glyph false (n % radix))) ≡ onto (b + k) radix n (drop s bytes)
 last_put b k radix s n bytes h j p m =
     placed s (digit_glyph false (n % radix)) bytes h j
     ∙ sym (onto_last (b + (k - 1)) radix n (drop s bytes) (grind (arith, nat_tests)))
     ∙ ap (λ (r : ℕ). onto r radix n (drop s bytes)) (sym (fuel b k p))
 
 pub room_left : (radix k n : ℕ) → 0 < radix → 0 < k → n < radix ^ k → n / radix < radix ^ (k - 1)
-room_left radix k n p h l = let one : k ≡ suc (k - 1) = omega arith in (div-lt_iff_lt-mul p).1 (let b : n < radix ^ suc (k - 1) = subst (λ (x : ℕ). n < radix ^ x) one l in rw pow-suc at b)
+room_left radix k n p h l = let one : k ≡ suc (k - 1) =
+    omega arith in (div-lt_iff_lt-mul p).1 (let b : n < radix ^ suc (k - 1) = subst (λ (x : ℕ). n < radix ^ x) one l in rw pow-suc at b)
 
 -- what stands behind a place of an array
 pub drop_room : (k r e : ℕ) (m n : List ℕ) → length m ≡ 160 → length n ≡ 160 → e ≤ r + k → length (drop r m) ≤ k + length (drop e n)

@@ -17,7 +17,8 @@ range_below : (operand : ℕ) (start : ℕ → ℕ) (end : ℕ) (granule : Optio
 range_below w start end None a h below = omega arith
 range_below w start end (Some g) a h below = omega arith
 
-stays : (w : ℕ) (scope : Scope) (address : ℕ) → (extent_by w scope).start ≤ address → address < (extent_by w scope).start + (extent_by w scope).count → address < end_of scope
+stays : (w : ℕ) (scope : Scope) (address : ℕ) → (extent_by w scope).start ≤ address → address < (extent_by w scope).start + (extent_by w scope).count →
+    address < end_of scope
 stays w All a h below = omega arith
 stays w Vmid a h below = omega arith
 stays w Stage1 a h below = omega arith
@@ -36,7 +37,8 @@ each_granule : (operand : ℕ) (P : Option ℕ → Type 0) → P None → P (Som
 each_granule w P none four sixteen sixty_four =
     let tg : ℕ = bits_of w 47 46 in
     cond_both (tg == 1) (Some 12) (if tg == 2 then Some 14 else (if tg == 3 then Some 16 else None)) P (λ _. four)
-    (λ _. cond_both (tg == 2) (Some 14) (if tg == 3 then Some 16 else None) P (λ _. sixteen) (λ _. cond_both (tg == 3) (Some 16) None P (λ _. sixty_four) (λ _. none)))
+    (λ _. cond_both (tg == 2) (Some 14) (if tg == 3 then Some 16 else None) P (λ _. sixteen) (λ _.
+    cond_both (tg == 3) (Some 16) None P (λ _. sixty_four) (λ _. none)))
 
 -- a range that starts below its end ends there
 range_fits : (operand : ℕ) (start : ℕ → ℕ) (end : ℕ) (granule : Option ℕ) → end ≤ 2 ^ 56 → IfSome granule (λ g. start g ≤ 2 ^ 56)

@@ -54,7 +54,8 @@ next_lines words state done (x ∷ xs) n rest h =
     ∙ ap (λ d. lines_met (state d) ((n + 1) + length xs) (slice_split is_end rest)) (append_assoc done (x ∷ []) xs)
     ∙ ap (λ m. lines_met (state (done ++ x ∷ xs)) m (slice_split is_end rest)) (omega arith)
 
-lines_room : {X : Type 0} (words : X → List (List ℕ)) (state : List X → State) (done xs : List X) → AreLines words state done xs → length (lines_of words xs) ≤ 127 * length xs
+lines_room : {X : Type 0} (words : X → List (List ℕ)) (state : List X → State) (done xs : List X) → AreLines words state done xs →
+    length (lines_of words xs) ≤ 127 * length xs
 lines_room words state done [] h = omega arith
 lines_room words state done (x ∷ xs) h =
     let a = length-append (line_of (words x)) (lines_of words xs) in
@@ -74,7 +75,8 @@ abbrev in_ranges : (cores : ℕ) (ranges : List (ℕ × ℕ)) → State
 in_ranges c rs = state_in Ranges (header c rs) []
 
 -- what a range's test says
-range_parts : (r : ℕ × ℕ) → is_range r ≡ true → (is_base r.0 ≡ true) × ((is_aligned r.1 && nat_lt 0 r.1 && nat_le (r.0 + r.1) (2 ^ 52)) ≡ true) × (r.0 + r.1 ≤ 2 ^ 52)
+range_parts : (r : ℕ × ℕ) → is_range r ≡ true → (is_base r.0 ≡ true) × ((is_aligned r.1 && nat_lt 0 r.1 && nat_le (r.0 + r.1) (2 ^ 52)) ≡ true)
+    × (r.0 + r.1 ≤ 2 ^ 52)
 range_parts r h = (grind (arith, h), grind (arith, h), grind (arith, h))
 
 fits_base : (done : List (ℕ × ℕ)) (r : ℕ × ℕ) → RangeFits done r → is_base r.0 ≡ true
@@ -95,7 +97,8 @@ range_back : (c : ℕ) (done : List (ℕ × ℕ)) (r : ℕ × ℕ) → RangeFits
 range_back c done r f =
     let ws = range_words r in
     let whole : (b n : ℕ) → Result State LineRefusal = λ b n. Ok (in_ranges c (done ++ (b, n) ∷ [])) in
-    let apart : (b n : ℕ) → Result State LineRefusal = λ b n. no_word_at ws 4 >>= (λ _. in_range 2 (not (list_any (share_byte (b, n)) done)) b >>= (λ _. whole b n)) in
+    let apart : (b n : ℕ) → Result State LineRefusal =
+    λ b n. no_word_at ws 4 >>= (λ _. in_range 2 (not (list_any (share_byte (b, n)) done)) b >>= (λ _. whole b n)) in
     let second : (b : ℕ) → Result State LineRefusal = λ b. number_or 3 (number_of (hex_text r.1)) >>= (λ n. in_range 3 (is_size done b n) n >>= apart b) in
     go (number_or 2 (number_of (hex_text r.0))) r.0 (λ b. in_range 2 (is_base b) b >>= second) (hex_at 2 r.0 (base_word done r f))
     ∙ go (in_range 2 (is_base r.0) r.0) r.0 second (within 2 (is_base r.0) r.0 (fits_base done r f))
@@ -108,10 +111,12 @@ range_line : (c : ℕ) (done : List (ℕ × ℕ)) (r : ℕ × ℕ) → length do
 range_line c done r l f = record {
   are = (refl, (hex_word r.0 (base_word done r f), (hex_word r.1 (size_word done r f), tt)));
   few = omega arith;
-  met = cond-false (nat_le most_ranges (length done)) (Err TooMany) (range_met (in_ranges c done) (range_words r)) (lt-leb most_ranges (length done) l) ∙ range_back c done r f;
+  met = cond-false (nat_le most_ranges (length done)) (Err TooMany) (range_met (in_ranges c done) (range_words r)) (lt-leb most_ranges (length done) l)
+      ∙ range_back c done r f;
 }
 
-range_lines : (c : ℕ) (done ranges : List (ℕ × ℕ)) → length done + length ranges ≤ most_ranges → RangesFitBehind done ranges → AreLines range_words (in_ranges c) done ranges
+range_lines : (c : ℕ) (done ranges : List (ℕ × ℕ)) → length done + length ranges ≤ most_ranges → RangesFitBehind done ranges →
+    AreLines range_words (in_ranges c) done ranges
 range_lines c done [] l f = tt
 range_lines c done (r ∷ ranges) l f =
     (range_line c done r (omega (arith, l)) f.0, range_lines c (done ++ r ∷ []) ranges (let a = length-append done (r ∷ []) in omega (arith, a, l)) f.1)
@@ -121,7 +126,8 @@ range_lines c done (r ∷ ranges) l f =
 abbrev in_events : (h : Header) (events : List Event) → State
 in_events h es = state_in Events h es
 
-body_back : (h : Header) (done : List Event) (e : Event) (v : List ℕ) (ws : List (List ℕ)) → bytes_eq (take 1 v) (codes "#") ≡ false → bytes_eq v (codes "end") ≡ false →
+body_back : (h : Header) (done : List Event) (e : Event) (v : List ℕ) (ws : List (List ℕ)) → bytes_eq (take 1 v) (codes "#") ≡ false →
+    bytes_eq v (codes "end") ≡ false →
     length done < most_events → event_of h (v ∷ ws) ≡ Ok e → words_met (in_events h done) (v ∷ ws) ≡ Ok (in_events h (done ++ e ∷ []))
 body_back h done e v ws a b l k =
     cond-false (bytes_eq (take 1 v) (codes "#")) (Ok (in_events h done)) (body_met (in_events h done) v (v ∷ ws)) a
@@ -137,7 +143,8 @@ event_line h done e m l b =
       met = ap (words_met (in_events h done)) is ∙ body_back h done e v ws plain more l (ap (event_of h) (sym is) ∙ event_back h e m b);
     }
 
-event_lines : (h : Header) (done events : List Event) → h.cores ≤ 8 → length done + length events ≤ most_events → All (IsBack h) events → AreLines event_words (in_events h) done events
+event_lines : (h : Header) (done events : List Event) → h.cores ≤ 8 → length done + length events ≤ most_events → All (IsBack h) events →
+    AreLines event_words (in_events h) done events
 event_lines h done [] m l b = tt
 event_lines h done (e ∷ events) m l b = (
   event_line h done e m (omega (arith, l)) (All-head (IsBack h) e events b),
@@ -196,12 +203,16 @@ text_is c rs es = regroup (line_of (cores_words c)) (lines_of range_words rs) (l
 
 -- the lines of the header
 header_back : (c : ℕ) (rs : List (ℕ × ℕ)) (es : List Event) → 1 ≤ c → c ≤ most_cores → AreLines range_words (in_ranges c) [] rs →
-    lines_met no_lines 1 (slice_split is_end (whole_text c rs es)) ≡ lines_met (in_events (header c rs) []) (((2 + length rs) + 1) + 1) (slice_split is_end (events_text es))
+    lines_met no_lines 1 (slice_split is_end (whole_text c rs es)) ≡ lines_met (in_events (header c rs) []) (((2 + length rs) + 1) + 1)
+    (slice_split is_end (events_text es))
 header_back c rs es l m r =
-    next_line no_lines (in_ranges c []) 1 (cores_words c) (lines_of range_words rs ++ caches_text es) (refl, (decimal_word c m, tt)) (omega arith) (cores_back c l m)
+    next_line no_lines (in_ranges c []) 1 (cores_words c) (lines_of range_words rs ++ caches_text es) (refl, (decimal_word c m, tt)) (omega arith)
+    (cores_back c l m)
     ∙ next_lines range_words (in_ranges c) [] rs 2 (caches_text es) r
-    ∙ next_line (in_ranges c rs) (state_in PolicyDue (header c rs) []) (2 + length rs) caches_words (line_of policy_line ++ events_text es) (refl, (refl, tt)) (omega arith) (caches_back c rs)
-    ∙ next_line (state_in PolicyDue (header c rs) []) (in_events (header c rs) []) ((2 + length rs) + 1) policy_line (events_text es) (refl, (refl, tt)) (omega arith) (policy_back (header c rs) refl)
+    ∙ next_line (in_ranges c rs) (state_in PolicyDue (header c rs) []) (2 + length rs) caches_words (line_of policy_line ++ events_text es) (refl, (refl, tt))
+    (omega arith) (caches_back c rs)
+    ∙ next_line (state_in PolicyDue (header c rs) []) (in_events (header c rs) []) ((2 + length rs) + 1) policy_line (events_text es) (refl, (refl, tt))
+    (omega arith) (policy_back (header c rs) refl)
 
 -- the lines of the events, and the end
 events_back : (h : Header) (es : List Event) (n : ℕ) → AreLines event_words (in_events h) [] es →
@@ -210,7 +221,8 @@ events_back h es n r =
     next_lines event_words (in_events h) [] es n (codes "end\n") r
     ∙ next_line (in_events h es) (state_in Ended h es) (n + length es) end_words [] (refl, tt) (omega arith) (end_back h es)
 
-text_room : (c : ℕ) (rs : List (ℕ × ℕ)) (es : List Event) → c ≤ most_cores → length rs ≤ most_ranges → length es ≤ most_events → AreLines range_words (in_ranges c) [] rs →
+text_room : (c : ℕ) (rs : List (ℕ × ℕ)) (es : List Event) → c ≤ most_cores → length rs ≤ most_ranges → length es ≤ most_events →
+    AreLines range_words (in_ranges c) [] rs →
     AreLines event_words (in_events (header c rs)) [] es → length (whole_text c rs es) ≤ most_text
 text_room c rs es m few many r e =
     let a = length-append (line_of (cores_words c)) (lines_of range_words rs ++ caches_text es) in
@@ -221,14 +233,16 @@ text_room c rs es m few many r e =
     let i = lines_room event_words (in_events (header c rs)) [] es e in
     omega (arith, a, b, d, f, g, i, few, many)
 
-built_back : (c : ℕ) (rs : List (ℕ × ℕ)) (es : List Event) → IsTrace (built c rs es) → All (IsBack (header c rs)) es → trace_of (text_of (built c rs es)) ≡ Ok (built c rs es)
+built_back : (c : ℕ) (rs : List (ℕ × ℕ)) (es : List Event) → IsTrace (built c rs es) → All (IsBack (header c rs)) es →
+    trace_of (text_of (built c rs es)) ≡ Ok (built c rs es)
 built_back c rs es t b =
     let few = t.count in
     let many = t.events in
     let r = range_lines c [] rs (omega (arith, few)) t.ranges in
     let e = event_lines (header c rs) [] es t.cores (omega (arith, many)) b in
     ap trace_of (text_is c rs es)
-    ∙ cond-false (nat_lt most_text (length (whole_text c rs es))) (Err (refusal.TooLarge (length (whole_text c rs es)))) (then_ended (lines_met no_lines 1 (slice_split is_end (whole_text c rs es))))
+    ∙ cond-false (nat_lt most_text (length (whole_text c rs es))) (Err (refusal.TooLarge (length (whole_text c rs es))))
+    (then_ended (lines_met no_lines 1 (slice_split is_end (whole_text c rs es))))
     (le-ltb most_text (length (whole_text c rs es)) (text_room c rs es t.cores t.count t.events r e))
     ∙ ap then_ended (header_back c rs es t.some_cores t.cores r ∙ events_back (header c rs) es (((2 + length rs) + 1) + 1) e)
 

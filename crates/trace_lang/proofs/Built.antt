@@ -45,7 +45,8 @@ abbrev IsKnown : Event → Type 0
 IsKnown e = is_prefetch e ≡ false
 
 event_by_known : (h : Header) (ws : List (List ℕ)) (c : ℕ) (verb : Verb) → IfOk (event_by h ws c verb) IsKnown
-event_by_known h ws c store = then_any IsKnown (place_at h ws) _ (λ p. then_any IsKnown (number_at ws 4) _ (λ v. then_any IsKnown (no_word_at ws 5) _ (λ _. refl)))
+event_by_known h ws c store = then_any IsKnown (place_at h ws) _ (λ p.
+    then_any IsKnown (number_at ws 4) _ (λ v. then_any IsKnown (no_word_at ws 5) _ (λ _. refl)))
 event_by_known h ws c msr =
     then_any IsKnown (name_at (named reg_names) ws 3) _ (λ reg. then_any IsKnown (number_at ws 4) _ (λ v. then_any IsKnown (no_word_at ws 5) _ (λ _.
     supported IsKnown reg (msr_refused_field reg v) (Msr c reg v) (λ _. refl))))
@@ -69,12 +70,14 @@ event_known h ws =
 caches_built : (s : State) (ws : List (List ℕ)) → Builds s → IfOk (caches_met s ws) Builds
 caches_built s ws h =
     then_with (λ z. z ≡ NoRows) Builds (name_at (named sizes) ws 2) _ (name_is NoRows _ ws 2) (λ z e.
-    then_any Builds (no_word_at ws 3) (λ _. Ok (with_header s PolicyDue (record s.trace.header { size = z }))) (λ _. (record { size = e; policy = h.0.policy }, h.1)))
+    then_any Builds (no_word_at ws 3) (λ _. Ok (with_header s PolicyDue (record s.trace.header { size = z }))) (λ _.
+        (record { size = e; policy = h.0.policy }, h.1)))
 
 policy_built : (s : State) (ws : List (List ℕ)) → Builds s → IfOk (policy_met s ws) Builds
 policy_built s ws h =
     then_with (λ p. p ≡ Fifo) Builds (name_at (named policies) ws 2) _ (name_is Fifo _ ws 2) (λ p e.
-    then_any Builds (no_word_at ws 3) (λ _. Ok (with_header s Events (record s.trace.header { policy = p }))) (λ _. (record { size = h.0.size; policy = e }, h.1)))
+    then_any Builds (no_word_at ws 3) (λ _. Ok (with_header s Events (record s.trace.header { policy = p }))) (λ _.
+        (record { size = h.0.size; policy = e }, h.1)))
 
 cores_built : (s : State) (ws : List (List ℕ)) → Builds s → IfOk (cores_met s ws) Builds
 cores_built s ws h =
@@ -83,7 +86,8 @@ cores_built s ws h =
 
 range_built : (s : State) (ws : List (List ℕ)) → Builds s → IfOk (range_met s ws) Builds
 range_built s ws h =
-    then_any Builds (number_at ws 2) _ (λ b. then_any Builds (in_range 2 _ b) _ (λ c. then_any Builds (number_at ws 3) _ (λ n. then_any Builds (in_range 3 _ n) _ (λ m.
+    then_any Builds (number_at ws 2) _ (λ b.
+    then_any Builds (in_range 2 _ b) _ (λ c. then_any Builds (number_at ws 3) _ (λ n. then_any Builds (in_range 3 _ n) _ (λ m.
     then_any Builds (no_word_at ws 4) _ (λ x. then_any Builds (in_range 2 (not (list_any (share_byte (c, m)) s.trace.header.ranges)) c)
     (λ y. Ok (with_header s Ranges (record s.trace.header { ranges = s.trace.header.ranges ++ (c, m) ∷ [] })))
     (λ y. (record { size = h.0.size; policy = h.0.policy }, h.1)))))))
@@ -124,7 +128,8 @@ goes_on n lines (Err why) h k = tt
 
 lines_built : (s : State) (n : ℕ) (lines : List (List ℕ)) → Builds s → IfOk (lines_met s n lines) Builds
 lines_built s n [] h = h
-lines_built s n (line ∷ lines) h = goes_on n lines (line_met s (without_return line)) (line_built s (without_return line) h) (λ t k. lines_built t (n + 1) lines k)
+lines_built s n (line ∷ lines) h =
+    goes_on n lines (line_met s (without_return line)) (line_built s (without_return line) h) (λ t k. lines_built t (n + 1) lines k)
 
 -- a state that lines lead to has them
 pub reached_built : (n : ℕ) (lines : List (List ℕ)) (s : State) → lines_met no_lines n lines ≡ Ok s → IsBuilt s.trace.header × HasNoPrefetch s.trace

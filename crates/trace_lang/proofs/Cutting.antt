@@ -11,32 +11,39 @@ use Rattle.std.proofs.lemmas.List.Splits.{slice_split-cons_yes, slice_split-cons
 use Rattle.trace_lang.specs.Words.{is_blank}
 use Rattle.trace_lang.specs.Views.{parts_behind}
 
-pub cut_at : (p : ℕ → Bool) (xs : List ℕ) (i : ℕ) → i < length xs → ((k : ℕ) → k < i → p (get_or xs k 0) ≡ false) → p (get_or xs i 0) ≡ true → slice_split p xs ≡ take i xs ∷ slice_split p (drop (suc i) xs)
+pub cut_at : (p : ℕ → Bool) (xs : List ℕ) (i : ℕ) → i < length xs → ((k : ℕ) → k < i → p (get_or xs k 0) ≡ false) → p (get_or xs i 0) ≡ true →
+    slice_split p xs ≡ take i xs ∷ slice_split p (drop (suc i) xs)
 cut_at p [] i h f t = absurd (omega arith)
 cut_at p (x ∷ xs) zero h f t = slice_split-cons_yes p x xs t
-cut_at p (x ∷ xs) (suc i) h f t = slice_split-cons_no p x xs (f 0 (omega arith)) ∙ ap (onto_first x) (cut_at p xs i (omega arith) (λ k l. f (suc k) (omega arith)) t)
+cut_at p (x ∷ xs) (suc i) h f t = slice_split-cons_no p x xs (f 0 (omega arith))
+    ∙ ap (onto_first x) (cut_at p xs i (omega arith) (λ k l. f (suc k) (omega arith)) t)
 
 pub not_cut : (p : ℕ → Bool) (xs : List ℕ) → ((k : ℕ) → k < length xs → p (get_or xs k 0) ≡ false) → slice_split p xs ≡ xs ∷ []
 not_cut p [] f = refl
 not_cut p (x ∷ xs) f = slice_split-cons_no p x xs (f 0 (omega arith)) ∙ ap (onto_first x) (not_cut p xs (λ k l. f (suc k) (omega arith)))
 
 -- as a loop over places leaves it
-pub cut_here : (p : ℕ → Bool) (xs : List ℕ) (i : ℕ) → i < length xs → ((k : ℕ) → k < i → p (get_or xs k 0) ≡ false) → p (get_or xs i 0) ≡ true → slice_split p xs ≡ take i xs ∷ slice_split p (take (length xs - (i + 1)) (drop (i + 1) xs))
-cut_here p xs i h f t = cut_at p xs i h f t ∙ ap (λ (ys : List ℕ). take i xs ∷ slice_split p ys) (ap (λ (j : ℕ). drop j xs) (sym (add-one i)) ∙ sym (take_rest xs (i + 1)))
+pub cut_here : (p : ℕ → Bool) (xs : List ℕ) (i : ℕ) → i < length xs → ((k : ℕ) → k < i → p (get_or xs k 0) ≡ false) → p (get_or xs i 0) ≡ true →
+    slice_split p xs ≡ take i xs ∷ slice_split p (take (length xs - (i + 1)) (drop (i + 1) xs))
+cut_here p xs i h f t = cut_at p xs i h f t
+    ∙ ap (λ (ys : List ℕ). take i xs ∷ slice_split p ys) (ap (λ (j : ℕ). drop j xs) (sym (add-one i)) ∙ sym (take_rest xs (i + 1)))
 
 pub cut_nowhere : (p : ℕ → Bool) (xs : List ℕ) (i : ℕ) → length xs ≤ i → ((k : ℕ) → k < i → p (get_or xs k 0) ≡ false) → slice_split p xs ≡ xs ∷ []
 cut_nowhere p xs i h f = not_cut p xs (λ k l. f k (omega arith))
 
 -- the first elements all pass
-pub all_here : (p : ℕ → Bool) (xs : List ℕ) (i : ℕ) → i < length xs → ((k : ℕ) → k < i → p (get_or xs k 0) ≡ true) → list_all p xs ≡ (p (get_or xs i 0) && list_all p (drop (suc i) xs))
+pub all_here : (p : ℕ → Bool) (xs : List ℕ) (i : ℕ) → i < length xs → ((k : ℕ) → k < i → p (get_or xs k 0) ≡ true) →
+    list_all p xs ≡ (p (get_or xs i 0) && list_all p (drop (suc i) xs))
 all_here p [] i h f = absurd (omega arith)
 all_here p (x ∷ xs) zero h f = refl
 all_here p (x ∷ xs) (suc i) h f = ap (λ b. b && list_all p xs) (f 0 (omega arith)) ∙ all_here p xs i (omega arith) (λ k l. f (suc k) (omega arith))
 
 -- as a loop over places leaves it
-pub all_behind : (p : ℕ → Bool) (xs : List ℕ) (i : ℕ) → i < length xs → ((k : ℕ) → k < i → p (get_or xs k 0) ≡ true) → p (get_or xs i 0) ≡ true → list_all p xs ≡ list_all p (take (length xs - (i + 1)) (drop (i + 1) xs))
+pub all_behind : (p : ℕ → Bool) (xs : List ℕ) (i : ℕ) → i < length xs → ((k : ℕ) → k < i → p (get_or xs k 0) ≡ true) → p (get_or xs i 0) ≡ true →
+    list_all p xs ≡ list_all p (take (length xs - (i + 1)) (drop (i + 1) xs))
 all_behind p xs i h f t =
-    all_here p xs i h f ∙ ap (λ b. b && list_all p (drop (suc i) xs)) t ∙ ap (list_all p) (ap (λ (j : ℕ). drop j xs) (sym (add-one i)) ∙ sym (take_rest xs (i + 1)))
+    all_here p xs i h f ∙ ap (λ b. b && list_all p (drop (suc i) xs)) t
+        ∙ ap (list_all p) (ap (λ (j : ℕ). drop j xs) (sym (add-one i)) ∙ sym (take_rest xs (i + 1)))
 
 pub all_passed : (p : ℕ → Bool) (xs : List ℕ) → ((k : ℕ) → k < length xs → p (get_or xs k 0) ≡ true) → list_all p xs ≡ true
 all_passed p [] f = refl

@@ -7,9 +7,11 @@ pub grown : {X : Type 0} (f : X → List ℕ) (old now new : List ℕ) (xs : Lis
     new ≡ now ++ f (get_or xs i d) → new ≡ old ++ flat_map f (take (i + 1) xs)
 grown f old now new xs i d l h e =
     e ∙ ap (λ t. t ++ f (get_or xs i d)) h ∙ append_assoc old (flat_map f (take i xs)) (f (get_or xs i d))
-    ∙ ap (λ t. old ++ t) (ap (λ t. flat_map f (take i xs) ++ t) (sym (append-nil (f (get_or xs i d)))) ∙ sym (flat_map-append f (take i xs) (get_or xs i d ∷ [])) ∙ ap (flat_map f) (sym (take_more xs i d l)))
+    ∙ ap (λ t. old ++ t) (ap (λ t. flat_map f (take i xs) ++ t) (sym (append-nil (f (get_or xs i d))))
+    ∙ sym (flat_map-append f (take i xs) (get_or xs i d ∷ [])) ∙ ap (flat_map f) (sym (take_more xs i d l)))
 
 -- a text that was begun with nothing and has grown by three parts
-pub assembled : (start first second whole a b tail : List ℕ) → start ≡ [] → first ≡ start ++ a → second ≡ first ++ b → whole ≡ second ++ tail → whole ≡ a ++ (b ++ tail)
+pub assembled : (start first second whole a b tail : List ℕ) → start ≡ [] → first ≡ start ++ a → second ≡ first ++ b → whole ≡ second ++ tail →
+    whole ≡ a ++ (b ++ tail)
 assembled start first second whole a b tail s f g w =
     w ∙ ap (λ l. l ++ tail) (g ∙ ap (λ l. l ++ b) (f ∙ ap (λ l. l ++ a) s)) ∙ append_assoc a b tail

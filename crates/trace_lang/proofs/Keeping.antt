@@ -28,7 +28,8 @@ use Rattle.trace_lang.specs.Limits.{KeepsLimits, KeepsLimitsIn}
 -- WHAT HOLDS OF EACH VALUE
 
 -- a fact of the first value, and from it one of what follows
-pub then_with : {A B : Type 0} (P : A → Type 0) (Q : B → Type 0) (r : Result A LineRefusal) (f : A → Result B LineRefusal) → IfOk r P → ((x : A) → P x → IfOk (f x) Q) → IfOk (r >>= f) Q
+pub then_with : {A B : Type 0} (P : A → Type 0) (Q : B → Type 0) (r : Result A LineRefusal) (f : A → Result B LineRefusal) → IfOk r P →
+    ((x : A) → P x → IfOk (f x) Q) → IfOk (r >>= f) Q
 then_with P Q (Ok x) f h k = k x h
 then_with P Q (Err e) f h k = tt
 
@@ -41,7 +42,8 @@ either Q true r s h k = h refl
 either Q false r s h k = k refl
 
 -- a number that passes a test, and what follows from the test
-pub then_passes : {B : Type 0} (Q : B → Type 0) (place : ℕ) (passes : Bool) (n : ℕ) (f : ℕ → Result B LineRefusal) → (passes ≡ true → IfOk (f n) Q) → IfOk (in_range place passes n >>= f) Q
+pub then_passes : {B : Type 0} (Q : B → Type 0) (place : ℕ) (passes : Bool) (n : ℕ) (f : ℕ → Result B LineRefusal) → (passes ≡ true → IfOk (f n) Q) →
+    IfOk (in_range place passes n >>= f) Q
 then_passes Q place true n f k = k refl
 then_passes Q place false n f k = tt
 
@@ -57,7 +59,8 @@ abbrev PlaceFits : (h : Header) (place : ℕ) → Type 0
 PlaceFits h p = (is_aligned p ≡ true) × (is_within h.ranges p ≡ true)
 
 place_fits : (h : Header) (ws : List (List ℕ)) → IfOk (place_at h ws) (PlaceFits h)
-place_fits h ws = then_any (PlaceFits h) (number_at ws 3) _ (λ p. passes (PlaceFits h) 3 (is_aligned p && is_within h.ranges p) p (and_parts (is_aligned p) (is_within h.ranges p)))
+place_fits h ws = then_any (PlaceFits h) (number_at ws 3) _ (λ p.
+    passes (PlaceFits h) 3 (is_aligned p && is_within h.ranges p) p (and_parts (is_aligned p) (is_within h.ranges p)))
 
 abbrev OperandFits : (op : Op) (operand : ℕ) → Type 0
 OperandFits op n = has_operand (form_of op).scope ≡ false → n ≡ 0
@@ -65,7 +68,8 @@ OperandFits op n = has_operand (form_of op).scope ≡ false → n ≡ 0
 operand_fits : (op : Op) (ws : List (List ℕ)) → IfOk (operand_at op ws) (OperandFits op)
 operand_fits op ws =
     either (OperandFits op) (has_operand (form_of op).scope) _ _
-    (λ t. then_any (OperandFits op) (number_at ws 5) _ (λ n. then_any (OperandFits op) (no_word_at ws 6) _ (λ _ f. absurd (both_ways (has_operand (form_of op).scope) f t))))
+    (λ t. then_any (OperandFits op) (number_at ws 5) _ (λ n.
+    then_any (OperandFits op) (no_word_at ws 6) _ (λ _ f. absurd (both_ways (has_operand (form_of op).scope) f t))))
     (λ f. then_any (OperandFits op) (no_word_at ws 5) _ (λ _ _. refl))
 
 pub supported : (P : Event → Type 0) (reg : Reg) (field : Option Field) (e : Event) → (field ≡ None → P e) → IfOk (supported_by reg field e) P
@@ -77,7 +81,8 @@ event_by_fits h ws c store l =
     then_with (PlaceFits h) (EventFits h) (place_at h ws) _ (place_fits h ws) (λ p q.
     then_any (EventFits h) (number_at ws 4) _ (λ v. then_any (EventFits h) (no_word_at ws 5) _ (λ _. (l, q))))
 event_by_fits h ws c msr l =
-    then_any (EventFits h) (name_at (named reg_names) ws 3) _ (λ reg. then_any (EventFits h) (number_at ws 4) _ (λ v. then_any (EventFits h) (no_word_at ws 5) _ (λ _.
+    then_any (EventFits h) (name_at (named reg_names) ws 3) _ (λ reg.
+    then_any (EventFits h) (number_at ws 4) _ (λ v. then_any (EventFits h) (no_word_at ws 5) _ (λ _.
     supported (EventFits h) reg (msr_refused_field reg v) (Msr c reg v) (λ e. (l, e)))))
 event_by_fits h ws c settle l = then_any (EventFits h) (no_word_at ws 3) _ (λ _. (l, tt))
 event_by_fits h ws c isb l = then_any (EventFits h) (no_word_at ws 3) _ (λ _. (l, tt))
@@ -127,7 +132,8 @@ renewed s h e k = (without_events h s.trace.events e k, e)
 
 cores_keeps : (s : State) (ws : List (List ℕ)) → s.trace.header.ranges ≡ [] → s.trace.events ≡ [] → IfOk (cores_met s ws) KeepsLimits
 cores_keeps s ws r e =
-    then_any KeepsLimits (number_at ws 2) _ (λ n. then_passes KeepsLimits 2 (nat_le 1 n && nat_le n most_cores) n _ (λ t. then_any KeepsLimits (no_word_at ws 3) _ (λ _.
+    then_any KeepsLimits (number_at ws 2) _ (λ n.
+    then_passes KeepsLimits 2 (nat_le 1 n && nat_le n most_cores) n _ (λ t. then_any KeepsLimits (no_word_at ws 3) _ (λ _.
     let (low, high) = and_parts (nat_le 1 n) (nat_le n most_cores) t in
     renewed s (record s.trace.header { cores = n }) e record {
       some_cores = leb-true 1 n low;
@@ -136,11 +142,14 @@ cores_keeps s ws r e =
       ranges = subst (RangesFitBehind []) (sym r) tt;
     })))
 
-one_more : (earlier ranges : List (ℕ × ℕ)) (r : ℕ × ℕ) → RangesFitBehind earlier ranges → RangeFits (earlier ++ ranges) r → RangesFitBehind earlier (ranges ++ r ∷ [])
+one_more : (earlier ranges : List (ℕ × ℕ)) (r : ℕ × ℕ) → RangesFitBehind earlier ranges → RangeFits (earlier ++ ranges) r →
+    RangesFitBehind earlier (ranges ++ r ∷ [])
 one_more earlier [] r h k = (subst (λ rs. RangeFits rs r) (append-nil earlier) k, tt)
-one_more earlier (x ∷ ranges) r h k = (h.0, one_more (earlier ++ x ∷ []) ranges r h.1 (subst (λ rs. RangeFits rs r) (sym (append_assoc earlier (x ∷ []) ranges)) k))
+one_more earlier (x ∷ ranges) r h k =
+    (h.0, one_more (earlier ++ x ∷ []) ranges r h.1 (subst (λ rs. RangeFits rs r) (sym (append_assoc earlier (x ∷ []) ranges)) k))
 
-range_fits : (earlier : List (ℕ × ℕ)) (b n : ℕ) → is_base b ≡ true → is_size earlier b n ≡ true → not (list_any (share_byte (b, n)) earlier) ≡ true → RangeFits earlier (b, n)
+range_fits : (earlier : List (ℕ × ℕ)) (b n : ℕ) → is_base b ≡ true → is_size earlier b n ≡ true → not (list_any (share_byte (b, n)) earlier) ≡ true →
+    RangeFits earlier (b, n)
 range_fits earlier b n base size apart =
     let (aligned, below) = and_parts (is_aligned b) (nat_lt b (2 ^ 52)) base in
     let (rest, sum) = and_parts (is_aligned n && nat_lt 0 n && nat_le (b + n) (2 ^ 52)) (nat_le (bytes_of earlier + n) most_memory) size in
@@ -158,7 +167,8 @@ longer h r k l f = record {
   ranges = one_more [] h.ranges r k.ranges f;
 }
 
-range_keeps : (s : State) (ws : List (List ℕ)) → IsTrace s.trace → s.trace.events ≡ [] → length s.trace.header.ranges < most_ranges → IfOk (range_met s ws) KeepsLimits
+range_keeps : (s : State) (ws : List (List ℕ)) → IsTrace s.trace → s.trace.events ≡ [] → length s.trace.header.ranges < most_ranges →
+    IfOk (range_met s ws) KeepsLimits
 range_keeps s ws t e l =
     let h = s.trace.header in
     then_any KeepsLimits (number_at ws 2) _ (λ b. then_passes KeepsLimits 2 (is_base b) b _ (λ base.
@@ -168,13 +178,17 @@ range_keeps s ws t e l =
 
 caches_keeps : (s : State) (ws : List (List ℕ)) → IsTrace s.trace → s.trace.events ≡ [] → IfOk (caches_met s ws) KeepsLimits
 caches_keeps s ws t e =
-    then_any KeepsLimits (name_at (named sizes) ws 2) _ (λ z. then_any KeepsLimits (no_word_at ws 3) (λ _. Ok (with_header s PolicyDue (record s.trace.header { size = z }))) (λ _.
-    (without_events (record s.trace.header { size = z }) s.trace.events e record { some_cores = t.some_cores; cores = t.cores; count = t.count; ranges = t.ranges }, e)))
+    then_any KeepsLimits (name_at (named sizes) ws 2) _ (λ z.
+        then_any KeepsLimits (no_word_at ws 3) (λ _. Ok (with_header s PolicyDue (record s.trace.header { size = z }))) (λ _.
+    (without_events (record s.trace.header { size = z }) s.trace.events e record { some_cores = t.some_cores; cores = t.cores; count = t.count;
+    ranges = t.ranges }, e)))
 
 policy_keeps : (s : State) (ws : List (List ℕ)) → IsTrace s.trace → s.trace.events ≡ [] → IfOk (policy_met s ws) KeepsLimits
 policy_keeps s ws t e =
-    then_any KeepsLimits (name_at (named policies) ws 2) _ (λ p. then_any KeepsLimits (no_word_at ws 3) (λ _. Ok (with_header s Events (record s.trace.header { policy = p }))) (λ _.
-    without_events (record s.trace.header { policy = p }) s.trace.events e record { some_cores = t.some_cores; cores = t.cores; count = t.count; ranges = t.ranges }))
+    then_any KeepsLimits (name_at (named policies) ws 2) _ (λ p.
+        then_any KeepsLimits (no_word_at ws 3) (λ _. Ok (with_header s Events (record s.trace.header { policy = p }))) (λ _.
+    without_events (record s.trace.header { policy = p }) s.trace.events e record { some_cores = t.some_cores; cores = t.cores; count = t.count;
+        ranges = t.ranges }))
 
 ranges_keep : (s : State) (w : List ℕ) (ws : List (List ℕ)) → IsTrace s.trace → s.trace.events ≡ [] → IfOk (ranges_met s w ws) KeepsLimits
 ranges_keep s w ws t e =
@@ -220,14 +234,16 @@ line_keeps s line h =
     (λ _. either KeepsLimits (nat_lt most_line (length line)) (Err LongLine) (words_met s (words_of line)) (λ _. tt) (λ _. words_keep s (words_of line) h))
 
 -- the lines behind one
-goes_on : (n : ℕ) (lines : List (List ℕ)) (r : Result State LineRefusal) → IfOk r KeepsLimits → ((t : State) → KeepsLimits t → IfOk (lines_met t (n + 1) lines) KeepsLimits) →
+goes_on : (n : ℕ) (lines : List (List ℕ)) (r : Result State LineRefusal) → IfOk r KeepsLimits →
+    ((t : State) → KeepsLimits t → IfOk (lines_met t (n + 1) lines) KeepsLimits) →
     IfOk (elim r as (λ _. Result State TraceRefusal) [ Ok t ↦ lines_met t (n + 1) lines | Err why ↦ Err (refused_in n why) ]) KeepsLimits
 goes_on n lines (Ok t) h k = k t h
 goes_on n lines (Err why) h k = tt
 
 lines_keep : (s : State) (n : ℕ) (lines : List (List ℕ)) → KeepsLimits s → IfOk (lines_met s n lines) KeepsLimits
 lines_keep s n [] h = h
-lines_keep s n (line ∷ lines) h = goes_on n lines (line_met s (without_return line)) (line_keeps s (without_return line) h) (λ t k. lines_keep t (n + 1) lines k)
+lines_keep s n (line ∷ lines) h =
+    goes_on n lines (line_met s (without_return line)) (line_keeps s (without_return line) h) (λ t k. lines_keep t (n + 1) lines k)
 
 -- a state that lines lead to keeps the limits
 pub reached_keeps : (n : ℕ) (lines : List (List ℕ)) (s : State) → lines_met no_lines n lines ≡ Ok s → KeepsLimits s

@@ -53,7 +53,8 @@ local_named (op ∷ ops) w =
     ∙ sym (map_cond local (bytes_eq w (op_text op)) (Some op) (named (locals ops) w))
 
 -- a word that is a local form, or else one with IS
-pub either_form : (ops : List Op) (w : List ℕ) → named (local_forms ops ++ shared_forms ops) w ≡ option_or (option_map local (named (locals ops) w)) (named (shared_forms ops) w)
+pub either_form : (ops : List Op) (w : List ℕ) →
+    named (local_forms ops ++ shared_forms ops) w ≡ option_or (option_map local (named (locals ops) w)) (named (shared_forms ops) w)
 either_form ops w = named_append (local_forms ops) (shared_forms ops) w ∙ ap (λ o. option_or o (named (shared_forms ops) w)) (local_named ops w)
 
 same_front : (v t s : List ℕ) → bytes_eq (v ++ s) (t ++ s) ≡ bytes_eq v t

@@ -26,7 +26,8 @@ onto_more : (room n : ℕ) (acc : List ℕ) → eqb (n / 16) 0 ≡ false → ont
 onto_more room n acc h = rw h refl
 
 left : (k n : ℕ) → 0 < k → n < 16 ^ k → n / 16 < 16 ^ (k - 1)
-left k n p l = let one : k ≡ suc (k - 1) = omega arith in (div-lt_iff_lt-mul (omega arith)).1 (let b : n < 16 ^ suc (k - 1) = subst (λ (x : ℕ). n < 16 ^ x) one l in rw pow-suc at b)
+left k n p l = let one : k ≡ suc (k - 1) =
+    omega arith in (div-lt_iff_lt-mul (omega arith)).1 (let b : n < 16 ^ suc (k - 1) = subst (λ (x : ℕ). n < 16 ^ x) one l in rw pow-suc at b)
 
 some : (k n : ℕ) → eqb n 0 ≡ false → n < 16 ^ k → 0 < k
 some zero n e l = let z : n ≡ 0 = omega arith in absurd (grind (arith, nat_tests))
@@ -63,7 +64,8 @@ all_are : (radix : ℕ) (ds : List ℕ) → AllDigits radix ds → all_digits ra
 all_are radix [] h = refl
 all_are radix (c ∷ cs) h = and_from (nat_lt (digit_value c) radix) (all_digits radix cs) (lt-ltb (digit_value c) radix h.0) (all_are radix cs h.1)
 
-read_in : (radix most n : ℕ) (ds : List ℕ) → 0 < length ds → length ds ≤ most → all_digits radix ds ≡ true → digits_value radix ds ≡ n → n < 2 ^ 64 → number_in radix most ds ≡ Some n
+read_in : (radix most n : ℕ) (ds : List ℕ) → 0 < length ds → length ds ≤ most → all_digits radix ds ≡ true → digits_value radix ds ≡ n → n < 2 ^ 64 →
+    number_in radix most ds ≡ Some n
 read_in radix most n ds p q a v l = grind (arith, common_steps, nat_tests)
 
 -- NUMBERS
@@ -83,7 +85,8 @@ hex_word n h =
     word_by (hex_text n) (omega arith) (omega (arith, l)) (all_seen (digits 16 false n) d.0.1)
 
 -- a number of cores, or of a core
-one_digit : (P : List ℕ → ℕ → Type 0) → P (0x30 ∷ []) 0 → P (0x31 ∷ []) 1 → P (0x32 ∷ []) 2 → P (0x33 ∷ []) 3 → P (0x34 ∷ []) 4 → P (0x35 ∷ []) 5 → P (0x36 ∷ []) 6 → P (0x37 ∷ []) 7 → P (0x38 ∷ []) 8 →
+one_digit : (P : List ℕ → ℕ → Type 0) → P (0x30 ∷ []) 0 → P (0x31 ∷ []) 1 → P (0x32 ∷ []) 2 → P (0x33 ∷ []) 3 → P (0x34 ∷ []) 4 → P (0x35 ∷ []) 5 →
+    P (0x36 ∷ []) 6 → P (0x37 ∷ []) 7 → P (0x38 ∷ []) 8 →
     (n : ℕ) → n ≤ 8 → P ((48 + n) ∷ []) n
 one_digit P a b c d e f g h i zero l = a
 one_digit P a b c d e f g h i (suc zero) l = b

@@ -109,9 +109,11 @@ kind_word Fetch = refl
 -- EVENTS
 
 core_back : (h : Header) (v : List ℕ) (c : ℕ) (ws : List (List ℕ)) → c < h.cores → h.cores ≤ 8 → core_at h (v ∷ decimal c ∷ ws) ≡ Ok c
-core_back h v c ws l m = go (number_or 2 (number_of (decimal c))) c (λ c. in_range 2 (nat_lt c h.cores) c) (decimal_at 2 c (omega (arith, l, m))) ∙ within 2 (nat_lt c h.cores) c (lt-ltb c h.cores l)
+core_back h v c ws l m = go (number_or 2 (number_of (decimal c))) c (λ c. in_range 2 (nat_lt c h.cores) c) (decimal_at 2 c (omega (arith, l, m)))
+    ∙ within 2 (nat_lt c h.cores) c (lt-ltb c h.cores l)
 
-place_back : (h : Header) (v c : List ℕ) (p : ℕ) (ws : List (List ℕ)) → p < 2 ^ 64 → is_aligned p ≡ true → is_within h.ranges p ≡ true → place_at h (v ∷ c ∷ hex_text p ∷ ws) ≡ Ok p
+place_back : (h : Header) (v c : List ℕ) (p : ℕ) (ws : List (List ℕ)) → p < 2 ^ 64 → is_aligned p ≡ true → is_within h.ranges p ≡ true →
+    place_at h (v ∷ c ∷ hex_text p ∷ ws) ≡ Ok p
 place_back h v c p ws l a b =
     go (number_or 3 (number_of (hex_text p))) p (λ p. in_range 3 (is_aligned p && is_within h.ranges p) p) (hex_at 3 p l)
     ∙ within 3 (is_aligned p && is_within h.ranges p) p (and_from (is_aligned p) (is_within h.ranges p) a b)
@@ -119,7 +121,8 @@ place_back h v c p ws l a b =
 operand_back : (op : Op) (b : Bool) (v c from o : List ℕ) (n : ℕ) → has_operand (form_of op).scope ≡ b → n < 2 ^ 64 → (b ≡ false → n ≡ 0) →
     operand_at op (v ∷ c ∷ from ∷ o ∷ cond b (hex_text n ∷ []) []) ≡ Ok n
 operand_back op true v c from o n e l k =
-    cond-true (has_operand (form_of op).scope) _ _ e ∙ go (number_or 5 (number_of (hex_text n))) n (λ n. no_word_at (v ∷ c ∷ from ∷ o ∷ hex_text n ∷ []) 6 >>= (λ _. Ok n)) (hex_at 5 n l)
+    cond-true (has_operand (form_of op).scope) _ _ e
+    ∙ go (number_or 5 (number_of (hex_text n))) n (λ n. no_word_at (v ∷ c ∷ from ∷ o ∷ hex_text n ∷ []) 6 >>= (λ _. Ok n)) (hex_at 5 n l)
 operand_back op false v c from o n e l k = cond-false (has_operand (form_of op).scope) _ _ e ∙ ap Ok (sym (k refl))
 
 pan_back : (pan : Bool) (v c el kind va : List ℕ) → pan_at (v ∷ c ∷ el ∷ kind ∷ va ∷ cond pan (codes "pan" ∷ []) []) ≡ Ok pan
@@ -133,7 +136,8 @@ pub record IsBack (h : Header) (e : Event) : Type 0 where
   pub known : is_prefetch e ≡ false
 
 -- the words behind the core's number
-by_back : (h : Header) (e : Event) (verb : Verb) → event_by h (event_words e) (core_of e) verb ≡ Ok e → (v : List ℕ) (ws : List (List ℕ)) → event_words e ≡ v ∷ decimal (core_of e) ∷ ws →
+by_back : (h : Header) (e : Event) (verb : Verb) → event_by h (event_words e) (core_of e) verb ≡ Ok e → (v : List ℕ) (ws : List (List ℕ)) →
+    event_words e ≡ v ∷ decimal (core_of e) ∷ ws →
     core_of e < h.cores → h.cores ≤ 8 → (core_at h (event_words e) >>= (λ c. event_by h (event_words e) c verb)) ≡ Ok e
 by_back h e verb k v ws w l m =
     go (core_at h (event_words e)) (core_of e) (λ c. event_by h (event_words e) c verb) (ap (core_at h) w ∙ core_back h v (core_of e) ws l m) ∙ k
@@ -142,24 +146,30 @@ store_back : (h : Header) (c p v : ℕ) → p < 2 ^ 64 → v < 2 ^ 64 → is_ali
     event_by h (event_words (Store c p v)) c store ≡ Ok (Store c p v)
 store_back h c p v l m a b =
     let ws = event_words (Store c p v) in
-    go (place_at h ws) p (λ p. number_at ws 4 >>= (λ v. no_word_at ws 5 >>= (λ _. Ok (Store c p v)))) (place_back h (codes "store") (decimal c) p (hex_text v ∷ []) l a b)
+    go (place_at h ws) p (λ p. number_at ws 4 >>= (λ v. no_word_at ws 5 >>= (λ _. Ok (Store c p v))))
+    (place_back h (codes "store") (decimal c) p (hex_text v ∷ []) l a b)
     ∙ go (number_or 4 (number_of (hex_text v))) v (λ v. no_word_at ws 5 >>= (λ _. Ok (Store c p v))) (hex_at 4 v m)
 
-msr_back : (h : Header) (c : ℕ) (reg : Reg) (v : ℕ) → v < 2 ^ 64 → msr_refused_field reg v ≡ None → event_by h (event_words (Msr c reg v)) c msr ≡ Ok (Msr c reg v)
+msr_back : (h : Header) (c : ℕ) (reg : Reg) (v : ℕ) → v < 2 ^ 64 → msr_refused_field reg v ≡ None →
+    event_by h (event_words (Msr c reg v)) c msr ≡ Ok (Msr c reg v)
 msr_back h c reg v l f =
     let ws = event_words (Msr c reg v) in
-    go (word_or 3 (named reg_names (reg_text reg))) reg (λ reg. number_at ws 4 >>= (λ v. no_word_at ws 5 >>= (λ _. supported_by reg (msr_refused_field reg v) (Msr c reg v)))) (ap (word_or 3) (reg_back reg))
+    go (word_or 3 (named reg_names (reg_text reg))) reg (λ reg.
+    number_at ws 4 >>= (λ v. no_word_at ws 5 >>= (λ _. supported_by reg (msr_refused_field reg v) (Msr c reg v)))) (ap (word_or 3) (reg_back reg))
     ∙ go (number_or 4 (number_of (hex_text v))) v (λ v. no_word_at ws 5 >>= (λ _. supported_by reg (msr_refused_field reg v) (Msr c reg v))) (hex_at 4 v l)
     ∙ ap (λ o. supported_by reg o (Msr c reg v)) f
 
-tlbi_back : (h : Header) (c : ℕ) (from : Origin) (op : Op) (shared : Bool) (n : ℕ) → n < 2 ^ 64 → may_issue from op ≡ true → (has_operand (form_of op).scope ≡ false → n ≡ 0) →
+tlbi_back : (h : Header) (c : ℕ) (from : Origin) (op : Op) (shared : Bool) (n : ℕ) → n < 2 ^ 64 → may_issue from op ≡ true →
+    (has_operand (form_of op).scope ≡ false → n ≡ 0) →
     event_by h (event_words (Tlbi c from op shared n)) c tlbi ≡ Ok (Tlbi c from op shared n)
 tlbi_back h c from op shared n l m k =
     let ws = event_words (Tlbi c from op shared n) in
-    let last : (from : Origin) (o : Op × Bool) → Result Event LineRefusal = λ from o. operand_at o.0 ws >>= (λ n. allowed_from from o.0 (Tlbi c from o.0 o.1 n)) in
+    let last : (from : Origin) (o : Op × Bool) → Result Event LineRefusal =
+    λ from o. operand_at o.0 ws >>= (λ n. allowed_from from o.0 (Tlbi c from o.0 o.1 n)) in
     go (word_or 3 (named origins (origin_text from))) from (λ from. name_at (named op_names) ws 4 >>= last from) (ap (word_or 3) (origin_back from))
     ∙ go (word_or 4 (named op_names (op_word op shared))) (op, shared) (last from) (ap (word_or 4) (op_back op shared))
-    ∙ go (operand_at op ws) n (λ n. allowed_from from op (Tlbi c from op shared n)) (operand_back op (has_operand (form_of op).scope) (codes "tlbi") (decimal c) (origin_text from) (op_word op shared) n refl l k)
+    ∙ go (operand_at op ws) n (λ n. allowed_from from op (Tlbi c from op shared n))
+    (operand_back op (has_operand (form_of op).scope) (codes "tlbi") (decimal c) (origin_text from) (op_word op shared) n refl l k)
     ∙ cond-true (may_issue from op) (Ok (Tlbi c from op shared n)) (Err NotAtEl1) m
 
 dsb_back : (h : Header) (c : ℕ) (kind : Barrier) → event_by h (event_words (Dsb c kind)) c dsb ≡ Ok (Dsb c kind)
@@ -170,9 +180,12 @@ dsb_back h c kind =
 access_back : (h : Header) (c : ℕ) (a : Access) → a.va < 2 ^ 64 → event_by h (event_words (AccessOf c a)) c access ≡ Ok (AccessOf c a)
 access_back h c a l =
     let ws = event_words (AccessOf c a) in
-    let whole : (el : El) (kind : Kind) (va : ℕ) (pan : Bool) → Result Event LineRefusal = λ el kind va pan. Ok (AccessOf c record { va = va; el = el; kind = kind; pan = pan }) in
-    go (word_or 3 (el_of (el_text a.el))) a.el (λ el. name_at kind_of ws 4 >>= (λ kind. number_at ws 5 >>= (λ va. pan_at ws >>= whole el kind va))) (ap (word_or 3) (el_back a.el))
-    ∙ go (word_or 4 (kind_of (kind_text a.kind))) a.kind (λ kind. number_at ws 5 >>= (λ va. pan_at ws >>= whole a.el kind va)) (ap (word_or 4) (kind_back a.kind))
+    let whole : (el : El) (kind : Kind) (va : ℕ) (pan : Bool) → Result Event LineRefusal =
+    λ el kind va pan. Ok (AccessOf c record { va = va; el = el; kind = kind; pan = pan }) in
+    go (word_or 3 (el_of (el_text a.el))) a.el (λ el. name_at kind_of ws 4 >>= (λ kind. number_at ws 5 >>= (λ va. pan_at ws >>= whole el kind va)))
+    (ap (word_or 3) (el_back a.el))
+    ∙ go (word_or 4 (kind_of (kind_text a.kind))) a.kind (λ kind. number_at ws 5 >>= (λ va. pan_at ws >>= whole a.el kind va))
+    (ap (word_or 4) (kind_back a.kind))
     ∙ go (number_or 5 (number_of (hex_text a.va))) a.va (λ va. pan_at ws >>= whole a.el a.kind va) (hex_at 5 a.va l)
     ∙ go (pan_at ws) a.pan (whole a.el a.kind a.va) (pan_back a.pan (codes "access") (decimal c) (el_text a.el) (kind_text a.kind) (hex_text a.va))
 
@@ -181,7 +194,8 @@ event_back h (Store c p v) m b = by_back h (Store c p v) store (store_back h c p
 event_back h (Msr c reg v) m b = by_back h (Msr c reg v) msr (msr_back h c reg v b.words b.fits.1) _ _ refl b.fits.0 m
 event_back h (Settle c) m b = by_back h (Settle c) settle refl _ _ refl b.fits.0 m
 event_back h (Isb c) m b = by_back h (Isb c) isb refl _ _ refl b.fits.0 m
-event_back h (Tlbi c from op shared n) m b = by_back h (Tlbi c from op shared n) tlbi (tlbi_back h c from op shared n b.words b.fits.1.0 b.fits.1.1) _ _ refl b.fits.0 m
+event_back h (Tlbi c from op shared n) m b =
+    by_back h (Tlbi c from op shared n) tlbi (tlbi_back h c from op shared n b.words b.fits.1.0 b.fits.1.1) _ _ refl b.fits.0 m
 event_back h (Dsb c kind) m b = by_back h (Dsb c kind) dsb (dsb_back h c kind) _ _ refl b.fits.0 m
 event_back h (Deliver c) m b = by_back h (Deliver c) deliver refl _ _ refl b.fits.0 m
 event_back h (AccessOf c a) m b = by_back h (AccessOf c a) access (access_back h c a b.words) _ _ refl b.fits.0 m
@@ -204,7 +218,8 @@ event_are_words h (Store c p v) m l w = (refl, (decimal_word c (omega (arith, l,
 event_are_words h (Msr c reg v) m l w = (refl, (decimal_word c (omega (arith, l, m)), (reg_word reg, (hex_word v w, tt))))
 event_are_words h (Settle c) m l w = (refl, (decimal_word c (omega (arith, l, m)), tt))
 event_are_words h (Isb c) m l w = (refl, (decimal_word c (omega (arith, l, m)), tt))
-event_are_words h (Tlbi c from op shared n) m l w = (refl, (decimal_word c (omega (arith, l, m)), (origin_word from, (op_is_word op shared, operand_words (has_operand (form_of op).scope) n w))))
+event_are_words h (Tlbi c from op shared n) m l w =
+    (refl, (decimal_word c (omega (arith, l, m)), (origin_word from, (op_is_word op shared, operand_words (has_operand (form_of op).scope) n w))))
 event_are_words h (Dsb c kind) m l w = (refl, (decimal_word c (omega (arith, l, m)), (barrier_word kind, tt)))
 event_are_words h (Deliver c) m l w = (refl, (decimal_word c (omega (arith, l, m)), tt))
 event_are_words h (AccessOf c a) m l w = (refl, (decimal_word c (omega (arith, l, m)), (el_word a.el, (kind_word a.kind, (hex_word a.va w, pan_words a.pan)))))
@@ -222,7 +237,8 @@ few_words (AccessOf c a) = omega (arith, few_behind a.pan (codes "pan"))
 few_words (Prefetch c a) = omega (arith, few_behind a.pan (codes "pan"))
 
 -- the first word of an event is neither a comment nor the end
-pub begins : (e : Event) → (v : List ℕ) × (ws : List (List ℕ)) × (event_words e ≡ v ∷ ws) × (bytes_eq (take 1 v) (codes "#") ≡ false) × (bytes_eq v (codes "end") ≡ false)
+pub begins : (e : Event) → (v : List ℕ) × (ws : List (List ℕ)) × (event_words e ≡ v ∷ ws) × (bytes_eq (take 1 v) (codes "#") ≡ false)
+    × (bytes_eq v (codes "end") ≡ false)
 begins (Store c p v) = (_, _, refl, refl, refl)
 begins (Msr c reg v) = (_, _, refl, refl, refl)
 begins (Settle c) = (_, _, refl, refl, refl)

@@ -67,7 +67,8 @@ parts w h =
 
 pub word_by : (w : List ℕ) → 0 < length w → length w ≤ 20 → list_all is_seen w ≡ true → is_word w ≡ true
 word_by w p q h =
-    and_from (nat_lt 0 (length w) && nat_le (length w) 20) (list_all is_seen w) (and_from (nat_lt 0 (length w)) (nat_le (length w) 20) (lt-ltb 0 (length w) p) (le-leb (length w) 20 q)) h
+    and_from (nat_lt 0 (length w) && nat_le (length w) 20) (list_all is_seen w)
+    (and_from (nat_lt 0 (length w)) (nat_le (length w) 20) (lt-ltb 0 (length w) p) (le-leb (length w) 20 q)) h
 
 not_blank : (w : List ℕ) → is_word w ≡ true → All (λ b. is_blank b ≡ false) w
 not_blank w h = all_by is_seen (λ b. is_blank b ≡ false) no_blank w (parts w h).2
@@ -144,4 +145,5 @@ pub next_line : (s t : State) (n : ℕ) (ws : List (List ℕ)) (rest : List ℕ)
 next_line s t n ws rest h k e =
     ap (λ l. lines_met s n (slice_split is_end l)) (ap (λ l. l ++ rest) (line_bare ws) ∙ append_assoc (bare ws) (0x0a ∷ []) rest)
     ∙ ap (lines_met s n) (slice_split_at is_end (bare ws) 0x0a rest (all_by is_plain (λ b. is_end b ≡ false) no_end (bare ws) (all_plain ws h)) refl)
-    ∙ ap (λ r. elim r as (λ _. Result State TraceRefusal) [ Ok u ↦ lines_met u (n + 1) (slice_split is_end rest) | Err why ↦ Err (refused_in n why) ]) (line_read s ws h k ∙ e)
+    ∙ ap (λ r. elim r as (λ _. Result State TraceRefusal) [ Ok u ↦ lines_met u (n + 1) (slice_split is_end rest) | Err why ↦ Err (refused_in n why) ])
+    (line_read s ws h k ∙ e)

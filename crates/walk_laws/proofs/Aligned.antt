@@ -52,17 +52,22 @@ granule_least g h = grind arith
 address_page : (g w : ℕ) → IsGranule g → address_in g w g % 2 ^ 12 ≡ 0
 address_page g w h =
     let l = granule_least g h in
-    elim (eqb g 16) as (λ b. cond b (bits_of w 15 12 * 2 ^ 48 + bits_of w 47 g * 2 ^ g) (bits_of w 47 g * 2 ^ g) % 2 ^ 12 ≡ 0) [ true ↦ sum_multiple (bits_of w 15 12) (bits_of w 47 g) 48 g (omega arith) l | false ↦ multiple (bits_of w 47 g) g 12 l ]
+    elim (eqb g 16) as (λ b. cond b (bits_of w 15 12 * 2 ^ 48 + bits_of w 47 g * 2 ^ g) (bits_of w 47 g * 2 ^ g) % 2 ^ 12 ≡ 0) [ true ↦
+    sum_multiple (bits_of w 15 12) (bits_of w 47 g) 48 g (omega arith) l | false ↦ multiple (bits_of w 47 g) g 12 l ]
 
 -- which words are tables, by their lowest bits and level
-table2_where : {S : Type 0} (k : S → Kind2) (nothing pointer mapping : S) (b0 b1 b2 b3 : Bool) (a next : ℕ) → k (cond b0 (cond b1 (cond b2 mapping pointer) (cond b3 mapping nothing)) nothing) ≡ Table2 next → k nothing ≡ Invalid2 → k pointer ≡ Table2 a → (k mapping ≡ Table2 next → ⊥) → next ≡ a
+table2_where : {S : Type 0} (k : S → Kind2) (nothing pointer mapping : S) (b0 b1 b2 b3 : Bool) (a next : ℕ) →
+    k (cond b0 (cond b1 (cond b2 mapping pointer) (cond b3 mapping nothing)) nothing) ≡ Table2 next → k nothing ≡ Invalid2 → k pointer ≡ Table2 a →
+    (k mapping ≡ Table2 next → ⊥) → next ≡ a
 table2_where k nothing pointer mapping false b1 b2 b3 a next e n p m = absurd cc
 table2_where k nothing pointer mapping true true true b3 a next e n p m = absurd (m e)
 table2_where k nothing pointer mapping true true false b3 a next e n p m = cc
 table2_where k nothing pointer mapping true false b2 true a next e n p m = absurd (m e)
 table2_where k nothing pointer mapping true false b2 false a next e n p m = absurd cc
 
-table1_where : {S : Type 0} (k : S → Kind1) (nothing pointer mapping : S) (b0 b1 b2 b3 : Bool) (a next : ℕ) (bits bits' : TableBits) → k (cond b0 (cond b1 (cond b2 mapping pointer) (cond b3 mapping nothing)) nothing) ≡ Table next bits → k nothing ≡ Invalid → k pointer ≡ Table a bits' → (k mapping ≡ Table next bits → ⊥) → next ≡ a
+table1_where : {S : Type 0} (k : S → Kind1) (nothing pointer mapping : S) (b0 b1 b2 b3 : Bool) (a next : ℕ) (bits bits' : TableBits) →
+    k (cond b0 (cond b1 (cond b2 mapping pointer) (cond b3 mapping nothing)) nothing) ≡ Table next bits → k nothing ≡ Invalid → k pointer ≡ Table a bits' →
+    (k mapping ≡ Table next bits → ⊥) → next ≡ a
 table1_where k nothing pointer mapping false b1 b2 b3 a next bits bits' e n p m = absurd cc
 table1_where k nothing pointer mapping true true true b3 a next bits bits' e n p m = absurd (m e)
 table1_where k nothing pointer mapping true true false b3 a next bits bits' e n p m = cc
@@ -73,11 +78,14 @@ table1_where k nothing pointer mapping true false b2 false a next bits bits' e n
 pub table2_page : (c : Config) (left w next : ℕ) → means2_of c left w ≡ Table2 next → next % 2 ^ 12 ≡ 0
 unfolding means2_of
 table2_page c left w next e =
-    let q : next ≡ address_in (granule_of c.tg2) w (granule_of c.tg2) = table2_where (kind2_of (granule_of c.tg2) left w) _ _ _ (bit w 0) (bit w 1) (eqb left 0) (has_block (granule_of c.tg2) left) _ next e refl refl (λ h. cc) in
+    let q : next ≡ address_in (granule_of c.tg2) w (granule_of c.tg2) =
+    table2_where (kind2_of (granule_of c.tg2) left w) _ _ _ (bit w 0) (bit w 1) (eqb left 0) (has_block (granule_of c.tg2) left) _ next e refl refl (λ h. cc) in
     rw q (address_page (granule_of c.tg2) w (granule_of_is_granule c.tg2))
 
 pub table1_page : (c : Config) (s : Side) (left w next : ℕ) (bits : TableBits) → means1_of c s left w ≡ Table next bits → next % 2 ^ 12 ≡ 0
 unfolding means1_of
 table1_page c s left w next bits e =
-    let q : next ≡ address_in (granule_of (tg_of c s)) w (granule_of (tg_of c s)) = table1_where (kind1_of (granule_of (tg_of c s)) (hpd_of c s) left w) _ _ _ (bit w 0) (bit w 1) (eqb left 0) (has_block (granule_of (tg_of c s)) left) _ next bits _ e refl refl (λ h. cc) in
+    let q : next ≡ address_in (granule_of (tg_of c s)) w (granule_of (tg_of c s)) =
+    table1_where (kind1_of (granule_of (tg_of c s)) (hpd_of c s) left w) _ _ _ (bit w 0) (bit w 1) (eqb left 0) (has_block (granule_of (tg_of c s)) left) _ next
+    bits _ e refl refl (λ h. cc) in
     rw q (address_page (granule_of (tg_of c s)) w (granule_of_is_granule (tg_of c s)))

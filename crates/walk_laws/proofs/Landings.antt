@@ -32,13 +32,17 @@ module _ (r : Regime) (f : IsOfFields r) (a b : Access) where
 
     -- the piece is no larger than the first leaf, and stage 2 of both outputs goes in step
     abbrev Goes : Bool → List Item → Type 0
-    Goes vm items = (n.class ≤ l.class) × (Same1 r false a b n.class → InStep (fits r) (SameRegion r) (Output vm a l) (Output vm b (moved1 l (untagged b.va))) items (done (reaches n)) (done (reaches (moved n (untagged b.va)))))
+    Goes vm items = (n.class ≤ l.class)
+        × (Same1 r false a b n.class → InStep (fits r) (SameRegion r) (Output vm a l) (Output vm b (moved1 l (untagged b.va))) items (done (reaches n))
+        (done (reaches (moved n (untagged b.va)))))
 
     piece_again : (m : Leaf2) → m.pa ≡ goes_to m.pa m.class l.out → piece (moved1 l (untagged b.va)) (moved2 m other) ≡ moved (piece l m) (untagged b.va)
     piece_again m e = let g : ℕ → Landing = λ z. record (piece l m) { pa = z } in ap g (goes_to_piece l.out m.pa l.class m.class (untagged b.va) e)
 
-    output_deep : (front rest : List Item) (e : End Leaf2) → Takes (fits r) (walk2 (asked2 r false l.out)) front (done e) → Takes (fits r) (done (judged2 false a l e)) rest (done (reaches n)) → Goes true (front ++ rest)
-    output_deep front rest (stops d) w h = (let q : done (reaches n) ≡ done (stops d) = (done_takes (fits r) (stops d) rest (done (reaches n)) h).1 in absurd cc)
+    output_deep : (front rest : List Item) (e : End Leaf2) → Takes (fits r) (walk2 (asked2 r false l.out)) front (done e) →
+        Takes (fits r) (done (judged2 false a l e)) rest (done (reaches n)) → Goes true (front ++ rest)
+    output_deep front rest (stops d) w h =
+        (let q : done (reaches n) ≡ done (stops d) = (done_takes (fits r) (stops d) rest (done (reaches n)) h).1 in absurd cc)
     output_deep front rest (reaches m) w h =
         let t = done_takes (fits r) (reaches (piece l m)) rest (done (reaches n)) h in
         let q : done (reaches n) ≡ done (reaches (piece l m)) = t.1 in
@@ -49,8 +53,10 @@ module _ (r : Regime) (f : IsOfFields r) (a b : Access) where
           omega (arith, k, u),
           λ s. (
               let o : l.out / 2 ^ m.class ≡ other / 2 ^ m.class = goes_to_piece_same l.out l.class m.class (untagged a.va) (untagged b.va) here (rw k at s) in
-              let v = step_after (fits r) (SameRegion r) (walk2 (asked2 r false l.out)) (walk2 (asked2 r false other)) (λ e. done (judged2 false a l e)) (λ e. done (judged2 false b (moved1 l (untagged b.va)) e)) front _ _ (d.shift o) in
-              rw t.0 (step_on (fits r) (SameRegion r) _ _ front [] _ _ _ _ v (ap (λ z. done (reaches z)) e, ap (λ z. done (reaches (moved z (untagged b.va)))) e ∙ sym (ap (λ z. done (reaches z)) (piece_again m d.here))))),
+              let v = step_after (fits r) (SameRegion r) (walk2 (asked2 r false l.out)) (walk2 (asked2 r false other)) (λ e. done (judged2 false a l e)) (λ e.
+              done (judged2 false b (moved1 l (untagged b.va)) e)) front _ _ (d.shift o) in
+              rw t.0 (step_on (fits r) (SameRegion r) _ _ front [] _ _ _ _ v (ap (λ z. done (reaches z)) e, ap (λ z. done (reaches (moved z (untagged b.va)))) e
+              ∙ sym (ap (λ z. done (reaches z)) (piece_again m d.here))))),
         )
 
     output : (vm : Bool) (items : List Item) → Takes (fits r) (Output vm a l) items (done (reaches n)) → Goes vm items
@@ -72,10 +78,14 @@ module _ (r : Regime) (f : IsOfFields r) (a b : Access) where
 
   -- what is known of a landing
   abbrev Lands : Bool → List Item → Landing → Type 0
-  Lands m items n = (n.class ≤ 52) × (Same1 r false a b n.class → is_refused1 r.config b ≡ false → InStep (fits r) (SameRegion r) (Whole m a) (Whole m b) items (done (reaches n)) (done (reaches (moved n (untagged b.va)))))
+  Lands m items n = (n.class ≤ 52)
+      × (Same1 r false a b n.class → is_refused1 r.config b ≡ false →
+      InStep (fits r) (SameRegion r) (Whole m a) (Whole m b) items (done (reaches n)) (done (reaches (moved n (untagged b.va)))))
 
-  lands_behind : r.side ≡ side_of a.va → (front rest : List Item) (e : End Leaf1) (n : Landing) → Takes (fits r) (stage1_on (under r false a)) front (done e) → Takes (fits r) (stage2_behind (under r false a) e) rest (done (reaches n)) → Lands true (front ++ rest) n
-  lands_behind side front rest (stops d) n w h = (let q : done (reaches n) ≡ done (stops d) = (done_takes (fits r) (stops d) rest (done (reaches n)) h).1 in absurd cc)
+  lands_behind : r.side ≡ side_of a.va → (front rest : List Item) (e : End Leaf1) (n : Landing) → Takes (fits r) (stage1_on (under r false a)) front (done e) →
+      Takes (fits r) (stage2_behind (under r false a) e) rest (done (reaches n)) → Lands true (front ++ rest) n
+  lands_behind side front rest (stops d) n w h =
+      (let q : done (reaches n) ≡ done (stops d) = (done_takes (fits r) (stops d) rest (done (reaches n)) h).1 in absurd cc)
   lands_behind side front rest (reaches l) n w h =
       let d = reached1 r a b f side front l w in
       let o = output l d.here n r.config.vm rest h in
@@ -83,7 +93,8 @@ module _ (r : Regime) (f : IsOfFields r) (a b : Access) where
       let u = o.0 in (
         omega (arith, m, u),
         λ s ok. (
-            let v = step_after (fits r) (SameRegion r) (stage1_on (under r false a)) (stage1_on (under r false b)) (stage2_behind (under r false a)) (stage2_behind (under r false b)) front _ _ (d.shift (coarser (untagged a.va) (untagged b.va) n.class l.class u s) ok) in
+            let v = step_after (fits r) (SameRegion r) (stage1_on (under r false a)) (stage1_on (under r false b)) (stage2_behind (under r false a))
+            (stage2_behind (under r false b)) front _ _ (d.shift (coarser (untagged a.va) (untagged b.va) n.class l.class u s) ok) in
             step_on (fits r) (SameRegion r) _ _ front rest _ _ _ _ v (o.1 s)),
       )
 
@@ -94,7 +105,8 @@ module _ (r : Regime) (f : IsOfFields r) (a b : Access) where
         | inr w ↦ rw w.3 (lands_behind side w.1 w.2 w.0 n w.4 w.5)
       ]
 
-  lands_by : (m : Bool) → m ≡ true → r.side ≡ side_of a.va → (items : List Item) (n : Landing) → Takes (fits r) (Whole m a) items (done (reaches n)) → Lands m items n
+  lands_by : (m : Bool) → m ≡ true → r.side ≡ side_of a.va → (items : List Item) (n : Landing) → Takes (fits r) (Whole m a) items (done (reaches n)) →
+      Lands m items n
   lands_by true e side items n h = lands_on side items n h
   lands_by false e side items n h = absurd cc
 
@@ -102,7 +114,10 @@ module _ (r : Regime) (f : IsOfFields r) (a b : Access) where
   -- not refused goes in step with it, to its own offset in the same bytes.
   pub record Landed (items : List Item) (n : Landing) : Type 0 where
     pub most : n.class ≤ 52
-    pub shift : Same1 r false a b n.class → is_refused1 r.config b ≡ false → InStep (fits r) (SameRegion r) (walk_by (under r false a)) (walk_by (under r false b)) items (done (reaches n)) (done (reaches (moved n (untagged b.va))))
+    pub shift : Same1 r false a b n.class → is_refused1 r.config b ≡ false →
+        InStep (fits r) (SameRegion r) (walk_by (under r false a)) (walk_by (under r false b)) items (done (reaches n))
+        (done (reaches (moved n (untagged b.va))))
 
-  pub walk_in_step : r.config.m ≡ true → r.side ≡ side_of a.va → (items : List Item) (n : Landing) → Takes (fits r) (walk_by (under r false a)) items (done (reaches n)) → Landed items n
+  pub walk_in_step : r.config.m ≡ true → r.side ≡ side_of a.va → (items : List Item) (n : Landing) →
+      Takes (fits r) (walk_by (under r false a)) items (done (reaches n)) → Landed items n
   walk_in_step m side items n h = let d = lands_by r.config.m m side items n h in record { most = d.0; shift = d.1 }

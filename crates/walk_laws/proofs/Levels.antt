@@ -56,16 +56,19 @@ pub record Measure (T : Type 0) : Type 1 where
 pub record Twins {L T : Type 0} (fits : Need → Item → Bool) (alike : Need → Need → Item → Type 0) (d d' : Descent L T) (m : Measure T) : Type 0 where
   -- no word is had without an item, and the last item is the word, if it is of this stage
   pub none : (left : ℕ) (t : T) (i : Item) → Takes fits (d.had left t) [] (done (Ok i)) → ⊥
-  pub whole : (left : ℕ) (t : T) (items : List Item) (u : Ask Need Item (Result Item Fault)) (i : Item) → Takes fits (d.had left t) items u → LastIs items i → m.own i → u ≡ done (Ok i)
+  pub whole : (left : ℕ) (t : T) (items : List Item) (u : Ask Need Item (Result Item Fault)) (i : Item) → Takes fits (d.had left t) items u → LastIs items i →
+      m.own i → u ≡ done (Ok i)
   -- a word serves both walks
-  pub words : (left : ℕ) (t : T) (items : List Item) (i : Item) (k : ℕ) → m.sound left t → Takes fits (d.had left t) items (done (Ok i)) → k ≤ m.class left i → m.same k → InStep fits alike (d.had left t) (d'.had left t) items (done (Ok i)) (done (Ok i))
+  pub words : (left : ℕ) (t : T) (items : List Item) (i : Item) (k : ℕ) → m.sound left t → Takes fits (d.had left t) items (done (Ok i)) → k ≤ m.class left i →
+      m.same k → InStep fits alike (d.had left t) (d'.had left t) items (done (Ok i)) (done (Ok i))
   -- a table is one for both
   pub tables : (left : ℕ) (t : T) (i : Item) (next : T) → d.step left t i ≡ Down next → (d'.step left t i ≡ Down next) × ((below : ℕ) → m.sound below next)
   -- classes shrink on the way down
   pub least : (left : ℕ) (i : Item) → m.low left ≤ m.class left i
   pub shrinks : (below left : ℕ) (i : Item) → below < left → m.class below i ≤ m.low left
 
-module _ {L T : Type 0} (fits : Need → Item → Bool) (alike : Need → Need → Item → Type 0) (d d' : Descent L T) (m : Measure T) (law : Twins fits alike d d' m) where
+module _ {L T : Type 0} (fits : Need → Item → Bool) (alike : Need → Need → Item → Type 0) (d d' : Descent L T) (m : Measure T) (law : Twins fits alike d d' m)
+    where
   abbrev Ends : List Item → Ask Need Item (End L) → Type 0
   Ends items u = Closes m.own items u
 
@@ -79,14 +82,21 @@ module _ {L T : Type 0} (fits : Need → Item → Bool) (alike : Need → Need �
     pub fed : (front : List Item) × Takes fits (d.had at table) front (done (Ok item))
     pub left_as : u ≡ behind d at table item
     pub is_last : (i : Item) → LastIs items i → m.own i → i ≡ item
-    pub shift : (k : ℕ) → m.sound left t → k ≤ m.class at item → m.same k → InStep fits alike (levels d left t) (levels d' left t) items u (behind d' at table item)
+    pub shift : (k : ℕ) → m.sound left t → k ≤ m.class at item → m.same k →
+        InStep fits alike (levels d left t) (levels d' left t) items u (behind d' at table item)
 
-  in_step_here : (left : ℕ) (t : T) (front rest : List Item) (j : Item) (u u' : Ask Need Item (End L)) → InStep fits alike (d.had left t) (d'.had left t) front (done (Ok j)) (done (Ok j)) → InStep fits alike (behind d left t j) (behind d' left t j) rest u u' → InStep fits alike (levels d left t) (levels d' left t) (front ++ rest) u u'
+  in_step_here : (left : ℕ) (t : T) (front rest : List Item) (j : Item) (u u' : Ask Need Item (End L)) →
+      InStep fits alike (d.had left t) (d'.had left t) front (done (Ok j)) (done (Ok j)) →
+      InStep fits alike (behind d left t j) (behind d' left t j) rest u u' → InStep fits alike (levels d left t) (levels d' left t) (front ++ rest) u u'
   in_step_here left t front rest j u u' w s =
-      rw (levels_is d left t, levels_is d' left t) (step_on fits alike _ _ front rest _ _ _ _ (step_after fits alike (d.had left t) (d'.had left t) (onward (beneath d left) (d.step left t)) (onward (beneath d' left) (d'.step left t)) front _ _ w) s)
+      rw (levels_is d left t, levels_is d' left t)
+      (step_on fits alike _ _ front rest _ _ _ _
+      (step_after fits alike (d.had left t) (d'.had left t) (onward (beneath d left) (d.step left t)) (onward (beneath d' left) (d'.step left t)) front _ _ w)
+      s)
 
   -- the word was the last item
-  way_here : (left : ℕ) (t : T) (front : List Item) (j : Item) (u : Ask Need Item (End L)) → Takes fits (d.had left t) front (done (Ok j)) → u ≡ behind d left t j → Way left t (front ++ []) u
+  way_here : (left : ℕ) (t : T) (front : List Item) (j : Item) (u : Ask Need Item (End L)) → Takes fits (d.had left t) front (done (Ok j)) →
+      u ≡ behind d left t j → Way left t (front ++ []) u
   way_here left t front j u h e =
       record {
         at = left;
@@ -100,7 +110,8 @@ module _ {L T : Type 0} (fits : Need → Item → Bool) (alike : Need → Need �
       }
 
   -- the word was a table
-  way_below : (left : ℕ) (t next : T) (front rest : List Item) (j : Item) (u : Ask Need Item (End L)) → Takes fits (d.had (suc left) t) front (done (Ok j)) → d.step (suc left) t j ≡ Down next → ((i : Item) → LastIs (front ++ rest) i → LastIs rest i) → Way left next rest u → Way (suc left) t (front ++ rest) u
+  way_below : (left : ℕ) (t next : T) (front rest : List Item) (j : Item) (u : Ask Need Item (End L)) → Takes fits (d.had (suc left) t) front (done (Ok j)) →
+      d.step (suc left) t j ≡ Down next → ((i : Item) → LastIs (front ++ rest) i → LastIs rest i) → Way left next rest u → Way (suc left) t (front ++ rest) u
   way_below left t next front rest j u h down l w =
       let most = w.most in
       record {
@@ -114,14 +125,17 @@ module _ {L T : Type 0} (fits : Need → Item → Bool) (alike : Need → Need �
         shift = λ k s n q. (let v = law.tables (suc left) t j next down in
             let a = law.shrinks w.at (suc left) w.item (omega (arith, most)) in
             let b = law.least (suc left) j in
-            in_step_here (suc left) t front rest j u _ (law.words (suc left) t front j k s h (omega (arith, a, b, n)) q) (rw (down, v.0) (w.shift k (v.1 left) n q)));
+            in_step_here (suc left) t front rest j u _ (law.words (suc left) t front j k s h (omega (arith, a, b, n)) q)
+            (rw (down, v.0) (w.shift k (v.1 left) n q)));
       }
 
-  not_first : (left : ℕ) (t : T) (f : Result Item Fault → Ask Need Item (End L)) (items : List Item) (u : Ask Need Item (End L)) → InFirst fits (d.had left t) f items u → Ends items u → ⊥
+  not_first : (left : ℕ) (t : T) (f : Result Item Fault → Ask Need Item (End L)) (items : List Item) (u : Ask Need Item (End L)) →
+      InFirst fits (d.had left t) f items u → Ends items u → ⊥
   not_first left t f items u w (inl l) = let e = w.3 in let q : done (reaches l.0) ≡ after (ask w.0 w.1) f = sym l.1 ∙ e in cc
   not_first left t f items u w (inr i) = let q : ask w.0 w.1 ≡ done (Ok i.0) = law.whole left t items (ask w.0 w.1) i.0 w.2 i.1 i.2 in cc
 
-  not_fault : (left : ℕ) (t : T) (f : Fault) (front : List Item) (u : Ask Need Item (End L)) → Takes fits (d.had left t) front (done (Err f)) → u ≡ done (stops f) → Ends (front ++ []) u → ⊥
+  not_fault : (left : ℕ) (t : T) (f : Fault) (front : List Item) (u : Ask Need Item (End L)) → Takes fits (d.had left t) front (done (Err f)) →
+      u ≡ done (stops f) → Ends (front ++ []) u → ⊥
   not_fault left t f front u h e (inl l) = let q : done (reaches l.0) ≡ done (stops f) = sym l.1 ∙ e in cc
   not_fault left t f front u h e (inr i) = let q : done (Err f) ≡ done (Ok i.0) = law.whole left t front (done (Err f)) i.0 h (rw append-nil at i.1) i.2 in cc
 
@@ -130,28 +144,37 @@ module _ {L T : Type 0} (fits : Need → Item → Bool) (alike : Need → Need �
   closes_rest front r rest u (inr i) = inr (i.0, last_back front r rest i.0 i.1, i.2)
 
   -- a word with further items behind it was a table
-  by_step : (left : ℕ) (t : T) (front : List Item) (r : Item) (rest : List Item) (j : Item) (u : Ask Need Item (End L)) (s : Step L T) → d.step (suc left) t j ≡ s → Takes fits (d.had (suc left) t) front (done (Ok j)) → ((next : T) → Takes fits (levels d left next) (r ∷ rest) u → Way left next (r ∷ rest) u) → Takes fits (step_then (levels d left) s) (r ∷ rest) u → Way (suc left) t (front ++ r ∷ rest) u
+  by_step : (left : ℕ) (t : T) (front : List Item) (r : Item) (rest : List Item) (j : Item) (u : Ask Need Item (End L)) (s : Step L T) →
+      d.step (suc left) t j ≡ s → Takes fits (d.had (suc left) t) front (done (Ok j)) →
+      ((next : T) → Takes fits (levels d left next) (r ∷ rest) u → Way left next (r ∷ rest) u) → Takes fits (step_then (levels d left) s) (r ∷ rest) u →
+      Way (suc left) t (front ++ r ∷ rest) u
   by_step left t front r rest j u (Down next) e h deeper w = way_below left t next front (r ∷ rest) j u h e (λ i l. last_back front r rest i l) (deeper next w)
   by_step left t front r rest j u (Reached l) e h deeper w = absurd w
   by_step left t front r rest j u (Stopped f) e h deeper w = absurd w
 
   -- the last level has no tables
-  none_below : (t : T) (r : Item) (rest : List Item) (j : Item) (u : Ask Need Item (End L)) (s : Step L T) → Takes {N = Need} fits (step_then (λ _. done (stops d.last)) s) (r ∷ rest) u → ⊥
+  none_below : (t : T) (r : Item) (rest : List Item) (j : Item) (u : Ask Need Item (End L)) (s : Step L T) →
+      Takes {N = Need} fits (step_then (λ _. done (stops d.last)) s) (r ∷ rest) u → ⊥
   none_below t r rest j u (Down next) w = w
   none_below t r rest j u (Reached l) w = w
   none_below t r rest j u (Stopped f) w = w
 
-  way_zero : (t : T) (a : Result Item Fault) (front rest : List Item) (u : Ask Need Item (End L)) → Takes fits (d.had 0 t) front (done a) → Takes fits (onward (λ _. done (stops d.last)) (d.step 0 t) a) rest u → Ends (front ++ rest) u → Way 0 t (front ++ rest) u
+  way_zero : (t : T) (a : Result Item Fault) (front rest : List Item) (u : Ask Need Item (End L)) → Takes fits (d.had 0 t) front (done a) →
+      Takes fits (onward (λ _. done (stops d.last)) (d.step 0 t) a) rest u → Ends (front ++ rest) u → Way 0 t (front ++ rest) u
   way_zero t (Err f) front [] u h w c = absurd (not_fault 0 t f front u h w c)
   way_zero t (Err f) front (r ∷ rest) u h w c = absurd w
   way_zero t (Ok j) front [] u h w c = way_here 0 t front j u h w
   way_zero t (Ok j) front (r ∷ rest) u h w c = absurd (none_below t r rest j u (d.step 0 t j) w)
 
-  way_suc : (left : ℕ) (t : T) (a : Result Item Fault) (front rest : List Item) (u : Ask Need Item (End L)) → ((next : T) (r : Item) (rest : List Item) → Takes fits (levels d left next) (r ∷ rest) u → Ends (r ∷ rest) u → Way left next (r ∷ rest) u) → Takes fits (d.had (suc left) t) front (done a) → Takes fits (onward (levels d left) (d.step (suc left) t) a) rest u → Ends (front ++ rest) u → Way (suc left) t (front ++ rest) u
+  way_suc : (left : ℕ) (t : T) (a : Result Item Fault) (front rest : List Item) (u : Ask Need Item (End L)) →
+      ((next : T) (r : Item) (rest : List Item) → Takes fits (levels d left next) (r ∷ rest) u → Ends (r ∷ rest) u → Way left next (r ∷ rest) u) →
+      Takes fits (d.had (suc left) t) front (done a) → Takes fits (onward (levels d left) (d.step (suc left) t) a) rest u → Ends (front ++ rest) u →
+      Way (suc left) t (front ++ rest) u
   way_suc left t (Err f) front [] u deeper h w c = absurd (not_fault (suc left) t f front u h w c)
   way_suc left t (Err f) front (r ∷ rest) u deeper h w c = absurd w
   way_suc left t (Ok j) front [] u deeper h w c = way_here (suc left) t front j u h w
-  way_suc left t (Ok j) front (r ∷ rest) u deeper h w c = by_step left t front r rest j u (d.step (suc left) t j) refl h (λ next v. deeper next r rest v (closes_rest front r rest u c)) w
+  way_suc left t (Ok j) front (r ∷ rest) u deeper h w c =
+      by_step left t front r rest j u (d.step (suc left) t j) refl h (λ next v. deeper next r rest v (closes_rest front r rest u c)) w
 
   abbrev Second : ℕ → T → List Item → Ask Need Item (End L) → Type 0
   Second left t items u = InSecond fits (d.had left t) (onward (beneath d left) (d.step left t)) items u
@@ -169,7 +192,8 @@ module _ {L T : Type 0} (fits : Need → Item → Bool) (alike : Need → Need �
         | inr w ↦ rw w.3 (way_suc left t w.0 w.1 w.2 u (λ next r rest v e. way left next (r ∷ rest) u v e) w.4 w.5 (rw w.3 at c))
       ]
 
-  no_leaf_had : (left : ℕ) (t : T) (b : Ask Need Item (Result Item Fault)) (f : Item → Ask Need Item (End L)) (l : L) → ((i : Item) → b ≡ done (Ok i) → ⊥) → after b (go_on stops f) ≡ done (reaches l) → ⊥
+  no_leaf_had : (left : ℕ) (t : T) (b : Ask Need Item (Result Item Fault)) (f : Item → Ask Need Item (End L)) (l : L) → ((i : Item) → b ≡ done (Ok i) → ⊥) →
+      after b (go_on stops f) ≡ done (reaches l) → ⊥
   no_leaf_had left t (ask n k) f l w h = absurd cc
   no_leaf_had left t (done (Err d)) f l w h = absurd cc
   no_leaf_had left t (done (Ok i)) f l w h = w i refl
@@ -177,4 +201,5 @@ module _ {L T : Type 0} (fits : Need → Item → Bool) (alike : Need → Need �
   -- no leaf without a word
   pub no_leaf : (left : ℕ) (t : T) (l : L) → beneath d left t ≡ done (reaches l) → ⊥
   no_leaf zero t l h = absurd cc
-  no_leaf (suc left) t l h = no_leaf_had left t (d.had left t) (λ i. step_then (beneath d left) (d.step left t i)) l (λ i e. law.none left t i (sym e)) (rw (levels_is d left t) at h)
+  no_leaf (suc left) t l h = no_leaf_had left t (d.had left t) (λ i. step_then (beneath d left) (d.step left t i)) l (λ i e. law.none left t i (sym e))
+      (rw (levels_is d left t) at h)

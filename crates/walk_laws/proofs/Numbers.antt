@@ -37,9 +37,11 @@ line_of_place base i d h =
     sym (div-div-eq-div-mul (base + 8 * i) 8 (2 ^ d)) ∙ ap (λ n. n / 2 ^ d) eight ∙ mul-add-div (pow_pos d) (base / (8 * 2 ^ d)) i
 
 -- places of addresses of one run of 2 ^ d entries are in one line of 8 * 2 ^ d bytes
-pub one_line : (x y t k d base : ℕ) → base % (8 * 2 ^ d) ≡ 0 → x / 2 ^ (k + d) ≡ y / 2 ^ (k + d) → (base + 8 * (y % 2 ^ t / 2 ^ k)) / (8 * 2 ^ d) ≡ (base + 8 * (x % 2 ^ t / 2 ^ k)) / (8 * 2 ^ d)
+pub one_line : (x y t k d base : ℕ) → base % (8 * 2 ^ d) ≡ 0 → x / 2 ^ (k + d) ≡ y / 2 ^ (k + d) →
+    (base + 8 * (y % 2 ^ t / 2 ^ k)) / (8 * 2 ^ d) ≡ (base + 8 * (x % 2 ^ t / 2 ^ k)) / (8 * 2 ^ d)
 one_line x y t k d base a h =
-    line_of_place base (y % 2 ^ t / 2 ^ k) d a ∙ ap (λ n. base / (8 * 2 ^ d) + n) (sym (run_index x y t k d h)) ∙ sym (line_of_place base (x % 2 ^ t / 2 ^ k) d a)
+    line_of_place base (y % 2 ^ t / 2 ^ k) d a ∙ ap (λ n. base / (8 * 2 ^ d) + n) (sym (run_index x y t k d h))
+    ∙ sym (line_of_place base (x % 2 ^ t / 2 ^ k) d a)
 
 -- a line of 2 ^ d words is 2 ^ (d + 3) bytes
 pub line_bytes : (p d : ℕ) → p / (8 * 2 ^ d) ≡ p / 2 ^ (3 + d)
@@ -103,7 +105,9 @@ pub goes_to_piece : (out pa k m y : ℕ) → pa ≡ goes_to pa m out → goes_to
 goes_to_piece out pa k m y f =
     elim (nat_le k m) as (λ b. nat_le k m ≡ b → goes_to pa m (goes_to out k y) ≡ goes_to pa (cond b k m) y) [
       | true ↦ (λ t. let l : k ≤ m = leb-true k m t in
-          same_number (goes_to pa m (goes_to out k y)) (goes_to pa k y) k (goes_to_above pa m k (goes_to out k y) out l (goes_to_whole out k y) ∙ ap (λ n. n / 2 ^ k) (sym f) ∙ sym (goes_to_whole pa k y)) (goes_to_below pa m k (goes_to out k y) l ∙ goes_to_offset out k y ∙ sym (goes_to_offset pa k y)))
+          same_number (goes_to pa m (goes_to out k y)) (goes_to pa k y) k (goes_to_above pa m k (goes_to out k y) out l (goes_to_whole out k y)
+          ∙ ap (λ n. n / 2 ^ k) (sym f) ∙ sym (goes_to_whole pa k y)) (goes_to_below pa m k (goes_to out k y) l ∙ goes_to_offset out k y
+          ∙ sym (goes_to_offset pa k y)))
       | false ↦ (λ t. let l : m ≤ k = omega (arith, leb-false k m t) in goes_to_offsets pa m (goes_to out k y) y (goes_to_below out k m y l))
     ] refl
 
@@ -116,7 +120,8 @@ goes_to_piece_same out k m x y e h =
     ] refl h
 
 pub smaller_left : (k m : ℕ) → smaller k m ≤ k
-smaller_left k m = elim (nat_le k m) as (λ b. nat_le k m ≡ b → cond b k m ≤ k) [ true ↦ (λ t. omega arith) | false ↦ (λ t. omega (arith, leb-false k m t)) ] refl
+smaller_left k m = elim (nat_le k m) as (λ b. nat_le k m ≡ b → cond b k m ≤ k) [ true ↦ (λ t. omega arith)
+    | false ↦ (λ t. omega (arith, leb-false k m t)) ] refl
 
 -- an address of the region of one in range is in range
 pub in_range : (x y k input : ℕ) → k ≤ input → x / 2 ^ k ≡ y / 2 ^ k → x < 2 ^ input → y < 2 ^ input

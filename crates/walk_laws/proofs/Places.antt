@@ -52,11 +52,13 @@ abbrev pub counted_by : (mapping : Option (ℕ × Bool)) (sizes : Sizes) (left p
 counted_by None n left pa = false
 counted_by (Some m) n left pa = m.1 && is_counted n.granule n.input left m.0 pa
 
-pub class_by_is : (m : Option (ℕ × Bool)) (n : Sizes) (left pa : ℕ) → class_by m n left pa ≡ cond (counted_by m n left pa) (run_class n.granule left) (class_of n.granule left)
+pub class_by_is : (m : Option (ℕ × Bool)) (n : Sizes) (left pa : ℕ) →
+    class_by m n left pa ≡ cond (counted_by m n left pa) (run_class n.granule left) (class_of n.granule left)
 class_by_is None n left pa = refl
 class_by_is (Some m) n left pa = refl
 
-serves_run_is : (m : Option (ℕ × Bool)) (n : Sizes) (left pa place : ℕ) → serves_run m n left pa place ≡ (counted_by m n left pa && is_one_run n.granule left pa place)
+serves_run_is : (m : Option (ℕ × Bool)) (n : Sizes) (left pa place : ℕ) →
+    serves_run m n left pa place ≡ (counted_by m n left pa && is_one_run n.granule left pa place)
 serves_run_is None n left pa place = refl
 serves_run_is (Some m) n left pa place = refl
 
@@ -79,14 +81,21 @@ counted_fits (Some m) n left pa h = run_fits (run_at n.granule left) (class_of n
 
 -- the class of a word lies between those of an entry and a run
 pub class_by_least : (m : Option (ℕ × Bool)) (n : Sizes) (left pa : ℕ) → IsGranule n.granule → class_of n.granule left ≤ class_by m n left pa
-class_by_least m n left pa h = let w = run_within n.granule left h in rw (class_by_is m n left pa) (elim (counted_by m n left pa) as (λ b. class_of n.granule left ≤ cond b (run_class n.granule left) (class_of n.granule left)) [ true ↦ w.0 | false ↦ omega arith ])
+class_by_least m n left pa h = let w =
+    run_within n.granule left h in rw (class_by_is m n left pa)
+    (elim (counted_by m n left pa) as (λ b. class_of n.granule left ≤ cond b (run_class n.granule left) (class_of n.granule left)) [ true ↦ w.0
+    | false ↦ omega arith ])
 
 pub class_by_most : (m : Option (ℕ × Bool)) (n : Sizes) (left pa : ℕ) → IsGranule n.granule → class_by m n left pa ≤ run_class n.granule left
-class_by_most m n left pa h = let w = run_within n.granule left h in rw (class_by_is m n left pa) (elim (counted_by m n left pa) as (λ b. cond b (run_class n.granule left) (class_of n.granule left) ≤ run_class n.granule left) [ true ↦ omega arith | false ↦ w.0 ])
+class_by_most m n left pa h = let w =
+    run_within n.granule left h in rw (class_by_is m n left pa)
+    (elim (counted_by m n left pa) as (λ b. cond b (run_class n.granule left) (class_of n.granule left) ≤ run_class n.granule left) [ true ↦ omega arith
+    | false ↦ w.0 ])
 
 -- no word covers more than the input range
 pub class_by_fits : (m : Option (ℕ × Bool)) (n : Sizes) (left pa : ℕ) → class_of n.granule left ≤ n.input → class_by m n left pa ≤ n.input
-class_by_fits m n left pa h = rw (class_by_is m n left pa) (elim (counted_by m n left pa) as (λ b. counted_by m n left pa ≡ b → cond b (run_class n.granule left) (class_of n.granule left) ≤ n.input) [ true ↦ (λ e. counted_fits m n left pa e) | false ↦ (λ e. h) ] refl)
+class_by_fits m n left pa h = rw (class_by_is m n left pa) (elim (counted_by m n left pa) as (λ b. counted_by m n left pa ≡ b →
+    cond b (run_class n.granule left) (class_of n.granule left) ≤ n.input) [ true ↦ (λ e. counted_fits m n left pa e) | false ↦ (λ e. h) ] refl)
 
 -- a table begins with whole runs, where the level has runs within the input range
 abbrev pub IsAligned : (sizes : Sizes) (left table : ℕ) → Type 0
@@ -104,23 +113,30 @@ pub record Alike (sizes : Sizes) (left pa : ℕ) (mapping : Option (ℕ × Bool)
   pub same : counted_by mapping sizes left pa ≡ false → p' ≡ p
 
 -- what keeps equal places equal, and places of one line in one line, keeps this
-pub alike_through : (n : Sizes) (left pa : ℕ) (m : Option (ℕ × Bool)) (p p' q q' : ℕ) → (p' ≡ p → q' ≡ q) → (p' / line_of n.granule left ≡ p / line_of n.granule left → q' / line_of n.granule left ≡ q / line_of n.granule left) → Alike n left pa m p p' → Alike n left pa m q q'
+pub alike_through : (n : Sizes) (left pa : ℕ) (m : Option (ℕ × Bool)) (p p' q q' : ℕ) → (p' ≡ p → q' ≡ q) →
+    (p' / line_of n.granule left ≡ p / line_of n.granule left → q' / line_of n.granule left ≡ q / line_of n.granule left) → Alike n left pa m p p' →
+    Alike n left pa m q q'
 alike_through n left pa m p p' q q' e l a = record { line = λ t. l (a.line t); same = λ t. e (a.same t) }
 
 -- places that a word serves lie in one page of 4 KB
 pub alike_page : (n : Sizes) (left pa : ℕ) (m : Option (ℕ × Bool)) (p p' : ℕ) → IsGranule n.granule → Alike n left pa m p p' → p' / 2 ^ 12 ≡ p / 2 ^ 12
 alike_page n left pa m p p' h a =
-    elim (counted_by m n left pa) as (λ b. (b ≡ true → p' / line_of n.granule left ≡ p / line_of n.granule left) → (b ≡ false → p' ≡ p) → p' / 2 ^ 12 ≡ p / 2 ^ 12) [
-      | true ↦ (λ s t. coarser p' p (3 + run_bits n.granule left) 12 (line_within n.granule left h) (sym (by_line n.granule left p') ∙ s refl ∙ by_line n.granule left p))
+    elim (counted_by m n left pa) as (λ b. (b ≡ true → p' / line_of n.granule left ≡ p / line_of n.granule left) → (b ≡ false → p' ≡ p) →
+    p' / 2 ^ 12 ≡ p / 2 ^ 12) [
+      | true ↦ (λ s t. coarser p' p (3 + run_bits n.granule left) 12 (line_within n.granule left h) (sym (by_line n.granule left p') ∙ s refl
+      ∙ by_line n.granule left p))
       | false ↦ (λ s t. ap (λ z. z / 2 ^ 12) (t refl))
     ] a.line a.same
 
 -- a line of places goes where a page of them goes
-pub line_along : (g left : ℕ) (f : ℕ → ℕ) (p p' : ℕ) → IsGranule g → ((j : ℕ) → j ≤ 12 → p' / 2 ^ j ≡ p / 2 ^ j → f p' / 2 ^ j ≡ f p / 2 ^ j) → p' / line_of g left ≡ p / line_of g left → f p' / line_of g left ≡ f p / line_of g left
-line_along g left f p p' h k e = by_line g left (f p') ∙ k (3 + run_bits g left) (line_within g left h) (sym (by_line g left p') ∙ e ∙ by_line g left p) ∙ sym (by_line g left (f p))
+pub line_along : (g left : ℕ) (f : ℕ → ℕ) (p p' : ℕ) → IsGranule g → ((j : ℕ) → j ≤ 12 → p' / 2 ^ j ≡ p / 2 ^ j → f p' / 2 ^ j ≡ f p / 2 ^ j) →
+    p' / line_of g left ≡ p / line_of g left → f p' / line_of g left ≡ f p / line_of g left
+line_along g left f p p' h k e = by_line g left (f p') ∙ k (3 + run_bits g left) (line_within g left h) (sym (by_line g left p') ∙ e ∙ by_line g left p)
+    ∙ sym (by_line g left (f p))
 
 -- the places of two addresses that a word's region holds
-pub alike_places : (n : Sizes) (left table pa : ℕ) (m : Option (ℕ × Bool)) (x y k : ℕ) → IsGranule n.granule → IsAligned n left table → k ≤ class_by m n left pa → x / 2 ^ k ≡ y / 2 ^ k → Alike n left pa m (place_of n left table x) (place_of n left table y)
+pub alike_places : (n : Sizes) (left table pa : ℕ) (m : Option (ℕ × Bool)) (x y k : ℕ) → IsGranule n.granule → IsAligned n left table →
+    k ≤ class_by m n left pa → x / 2 ^ k ≡ y / 2 ^ k → Alike n left pa m (place_of n left table x) (place_of n left table y)
 unfolding place_of
 alike_places n left table pa m x y k h a l s =
     let w = run_within n.granule left h in
@@ -128,10 +144,12 @@ alike_places n left table pa m x y k h a l s =
     let c : class_by m n left pa ≡ cond (counted_by m n left pa) (run_class n.granule left) (class_of n.granule left) = class_by_is m n left pa in
     record {
       line = λ t. (let u : k ≤ run_class n.granule left = rw (c, t) at l in
-          let v : x / 2 ^ (class_of n.granule left + run_bits n.granule left) ≡ y / 2 ^ (class_of n.granule left + run_bits n.granule left) = rw e (coarser x y k (run_class n.granule left) u s) in
+          let v : x / 2 ^ (class_of n.granule left + run_bits n.granule left) ≡ y / 2 ^ (class_of n.granule left + run_bits n.granule left) =
+          rw e (coarser x y k (run_class n.granule left) u s) in
           one_line x y (top_of n.granule n.input n.start left) (class_of n.granule left) (run_bits n.granule left) table (a (counted_fits m n left pa t)) v);
       same = λ t. (let u : k ≤ class_of n.granule left = rw (c, t) at l in
-          ap (λ z. table + 8 * z) (sym (same_index x y (class_of n.granule left) (top_of n.granule n.input n.start left) (coarser x y k (class_of n.granule left) u s))));
+          ap (λ z. table + 8 * z) (sym (same_index x y (class_of n.granule left) (top_of n.granule n.input n.start left)
+          (coarser x y k (class_of n.granule left) u s))));
     }
 
 -- an item has the same region for two needs
@@ -147,11 +165,13 @@ pub record Serves (regime : Regime) (m n : Need) (item : Item) : Type 0 where
   pub fit : fits regime m item ≡ true → fits regime n item ≡ true
   pub region : SameRegion regime m n item
 
-mate_tail : (b : Bool) (g left pa p p' : ℕ) → (b ≡ true → p' / line_of g left ≡ p / line_of g left) → (b ≡ false → p' ≡ p) → ((pa == p) || (b && is_one_run g left pa p)) ≡ true → ((pa == p') || (b && is_one_run g left pa p')) ≡ true
+mate_tail : (b : Bool) (g left pa p p' : ℕ) → (b ≡ true → p' / line_of g left ≡ p / line_of g left) → (b ≡ false → p' ≡ p) →
+    ((pa == p) || (b && is_one_run g left pa p)) ≡ true → ((pa == p') || (b && is_one_run g left pa p')) ≡ true
 mate_tail true g left pa p p' l s h = let q : p' / line_of g left ≡ p / line_of g left = l refl in grind (arith, nat_tests)
 mate_tail false g left pa p p' l s h = let q : p' ≡ p = s refl in rw q h
 
-mate_alike : (n : Sizes) (left pa : ℕ) (m : Option (ℕ × Bool)) (p p' : ℕ) → Alike n left pa m p p' → ((pa == p) || serves_run m n left pa p) ≡ true → ((pa == p') || serves_run m n left pa p') ≡ true
+mate_alike : (n : Sizes) (left pa : ℕ) (m : Option (ℕ × Bool)) (p p' : ℕ) → Alike n left pa m p p' → ((pa == p) || serves_run m n left pa p) ≡ true →
+    ((pa == p') || serves_run m n left pa p') ≡ true
 mate_alike n left pa m p p' a h =
     let u : ((pa == p) || (counted_by m n left pa && is_one_run n.granule left pa p)) ≡ true = rw (serves_run_is m n left pa p) at h in
     rw (serves_run_is m n left pa p') (mate_tail (counted_by m n left pa) n.granule left pa p p' a.line a.same u)
@@ -160,35 +180,48 @@ and_last : (a b b' : Bool) → (b ≡ true → b' ≡ true) → (a && b) ≡ tru
 and_last true b b' f h = f h
 and_last false b b' f h = h
 
-fits_alike : (r : Regime) (s : Stage) (left p p' : ℕ) (q : Bool) (x y t t' : ℕ) (i : Item) → Alike (sizes_of r s) left i.pa (mapping_of r s left i.value) p p' → fits r (word_at s left p q x t) i ≡ true → fits r (word_at s left p' q y t') i ≡ true
+fits_alike : (r : Regime) (s : Stage) (left p p' : ℕ) (q : Bool) (x y t t' : ℕ) (i : Item) → Alike (sizes_of r s) left i.pa (mapping_of r s left i.value) p p' →
+    fits r (word_at s left p q x t) i ≡ true → fits r (word_at s left p' q y t') i ≡ true
 unfolding fits
-fits_alike r s left p p' q x y t t' i a h = and_last (is_word i.what && stage_eq i.stage s && level_eq i.level (level_of left)) _ _ (mate_alike (sizes_of r s) left i.pa (mapping_of r s left i.value) p p' a) h
+fits_alike r s left p p' q x y t t' i a h =
+    and_last (is_word i.what && stage_eq i.stage s && level_eq i.level (level_of left)) _ _
+    (mate_alike (sizes_of r s) left i.pa (mapping_of r s left i.value) p p' a) h
 
-same_region : (r : Regime) (s : Stage) (left p p' : ℕ) (q : Bool) (x y t t' k : ℕ) (i : Item) → k ≤ class_by (mapping_of r s left i.value) (sizes_of r s) left i.pa → x / 2 ^ k ≡ y / 2 ^ k → SameRegion r (word_at s left p q x t) (word_at s left p' q y t') i
+same_region : (r : Regime) (s : Stage) (left p p' : ℕ) (q : Bool) (x y t t' k : ℕ) (i : Item) →
+    k ≤ class_by (mapping_of r s left i.value) (sizes_of r s) left i.pa → x / 2 ^ k ≡ y / 2 ^ k →
+    SameRegion r (word_at s left p q x t) (word_at s left p' q y t') i
 same_region r s left p p' q x y t t' k i l h =
     let f : ℕ → Option Region = λ n. Some record { class = class_by (mapping_of r s left i.value) (sizes_of r s) left i.pa; start = n } in
     ap f (coarser x y k (class_by (mapping_of r s left i.value) (sizes_of r s) left i.pa) l h)
 
-pub serves_alike : (r : Regime) (s : Stage) (left p p' : ℕ) (q : Bool) (x y t t' k : ℕ) (i : Item) → Alike (sizes_of r s) left i.pa (mapping_of r s left i.value) p p' → k ≤ class_by (mapping_of r s left i.value) (sizes_of r s) left i.pa → x / 2 ^ k ≡ y / 2 ^ k → Serves r (word_at s left p q x t) (word_at s left p' q y t') i
-serves_alike r s left p p' q x y t t' k i a l h = record { fit = fits_alike r s left p p' q x y t t' i a; region = same_region r s left p p' q x y t t' k i l h }
+pub serves_alike : (r : Regime) (s : Stage) (left p p' : ℕ) (q : Bool) (x y t t' k : ℕ) (i : Item) →
+    Alike (sizes_of r s) left i.pa (mapping_of r s left i.value) p p' → k ≤ class_by (mapping_of r s left i.value) (sizes_of r s) left i.pa →
+    x / 2 ^ k ≡ y / 2 ^ k → Serves r (word_at s left p q x t) (word_at s left p' q y t') i
+serves_alike r s left p p' q x y t t' k i a l h =
+    record { fit = fits_alike r s left p p' q x y t t' i a; region = same_region r s left p p' q x y t t' k i l h }
 
 -- the word of a need
 abbrev pub one_word : (need : Need) → Ask Need Item (Result Item Fault)
 one_word n = ask n (λ i. done (Ok i))
 
 -- it takes one item, which is the word
-pub one_last : (r : Regime) (n : Need) (items : List Item) (u : Ask Need Item (Result Item Fault)) (i : Item) → Takes (fits r) (one_word n) items u → LastIs items i → u ≡ done (Ok i)
+pub one_last : (r : Regime) (n : Need) (items : List Item) (u : Ask Need Item (Result Item Fault)) (i : Item) → Takes (fits r) (one_word n) items u →
+    LastIs items i → u ≡ done (Ok i)
 one_last r n [] u i h e = absurd e
 one_last r n (j ∷ []) u i h e = h.1 ∙ ap (λ z. done (Ok z)) e
 one_last r n (j ∷ (k ∷ items)) u i h e = absurd h.1
 
-pub one_taken : (r : Regime) (n : Need) (items : List Item) (i : Item) → Takes (fits r) (one_word n) items (done (Ok i)) → (items ≡ i ∷ []) × (fits r n i ≡ true)
+pub one_taken : (r : Regime) (n : Need) (items : List Item) (i : Item) → Takes (fits r) (one_word n) items (done (Ok i)) → (items ≡ i ∷ [])
+    × (fits r n i ≡ true)
 one_taken r n [] i h = absurd cc
 one_taken r n (j ∷ []) i h = let z : done (Ok i) ≡ done (Ok j) = h.1 in let e : j ≡ i = cc in (ap (λ k. k ∷ []) e, rw e at h.0)
 one_taken r n (j ∷ (k ∷ items)) i h = absurd h.1
 
 -- the word of two places that it serves alike
-pub word_flat : (r : Regime) (s : Stage) (left p p' : ℕ) (q : Bool) (x y t t' k : ℕ) (items : List Item) (i : Item) → Alike (sizes_of r s) left i.pa (mapping_of r s left i.value) p p' → k ≤ class_by (mapping_of r s left i.value) (sizes_of r s) left i.pa → x / 2 ^ k ≡ y / 2 ^ k → Takes (fits r) (one_word (word_at s left p q x t)) items (done (Ok i)) → InStep (fits r) (SameRegion r) (one_word (word_at s left p q x t)) (one_word (word_at s left p' q y t')) items (done (Ok i)) (done (Ok i))
+pub word_flat : (r : Regime) (s : Stage) (left p p' : ℕ) (q : Bool) (x y t t' k : ℕ) (items : List Item) (i : Item) →
+    Alike (sizes_of r s) left i.pa (mapping_of r s left i.value) p p' → k ≤ class_by (mapping_of r s left i.value) (sizes_of r s) left i.pa →
+    x / 2 ^ k ≡ y / 2 ^ k → Takes (fits r) (one_word (word_at s left p q x t)) items (done (Ok i)) →
+    InStep (fits r) (SameRegion r) (one_word (word_at s left p q x t)) (one_word (word_at s left p' q y t')) items (done (Ok i)) (done (Ok i))
 word_flat r s left p p' q x y t t' k items i a l e h =
     let o = one_taken r (word_at s left p q x t) items i h in
     let v = serves_alike r s left p p' q x y t t' k i a l e in

@@ -29,7 +29,8 @@ abbrev pub WordOf : (own : Item → Type 0) → Item → Type 0
 WordOf own i = own i × (i.what ≡ Word)
 
 -- The stage took a base and went on, and its items close behind the base.
-pub record Rooted {L : Type 0} (fits : Need → Item → Bool) (own : Item → Type 0) (root : Root) (walk : ℕ → Ask Need Item (End L)) (refused : Bool) (items : List Item) (left : Ask Need Item (End L)) : Type 0 where
+pub record Rooted {L : Type 0} (fits : Need → Item → Bool) (own : Item → Type 0) (root : Root) (walk : ℕ →
+    Ask Need Item (End L)) (refused : Bool) (items : List Item) (left : Ask Need Item (End L)) : Type 0 where
   pub base : Item
   pub rest : List Item
   pub split : items ≡ base ∷ rest
@@ -40,7 +41,8 @@ pub record Rooted {L : Type 0} (fits : Need → Item → Bool) (own : Item → T
   pub closes : Closes own rest left
   pub is_last : (i : Item) → LastIs (base ∷ rest) i → i.what ≡ Word → LastIs rest i
 
-module _ {L : Type 0} (fits : Need → Item → Bool) (own : Item → Type 0) (o : Root) (walk : ℕ → Ask Need Item (End L)) (is_base : (i : Item) → fits o.need i ≡ true → i.what ≡ Base) where
+module _ {L : Type 0} (fits : Need → Item → Bool) (own : Item → Type 0) (o : Root) (walk : ℕ → Ask Need Item (End L)) (is_base : (i : Item) →
+    fits o.need i ≡ true → i.what ≡ Base) where
   no_word : (b i : Item) → fits o.need b ≡ true → b ≡ i → i.what ≡ Word → ⊥
   no_word b i f e w = let q : Base ≡ Word = sym (is_base b f) ∙ ap (λ z. z.what) e ∙ w in cc
 
@@ -62,15 +64,19 @@ module _ {L : Type 0} (fits : Need → Item → Bool) (own : Item → Type 0) (o
   no_close_none u n (inl l) = n l.0 l.1
   no_close_none u n (inr i) = i.1
 
-  behind_base : (b : Item) (rest : List Item) (u : Ask Need Item (End L)) (large : Bool) → o.is_large b.value ≡ large → fits o.need b ≡ true → Takes fits (rooted_behind o walk large b.value) rest u → Closes (WordOf own) (b ∷ rest) u → Rooted fits own o walk false (b ∷ rest) u
+  behind_base : (b : Item) (rest : List Item) (u : Ask Need Item (End L)) (large : Bool) → o.is_large b.value ≡ large → fits o.need b ≡ true →
+      Takes fits (rooted_behind o walk large b.value) rest u → Closes (WordOf own) (b ∷ rest) u → Rooted fits own o walk false (b ∷ rest) u
   behind_base b [] u true e f w c = absurd (no_close b o.excess u f w c)
   behind_base b (k ∷ rest) u true e f w c = absurd w
   behind_base b rest u false e f w c =
-      record { base = b; rest = rest; split = refl; accepted = refl; fit = f; within = e; taken = w; closes = closes_behind b rest u f c; is_last = λ i l v. last_behind b rest i f l v }
+      record { base = b; rest = rest; split = refl; accepted = refl; fit = f; within = e; taken = w; closes = closes_behind b rest u f c;
+          is_last = λ i l v. last_behind b rest i f l v }
 
   -- a stage whose items end at a leaf, or with a word, has taken a base
-  pub from_root : (refused : Bool) (items : List Item) (u : Ask Need Item (End L)) → Takes fits (rooted o walk refused) items u → Closes (WordOf own) items u → Rooted fits own o walk refused items u
+  pub from_root : (refused : Bool) (items : List Item) (u : Ask Need Item (End L)) → Takes fits (rooted o walk refused) items u → Closes (WordOf own) items u →
+      Rooted fits own o walk refused items u
   from_root true [] u h c = absurd (no_close_none u (λ l e. (let q : done (reaches l) ≡ done (stops o.refusal) = sym e ∙ h in cc)) c)
   from_root true (b ∷ rest) u h c = absurd h
-  from_root false [] u h c = absurd (no_close_none u (λ l e. (let q : done (reaches l) ≡ ask o.need (λ i. rooted_behind o walk (o.is_large i.value) i.value) = sym e ∙ h in cc)) c)
+  from_root false [] u h c = absurd
+      (no_close_none u (λ l e. (let q : done (reaches l) ≡ ask o.need (λ i. rooted_behind o walk (o.is_large i.value) i.value) = sym e ∙ h in cc)) c)
   from_root false (b ∷ rest) u h c = behind_base b rest u (o.is_large b.value) refl h.0 h.1 c

@@ -97,14 +97,16 @@ pub sound2 : (r : Regime) (x : ℕ) → IsOfFields r → is_refused2 r.config x 
 unfolding is_refused2
 sound2 r x f h =
     let t = not_false _ h in
-    (rw f.stage2 (sound2_by r.config (first_of_and _ _ t)), rw (f.stage2, sized2_input r.config) (ltb-true x (2 ^ input_size r.config.t2sz) (second_of_and _ _ t)))
+    (rw f.stage2 (sound2_by r.config (first_of_and _ _ t)), rw (f.stage2, sized2_input r.config)
+    (ltb-true x (2 ^ input_size r.config.t2sz) (second_of_and _ _ t)))
 
 in_range_with : (s : Bool) (x y input : ℕ) → not (s && nat_lt x (2 ^ input)) ≡ false → (x < 2 ^ input → y < 2 ^ input) → not (s && nat_lt y (2 ^ input)) ≡ false
 in_range_with true x y input h f = let l : x < 2 ^ input = ltb-true x (2 ^ input) (not_false _ h) in let m = f l in grind (arith, nat_tests)
 in_range_with false x y input h f = absurd cc
 
 -- an IPA of the region of one that is not refused is not refused
-pub range2 : (r : Regime) (x y k : ℕ) → IsOfFields r → k ≤ r.stage2.input → x / 2 ^ k ≡ y / 2 ^ k → is_refused2 r.config x ≡ false → is_refused2 r.config y ≡ false
+pub range2 : (r : Regime) (x y k : ℕ) → IsOfFields r → k ≤ r.stage2.input → x / 2 ^ k ≡ y / 2 ^ k → is_refused2 r.config x ≡ false →
+    is_refused2 r.config y ≡ false
 unfolding is_refused2
 range2 r x y k f l s h =
     let e : k ≤ input_size r.config.t2sz = rw (f.stage2, sized2_input r.config) at l in

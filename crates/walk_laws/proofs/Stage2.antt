@@ -38,7 +38,8 @@ use Rattle.walk_laws.proofs.Sound.{IsOfFields, granule2, sound2, range2}
 -- What a word of stage 2 leads to, whatever the IPA: the next table, a block or page, or a fault.
 pub data Turn2 (r : Regime) (left : ℕ) (i : Item) : Type 0 where
   table : (next : ℕ) → next % 2 ^ 12 ≡ 0 → ((p : Bool) (x : ℕ) → step2 (asked2 r p x) left i.pa i.value ≡ Down next) → Turn2 r left i
-  leaf : (f : Fields2) → mapping_of r S2 left i.value ≡ Some (f.out, f.contiguous) → ((p : Bool) (x : ℕ) → step2 (asked2 r p x) left i.pa i.value ≡ Reached (leaf2_of (asked2 r p x) left i.pa f)) → Turn2 r left i
+  leaf : (f : Fields2) → mapping_of r S2 left i.value ≡ Some (f.out, f.contiguous) →
+      ((p : Bool) (x : ℕ) → step2 (asked2 r p x) left i.pa i.value ≡ Reached (leaf2_of (asked2 r p x) left i.pa f)) → Turn2 r left i
   fault : (k : Class) → ((p : Bool) (x : ℕ) → step2 (asked2 r p x) left i.pa i.value ≡ Stopped (fault2 (asked2 r p x) k left)) → Turn2 r left i
 
 module _ (r : Regime) (left : ℕ) (i : Item) where
@@ -47,18 +48,22 @@ module _ (r : Regime) (left : ℕ) (i : Item) where
   turn_table next true e b = fault AddressSize (λ p x. rw (e, b) refl)
   turn_table next false e b = table next (table2_page r.config left i.value next e) (λ p x. rw (e, b) refl)
 
-  turn_leaf : (out mem_attr xn sh : ℕ) (read write af dbm contiguous big off : Bool) → means2_of r.config left i.value ≡ Leaf out mem_attr read write xn sh af dbm contiguous → is_too_large r.stage2 out ≡ big → not (af || r.config.ha2) ≡ off → Turn2 r left i
+  turn_leaf : (out mem_attr xn sh : ℕ) (read write af dbm contiguous big off : Bool) →
+      means2_of r.config left i.value ≡ Leaf out mem_attr read write xn sh af dbm contiguous → is_too_large r.stage2 out ≡ big →
+      not (af || r.config.ha2) ≡ off → Turn2 r left i
   unfolding step2
   turn_leaf out mem_attr xn sh read write af dbm contiguous true off e b n = fault AddressSize (λ p x. rw (e, b) refl)
   turn_leaf out mem_attr xn sh read write af dbm contiguous false true e b n = fault AccessFlag (λ p x. rw (e, b, n) refl)
   turn_leaf out mem_attr xn sh read write af dbm contiguous false false e b n =
-      leaf record { out = out; mem_attr = mem_attr; xn = xn; sh = sh; read = read; write = write; dbm = dbm; contiguous = contiguous } (rw e refl) (λ p x. rw (e, b, n) refl)
+      leaf record { out = out; mem_attr = mem_attr; xn = xn; sh = sh; read = read; write = write; dbm = dbm;
+          contiguous = contiguous } (rw e refl) (λ p x. rw (e, b, n) refl)
 
   turn_by : (kind : Kind2) → means2_of r.config left i.value ≡ kind → Turn2 r left i
   unfolding step2
   turn_by Invalid e = fault Translation (λ p x. rw e refl)
   turn_by (Table next) e = turn_table next (is_too_large r.stage2 next) e refl
-  turn_by (Leaf out mem_attr read write xn sh af dbm contiguous) e = turn_leaf out mem_attr xn sh read write af dbm contiguous (is_too_large r.stage2 out) (not (af || r.config.ha2)) e refl refl
+  turn_by (Leaf out mem_attr read write xn sh af dbm contiguous) e =
+      turn_leaf out mem_attr xn sh read write af dbm contiguous (is_too_large r.stage2 out) (not (af || r.config.ha2)) e refl refl
 
   pub turn2 : Turn2 r left i
   turn2 = turn_by (means2_of r.config left i.value) refl
@@ -110,7 +115,8 @@ module _ (r : Regime) where
   none2 : (p : Bool) (x left t : ℕ) (i : Item) → Takes (fits r) (had2 p x left t) [] (done (Ok i)) → ⊥
   none2 p x left t i h = absurd cc
 
-  tables2 : (g : IsGranule r.stage2.granule) (p : Bool) (x y left : ℕ) (i : Item) (next : ℕ) → Turn2 r left i → step2 (asked2 r p x) left i.pa i.value ≡ Down next → (step2 (asked2 r p y) left i.pa i.value ≡ Down next) × ((below : ℕ) → IsAligned r.stage2 below next)
+  tables2 : (g : IsGranule r.stage2.granule) (p : Bool) (x y left : ℕ) (i : Item) (next : ℕ) → Turn2 r left i →
+      step2 (asked2 r p x) left i.pa i.value ≡ Down next → (step2 (asked2 r p y) left i.pa i.value ≡ Down next) × ((below : ℕ) → IsAligned r.stage2 below next)
   tables2 g p x y left i next (table n a d) h =
       let e : Down n ≡ Down next = sym (d p x) ∙ h in
       let q : n ≡ next = cc in
@@ -122,10 +128,13 @@ module _ (r : Regime) where
   law2 g p x y = record {
     none = λ left t i h. none2 p x left t i h;
     whole = λ left t items u i h e o. one_last r (word_at S2 left (place_of r.stage2 left t x) p x t) items u i h e;
-    words = λ left t items i k a h l s. word_flat r S2 left (place_of r.stage2 left t x) (place_of r.stage2 left t y) p x y t t k items i (alike_places r.stage2 left t i.pa (mapping_of r S2 left i.value) x y k g a l s) l s h;
+    words = λ left t items i k a h l s.
+        word_flat r S2 left (place_of r.stage2 left t x) (place_of r.stage2 left t y) p x y t t k items i
+        (alike_places r.stage2 left t i.pa (mapping_of r S2 left i.value) x y k g a l s) l s h;
     tables = λ left t i next h. tables2 g p x y left i next (turn2 r left i) h;
     least = λ left i. class_by_least (mapping_of r S2 left i.value) r.stage2 left i.pa g;
-    shrinks = λ m left i l. (let a = class_by_most (mapping_of r S2 m i.value) r.stage2 m i.pa g in let b = run_below r.stage2.granule m left g l in omega (arith, a, b));
+    shrinks = λ m left i l. (let a = class_by_most (mapping_of r S2 m i.value) r.stage2 m i.pa g in let b = run_below r.stage2.granule m left g l in
+        omega (arith, a, b));
   }
 
 pub what_base : (w : What) → is_base w ≡ true → w ≡ Base
@@ -137,7 +146,8 @@ unfolding fits
 same_base r x y b = refl
 
 -- a base of stage 2 is a multiple of its table's size
-base_fits : (r : Regime) (x : ℕ) (b : Item) → fits r (base2 x) b ≡ true → (b.what ≡ Base) × (b.value % table_size r.stage2.granule r.stage2.input r.stage2.start ≡ 0)
+base_fits : (r : Regime) (x : ℕ) (b : Item) → fits r (base2 x) b ≡ true → (b.what ≡ Base)
+    × (b.value % table_size r.stage2.granule r.stage2.input r.stage2.start ≡ 0)
 unfolding fits
 base_fits r x b h =
     let d = first_of_and _ _ h in
@@ -158,15 +168,19 @@ module _ (r : Regime) (p : Bool) (x y : ℕ) where
     pub fit : (place table : ℕ) × (fits r (word_at S2 left place p x table) item ≡ true)
     pub left_as : u ≡ behind2 x left item
     pub is_last : (i : Item) → LastIs items i → i.what ≡ Word → i ≡ item
-    pub shift : (k : ℕ) → k ≤ class2 r left item → x / 2 ^ k ≡ y / 2 ^ k → InStep (fits r) (SameRegion r) (walk2 (asked2 r p x)) (walk2 (asked2 r p y)) items u (behind2 y left item)
+    pub shift : (k : ℕ) → k ≤ class2 r left item → x / 2 ^ k ≡ y / 2 ^ k →
+        InStep (fits r) (SameRegion r) (walk2 (asked2 r p x)) (walk2 (asked2 r p y)) items u (behind2 y left item)
 
   abbrev root2 : Root
-  root2 = record { need = base2 x; is_large = is_too_large r.stage2; refusal = fault2 (asked2 r p x) Translation most_left; excess = fault2 (asked2 r p x) AddressSize most_left }
+  root2 = record { need = base2 x; is_large = is_too_large r.stage2; refusal = fault2 (asked2 r p x) Translation most_left;
+      excess = fault2 (asked2 r p x) AddressSize most_left }
 
   abbrev from2 : ℕ → Ask Need Item (End Leaf2)
   from2 = walk2_from (asked2 r p x) r.stage2.start
 
-  from_way : (f : IsOfFields r) (items : List Item) (u : Ask Need Item (End Leaf2)) (o : Rooted (fits r) (Any r) root2 from2 (is_refused2 r.config x) items u) → Way (fits r) (SameRegion r) (down2 r p x) (down2 r p y) (measure2 r x y) (law2 r (granule2 r f) p x y) r.stage2.start o.base.value o.rest u → Stepped2 (o.base ∷ o.rest) u
+  from_way : (f : IsOfFields r) (items : List Item) (u : Ask Need Item (End Leaf2)) (o : Rooted (fits r) (Any r) root2 from2 (is_refused2 r.config x) items u) →
+      Way (fits r) (SameRegion r) (down2 r p x) (down2 r p y) (measure2 r x y) (law2 r (granule2 r f) p x y) r.stage2.start o.base.value o.rest u →
+      Stepped2 (o.base ∷ o.rest) u
   from_way f items u o w =
       let s = sound2 r x f o.accepted in
       let e = s.0.entries in
@@ -177,19 +191,24 @@ module _ (r : Regime) (p : Bool) (x y : ℕ) where
         item = w.item;
         sound = s.0;
         most = c;
-        fit = (place_of r.stage2 w.at w.table x, w.table, (one_taken r (word_at S2 w.at (place_of r.stage2 w.at w.table x) p x w.table) w.fed.0 w.item w.fed.1).1);
+        fit = (place_of r.stage2 w.at w.table x, w.table,
+            (one_taken r (word_at S2 w.at (place_of r.stage2 w.at w.table x) p x w.table) w.fed.0 w.item w.fed.1).1);
         left_as = w.left_as;
         is_last = λ i l q. w.is_last i (o.is_last i l q) tt;
         shift = λ k l q. (let ny = range2 r x y k f (omega (arith, c, l)) q o.accepted in
             let a = aligned_start r.stage2 o.base.value (granule2 r f) (base_fits r x o.base o.fit).1 in
-            rw (o.accepted, ny) (o.fit, same_base r x y o.base ∙ o.fit, refl, rw o.within (rw (walk2_levels r p x r.stage2.start o.base.value, walk2_levels r p y r.stage2.start o.base.value) (w.shift k a l q))));
+            rw (o.accepted, ny) (o.fit, same_base r x y o.base
+            ∙ o.fit, refl, rw o.within (rw (walk2_levels r p x r.stage2.start o.base.value, walk2_levels r p y r.stage2.start o.base.value)
+            (w.shift k a l q))));
       }
 
   -- Stage 2 that has taken items up to a word or a leaf goes in step with that of another IPA of the word's region.
-  pub stepped2 : IsOfFields r → (items : List Item) (u : Ask Need Item (End Leaf2)) → Takes (fits r) (walk2 (asked2 r p x)) items u → Closes (WordOf (Any r)) items u → Stepped2 items u
+  pub stepped2 : IsOfFields r → (items : List Item) (u : Ask Need Item (End Leaf2)) → Takes (fits r) (walk2 (asked2 r p x)) items u →
+      Closes (WordOf (Any r)) items u → Stepped2 items u
   stepped2 f items u h c =
       let o = from_root (fits r) (Any r) root2 from2 (λ i k. (base_fits r x i k).0) (is_refused2 r.config x) items u h c in
-      let w = way (fits r) (SameRegion r) (down2 r p x) (down2 r p y) (measure2 r x y) (law2 r (granule2 r f) p x y) r.stage2.start o.base.value o.rest u (rw (walk2_levels r p x r.stage2.start o.base.value) at o.taken) o.closes in
+      let w = way (fits r) (SameRegion r) (down2 r p x) (down2 r p y) (measure2 r x y) (law2 r (granule2 r f) p x y) r.stage2.start o.base.value o.rest u
+      (rw (walk2_levels r p x r.stage2.start o.base.value) at o.taken) o.closes in
       subst (λ (z : List Item). Stepped2 z u) (sym o.split) (from_way f items u o w)
 
   -- what is known of a leaf that stage 2 reached
@@ -197,7 +216,8 @@ module _ (r : Regime) (p : Bool) (x y : ℕ) where
     pub least : 12 ≤ l.class
     pub most : l.class ≤ r.stage2.input
     pub here : l.pa ≡ goes_to l.pa l.class x
-    pub shift : x / 2 ^ l.class ≡ y / 2 ^ l.class → InStep (fits r) (SameRegion r) (walk2 (asked2 r p x)) (walk2 (asked2 r p y)) items (done (reaches l)) (done (reaches (moved2 l y)))
+    pub shift : x / 2 ^ l.class ≡ y / 2 ^ l.class →
+        InStep (fits r) (SameRegion r) (walk2 (asked2 r p x)) (walk2 (asked2 r p y)) items (done (reaches l)) (done (reaches (moved2 l y)))
 
   at_leaf : IsOfFields r → (items : List Item) (l : Leaf2) (w : Stepped2 items (done (reaches l))) → Turn2 r w.left w.item → Reached2 items l
   at_leaf f items l w (table next a d) =
@@ -218,7 +238,8 @@ module _ (r : Regime) (p : Bool) (x y : ℕ) where
         most = omega (arith, c, n);
         here = h ∙ sym (ap (λ z. goes_to z l.class x) h ∙ goes_to_again v.out l.class x x);
         shift = λ s. (let i = w.shift l.class (omega (arith, c)) s in
-            let o : behind2 y w.left w.item ≡ done (reaches (moved2 l y)) = rw (d p y) (ap (λ z. done (reaches z)) (leaf2_again r p w.left w.item.pa v x y ∙ ap (λ z. moved2 z y) (sym q))) in
+            let o : behind2 y w.left w.item ≡ done (reaches (moved2 l y)) =
+            rw (d p y) (ap (λ z. done (reaches z)) (leaf2_again r p w.left w.item.pa v x y ∙ ap (λ z. moved2 z y) (sym q))) in
             subst (λ z. InStep (fits r) (SameRegion r) (walk2 (asked2 r p x)) (walk2 (asked2 r p y)) items (done (reaches l)) z) o i);
       }
 

@@ -11,7 +11,8 @@ Takes fits (ask n k) (i ∷ items) u = (fits n i ≡ true) × Takes fits (k i) i
 Takes fits (done a) (i ∷ items) u = ⊥
 
 -- two walks take the same items, each of which fits both and is alike for both, and are left as two others
-abbrev pub InStep : {N I A B : Type 0} → (fits : N → I → Bool) (alike : N → N → I → Type 0) (t : Ask N I A) (t' : Ask N I B) (items : List I) (u : Ask N I A) (u' : Ask N I B) → Type 0
+abbrev pub InStep : {N I A B : Type 0} →
+    (fits : N → I → Bool) (alike : N → N → I → Type 0) (t : Ask N I A) (t' : Ask N I B) (items : List I) (u : Ask N I A) (u' : Ask N I B) → Type 0
 InStep fits alike t t' [] u u' = (u ≡ t) × (u' ≡ t')
 InStep fits alike (ask n k) (ask n' k') (i ∷ items) u u' = (fits n i ≡ true) × (fits n' i ≡ true) × alike n n' i × InStep fits alike (k i) (k' i) items u u'
 InStep fits alike (ask n k) (done b) (i ∷ items) u u' = ⊥
@@ -54,7 +55,8 @@ module _ {N I : Type 0} (fits : N → I → Bool) where
   fit_on b s z e h = rw e h
 
   -- a walk that uses all items takes them, and stands as what is left of it
-  pub takes_all : {A : Type 0} (t : Ask N I A) (items : List I) → UsesAll (on fits t items) → (u : Ask N I A) × Takes fits t items u × (on fits t items ≡ on fits u [])
+  pub takes_all : {A : Type 0} (t : Ask N I A) (items : List I) → UsesAll (on fits t items) → (u : Ask N I A) × Takes fits t items u
+      × (on fits t items ≡ on fits u [])
   takes_all (done a) [] h = (done a, refl, refl)
   takes_all (done a) (i ∷ items) h = absurd h
   takes_all (ask n k) [] h = (ask n k, refl, refl)
@@ -85,17 +87,20 @@ module _ {N I : Type 0} (fits : N → I → Bool) where
   abbrev pub InSecond : {A B : Type 0} → (t : Ask N I A) (f : A → Ask N I B) (items : List I) (u : Ask N I B) → Type 0
   InSecond {A} t f items u = (a : A) × (front : List I) × (rest : List I) × (items ≡ front ++ rest) × Takes fits t front (done a) × Takes fits (f a) rest u
 
-  further : {A B : Type 0} (n : N) (k : I → Ask N I A) (f : A → Ask N I B) (i : I) (items : List I) (u : Ask N I B) → fits n i ≡ true → InFirst (k i) f items u ⊎ InSecond (k i) f items u → InFirst (ask n k) f (i ∷ items) u ⊎ InSecond (ask n k) f (i ∷ items) u
+  further : {A B : Type 0} (n : N) (k : I → Ask N I A) (f : A → Ask N I B) (i : I) (items : List I) (u : Ask N I B) → fits n i ≡ true →
+      InFirst (k i) f items u ⊎ InSecond (k i) f items u → InFirst (ask n k) f (i ∷ items) u ⊎ InSecond (ask n k) f (i ∷ items) u
   further n k f i items u h (inl w) = inl (w.0, w.1, (h, w.2), w.3)
   further n k f i items u h (inr w) = inr (w.0, i ∷ w.1, w.2, ap (λ z. i ∷ z) w.3, (h, w.4), w.5)
 
-  pub takes_after : {A B : Type 0} (t : Ask N I A) (f : A → Ask N I B) (items : List I) (u : Ask N I B) → Takes fits (after t f) items u → InFirst t f items u ⊎ InSecond t f items u
+  pub takes_after : {A B : Type 0} (t : Ask N I A) (f : A → Ask N I B) (items : List I) (u : Ask N I B) → Takes fits (after t f) items u →
+      InFirst t f items u ⊎ InSecond t f items u
   takes_after (done a) f items u h = inr (a, [], items, refl, refl, h)
   takes_after (ask n k) f [] u h = inl (n, k, refl, h)
   takes_after (ask n k) f (i ∷ items) u h = further n k f i items u h.0 (takes_after (k i) f items u h.1)
 
   -- it holds of the question that took the last item
-  pub last_asked : {A : Type 0} (P : N → Type 0) (t : Ask N I A) (items : List I) (u : Ask N I A) (l : I) → Asks P t → Takes fits t items u → LastIs items l → (n : N) × P n × (fits n l ≡ true)
+  pub last_asked : {A : Type 0} (P : N → Type 0) (t : Ask N I A) (items : List I) (u : Ask N I A) (l : I) → Asks P t → Takes fits t items u → LastIs items l →
+      (n : N) × P n × (fits n l ≡ true)
   last_asked P t [] u l p h e = absurd e
   last_asked P (done a) (i ∷ items) u l p h e = absurd h
   last_asked P (ask n k) (i ∷ []) u l p h e = (n, p.0, rw (← e) h.0)
@@ -103,28 +108,34 @@ module _ {N I : Type 0} (fits : N → I → Bool) where
 
 module _ {N I : Type 0} (fits : N → I → Bool) (alike : N → N → I → Type 0) where
   -- in step from the start, and then on
-  pub step_on : {A B : Type 0} (t : Ask N I A) (t' : Ask N I B) (items more : List I) (u w : Ask N I A) (u' w' : Ask N I B) → InStep fits alike t t' items u u' → InStep fits alike u u' more w w' → InStep fits alike t t' (items ++ more) w w'
+  pub step_on : {A B : Type 0} (t : Ask N I A) (t' : Ask N I B) (items more : List I) (u w : Ask N I A) (u' w' : Ask N I B) →
+      InStep fits alike t t' items u u' → InStep fits alike u u' more w w' → InStep fits alike t t' (items ++ more) w w'
   step_on t t' [] more u w u' w' h k = rw (← h.0, ← h.1) k
   step_on (ask n k) (ask n' k') (i ∷ items) more u w u' w' h m = (h.0, h.1, h.2, step_on (k i) (k' i) items more u w u' w' h.3 m)
   step_on (ask n k) (done b) (i ∷ items) more u w u' w' h m = absurd h
   step_on (done a) t' (i ∷ items) more u w u' w' h m = absurd h
 
   -- what follows on two walks in step
-  pub step_after : {A B C D : Type 0} (t : Ask N I A) (t' : Ask N I B) (f : A → Ask N I C) (f' : B → Ask N I D) (items : List I) (u : Ask N I A) (u' : Ask N I B) → InStep fits alike t t' items u u' → InStep fits alike (after t f) (after t' f') items (after u f) (after u' f')
+  pub step_after : {A B C D : Type 0} (t : Ask N I A) (t' : Ask N I B) (f : A → Ask N I C) (f' : B →
+      Ask N I D) (items : List I) (u : Ask N I A) (u' : Ask N I B) → InStep fits alike t t' items u u' →
+      InStep fits alike (after t f) (after t' f') items (after u f) (after u' f')
   step_after t t' f f' [] u u' h = (ap (λ z. after z f) h.0, ap (λ z. after z f') h.1)
   step_after (ask n k) (ask n' k') f f' (i ∷ items) u u' h = (h.0, h.1, h.2, step_after (k i) (k' i) f f' items u u' h.3)
   step_after (ask n k) (done b) f f' (i ∷ items) u u' h = absurd h
   step_after (done a) t' f f' (i ∷ items) u u' h = absurd h
 
   -- how the other walk stands then
-  pub step_stands : {A B : Type 0} (t : Ask N I A) (t' : Ask N I B) (items : List I) (u : Ask N I A) (u' : Ask N I B) → InStep fits alike t t' items u u' → on fits t' items ≡ on fits u' []
+  pub step_stands : {A B : Type 0} (t : Ask N I A) (t' : Ask N I B) (items : List I) (u : Ask N I A) (u' : Ask N I B) → InStep fits alike t t' items u u' →
+      on fits t' items ≡ on fits u' []
   step_stands t t' [] u u' h = rw h.1 refl
   step_stands (ask n k) (ask n' k') (i ∷ items) u u' h = fit_on fits (fits n' i) _ _ h.1 (step_stands (k i) (k' i) items u u' h.3)
   step_stands (ask n k) (done b) (i ∷ items) u u' h = absurd h
   step_stands (done a) t' (i ∷ items) u u' h = absurd h
 
 -- two walks in step met alike needs
-pub step_met : {N I A B C : Type 0} (fits : N → I → Bool) (name : N → I → C) (t : Ask N I A) (t' : Ask N I B) (items : List I) (u : Ask N I A) (u' : Ask N I B) → InStep fits (λ m n i. name m i ≡ name n i) t t' items u u' → map (λ z. name z.0 z.1) (met t items) ≡ map (λ z. name z.0 z.1) (met t' items)
+pub step_met : {N I A B C : Type 0} (fits : N → I → Bool) (name : N → I → C) (t : Ask N I A) (t' : Ask N I B) (items : List I) (u : Ask N I A)
+    (u' : Ask N I B) → InStep fits (λ m n i. name m i ≡ name n i) t t' items u u' →
+    map (λ z. name z.0 z.1) (met t items) ≡ map (λ z. name z.0 z.1) (met t' items)
 step_met fits name (done a) (done b) [] u u' h = refl
 step_met fits name (done a) (ask n k) [] u u' h = refl
 step_met fits name (ask n k) (done b) [] u u' h = refl

@@ -35,7 +35,8 @@ pub level_of_one : (m n : ℕ) → level_of m ≡ level_of n → m ≡ n
 level_of_one m n h = omega (arith, ints)
 
 -- an item that fits a word's need has its level
-pub fit_level : (r : Regime) (s : Stage) (left place : ℕ) (p : Bool) (x t : ℕ) (i : Item) → fits r (word_at s left place p x t) i ≡ true → i.level ≡ level_of left
+pub fit_level : (r : Regime) (s : Stage) (left place : ℕ) (p : Bool) (x t : ℕ) (i : Item) → fits r (word_at s left place p x t) i ≡ true →
+    i.level ≡ level_of left
 unfolding fits
 fit_level r s left place p x t i h = level_eq_true i.level (level_of left) (second_of_and (is_word i.what && stage_eq i.stage s) _ (first_of_and _ _ h))
 
@@ -66,7 +67,8 @@ uses_word (ends a items) h = absurd h
 pub no_mapping : (m : ℕ × Bool) (o : Option (ℕ × Bool)) → o ≡ None → o ≡ Some m → ⊥
 no_mapping m o e h = cc
 
-table_of : (c : Config) (left left' next : ℕ) (i i' : Item) → i ≡ i' → left ≡ left' → means2_of c left i.value ≡ Table next → means2_of c left' i'.value ≡ Table next
+table_of : (c : Config) (left left' next : ℕ) (i i' : Item) → i ≡ i' → left ≡ left' → means2_of c left i.value ≡ Table next →
+    means2_of c left' i'.value ≡ Table next
 table_of c left left' next i i' e l m = rw (← e, ← l) m
 
 class_of_table : (r : Regime) (left next : ℕ) (i : Item) → means2_of r.config left i.value ≡ Table next → class_of r.stage2.granule left ≤ class2 r left i
@@ -79,7 +81,8 @@ module _ (r : Regime) (p : Bool) (x y : ℕ) where
   asks_beneath (suc (suc left)) next h = tt
 
   -- behind a table both ask for a word, if one does
-  asks_behind : (left : ℕ) (i : Item) (next : ℕ) → means2_of r.config left i.value ≡ Table next → Turn2 r left i → AsksWord (behind2 r p x y x left i) → AsksWord (behind2 r p x y y left i)
+  asks_behind : (left : ℕ) (i : Item) (next : ℕ) → means2_of r.config left i.value ≡ Table next → Turn2 r left i → AsksWord (behind2 r p x y x left i) →
+      AsksWord (behind2 r p x y y left i)
   asks_behind left i next m (table n a d) h =
       let w : AsksWord (beneath (down2 r p x) left n) = rw (d p x) at h in
       rw (d p y) (asks_beneath left n w)
@@ -88,7 +91,10 @@ module _ (r : Regime) (p : Bool) (x y : ℕ) where
 
   -- Where the last item is a table and stage 2 needs a word, it goes in step with that of each IPA of the table's region,
   -- which needs a word too.
-  pub tables2_in_step : IsOfFields r → (items : List Item) (i : Item) (left next : ℕ) → LastIs items i → i.what ≡ Word → i.level ≡ level_of left → means2_of r.config left i.value ≡ Table next → x / 2 ^ class_of r.stage2.granule left ≡ y / 2 ^ class_of r.stage2.granule left → NeedsWord (on (fits r) (walk2 (asked2 r p x)) items) → (u : Ask Need Item (End Leaf2)) × (v : Ask Need Item (End Leaf2)) × InStep (fits r) (SameRegion r) (walk2 (asked2 r p x)) (walk2 (asked2 r p y)) items u v × AsksWord u × AsksWord v
+  pub tables2_in_step : IsOfFields r → (items : List Item) (i : Item) (left next : ℕ) → LastIs items i → i.what ≡ Word → i.level ≡ level_of left →
+      means2_of r.config left i.value ≡ Table next → x / 2 ^ class_of r.stage2.granule left ≡ y / 2 ^ class_of r.stage2.granule left →
+      NeedsWord (on (fits r) (walk2 (asked2 r p x)) items) → (u : Ask Need Item (End Leaf2)) × (v : Ask Need Item (End Leaf2))
+      × InStep (fits r) (SameRegion r) (walk2 (asked2 r p x)) (walk2 (asked2 r p y)) items u v × AsksWord u × AsksWord v
   tables2_in_step f items i left next l o e m s h =
       let t = takes_all (fits r) (walk2 (asked2 r p x)) items (uses_word _ h) in
       let w = stepped2 r p x y f items t.0 t.1 (inr (i, l, (tt, o))) in
@@ -96,7 +102,8 @@ module _ (r : Regime) (p : Bool) (x y : ℕ) where
       let q : i ≡ w.item = w.is_last i l o in
       let n : left ≡ w.left = level_of_one left w.left (sym e ∙ ap (λ z. z.level) q ∙ fit_level r S2 w.left w.fit.0 p x w.fit.1 w.item w.fit.2) in
       let m' = table_of r.config left w.left next i w.item q n m in
-      let s' : x / 2 ^ class_of r.stage2.granule w.left ≡ y / 2 ^ class_of r.stage2.granule w.left = subst (λ (k : ℕ). x / 2 ^ class_of r.stage2.granule k ≡ y / 2 ^ class_of r.stage2.granule k) n s in
+      let s' : x / 2 ^ class_of r.stage2.granule w.left ≡ y / 2 ^ class_of r.stage2.granule w.left =
+      subst (λ (k : ℕ). x / 2 ^ class_of r.stage2.granule k ≡ y / 2 ^ class_of r.stage2.granule k) n s in
       let c = class_of_table r w.left next w.item m' in
       let d = asks_behind w.left w.item next m' (turn2 r w.left w.item) (rw w.left_as at a) in
       (t.0, behind2 r p x y y w.left w.item, w.shift (class_of r.stage2.granule w.left) c s', a, d)

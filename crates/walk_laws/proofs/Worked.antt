@@ -35,12 +35,14 @@ abbrev tagged_write : Access
 tagged_write = access 0xb400000040203def El0 Write false
 
 -- the word of one page serves another page of the run, another kind of access and another tag
-serves_the_run : (stands user false tagged_write run_items ≡ ends (reaches (run_landing 0x13def)) []) × (regions user false (kernel_read 0x40201abc) run_items ≡ regions user false tagged_write run_items)
+serves_the_run : (stands user false tagged_write run_items ≡ ends (reaches (run_landing 0x13def)) [])
+    × (regions user false (kernel_read 0x40201abc) run_items ≡ regions user false tagged_write run_items)
 unfolding on_worked_walks
 serves_the_run = walk_shifts user (kernel_read 0x40201abc) tagged_write run_items (run_landing 0x11abc) refl refl refl refl
 
 -- a table covers an entry of its level around the address, and a page of a run the run
-names_the_regions : regions user false tagged_write run_items ≡ None ∷ Some record { class = 39; start = 0 } ∷ Some record { class = 30; start = 1 } ∷ Some record { class = 21; start = 0x201 } ∷ Some record { class = 16; start = 0x4020 } ∷ []
+names_the_regions : regions user false tagged_write run_items ≡ None ∷ Some record { class = 39; start = 0 } ∷ Some record { class = 30;
+    start = 1 } ∷ Some record { class = 21; start = 0x201 } ∷ Some record { class = 16; start = 0x4020 } ∷ []
 unfolding on_worked_walks
 names_the_regions = refl
 
@@ -64,21 +66,30 @@ abbrev page_landing : ℕ → Landing
 page_landing pa = record { class = 12; pa = pa; perms = rights "--x" "rwx"; mem = Device NGnRE; sh = Osh }
 
 -- the page is smaller than the block behind it, and so is the piece
-serves_the_page : (stands guest false (kernel_read 0x40201def) page_items ≡ ends (reaches (page_landing 0x5def)) []) × (regions guest false (kernel_read 0x40201abc) page_items ≡ regions guest false (kernel_read 0x40201def) page_items)
+serves_the_page : (stands guest false (kernel_read 0x40201def) page_items ≡ ends (reaches (page_landing 0x5def)) [])
+    × (regions guest false (kernel_read 0x40201abc) page_items ≡ regions guest false (kernel_read 0x40201def) page_items)
 unfolding on_worked_walks
 serves_the_page = walk_shifts guest (kernel_read 0x40201abc) (kernel_read 0x40201def) page_items (page_landing 0x5abc) refl refl refl refl
 
 -- another address below the table of stage 1 needs the base of stage 2 for its own entry
-goes_on_behind_a_table_of_stage_1 : IsOpen (stands guest true (kernel_read 0x402ff000) (front_items ++ item S1 2 0x3008 0x4003 ∷ [])) × (regions guest true (kernel_read 0x40201abc) (front_items ++ item S1 2 0x3008 0x4003 ∷ []) ≡ regions guest true (kernel_read 0x402ff000) (front_items ++ item S1 2 0x3008 0x4003 ∷ []))
+goes_on_behind_a_table_of_stage_1 : IsOpen (stands guest true (kernel_read 0x402ff000) (front_items ++ item S1 2 0x3008 0x4003 ∷ []))
+    × (regions guest true (kernel_read 0x40201abc) (front_items ++ item S1 2 0x3008 0x4003 ∷ []) ≡ regions guest true (kernel_read 0x402ff000)
+    (front_items ++ item S1 2 0x3008 0x4003 ∷ []))
 unfolding on_worked_walks
 goes_on_behind_a_table_of_stage_1 =
-    table1_shifts guest true (kernel_read 0x40201abc) (kernel_read 0x402ff000) (front_items ++ item S1 2 0x3008 0x4003 ∷ []) 1 0x4003 0x4000 record { no_el0 = false; read_only = false; pxn = false; uxn = false } record { front = front_items; item = item S1 2 0x3008 0x4003; last = refl; is_of = refl; what = refl; level = refl; has = refl } refl tt refl refl
+    table1_shifts guest true (kernel_read 0x40201abc) (kernel_read 0x402ff000) (front_items ++ item S1 2 0x3008 0x4003 ∷ []) 1 0x4003 0x4000 record
+        { no_el0 = false; read_only = false; pxn = false; uxn = false } record { front = front_items; item = item S1 2 0x3008 0x4003; last = refl; is_of = refl;
+        what = refl; level = refl; has = refl } refl tt refl refl
 
 -- another IPA below the table of stage 2 needs a word in it
-goes_on_behind_a_table_of_stage_2 : NeedsWord (stands2 guest Low true 0x1ff000 (descent S2 1 0x8000 ((0x8000, 0x9003) ∷ (0x9000, 0xa003) ∷ []))) × (regions2 guest Low true 0x1008 (descent S2 1 0x8000 ((0x8000, 0x9003) ∷ (0x9000, 0xa003) ∷ [])) ≡ regions2 guest Low true 0x1ff000 (descent S2 1 0x8000 ((0x8000, 0x9003) ∷ (0x9000, 0xa003) ∷ [])))
+goes_on_behind_a_table_of_stage_2 : NeedsWord (stands2 guest Low true 0x1ff000 (descent S2 1 0x8000 ((0x8000, 0x9003) ∷ (0x9000, 0xa003) ∷ [])))
+    × (regions2 guest Low true 0x1008 (descent S2 1 0x8000 ((0x8000, 0x9003) ∷ (0x9000, 0xa003) ∷ [])) ≡ regions2 guest Low true 0x1ff000
+    (descent S2 1 0x8000 ((0x8000, 0x9003) ∷ (0x9000, 0xa003) ∷ [])))
 unfolding on_worked_walks
 goes_on_behind_a_table_of_stage_2 =
-    table2_shifts guest Low true 0x1008 0x1ff000 (descent S2 1 0x8000 ((0x8000, 0x9003) ∷ (0x9000, 0xa003) ∷ [])) 1 0xa003 0xa000 record { front = descent S2 1 0x8000 ((0x8000, 0x9003) ∷ []); item = item S2 2 0x9000 0xa003; last = refl; is_of = refl; what = refl; level = refl; has = refl } refl tt refl
+    table2_shifts guest Low true 0x1008 0x1ff000 (descent S2 1 0x8000 ((0x8000, 0x9003) ∷ (0x9000, 0xa003) ∷ [])) 1 0xa003 0xa000 record
+        { front = descent S2 1 0x8000 ((0x8000, 0x9003) ∷ []); item = item S2 2 0x9000 0xa003; last = refl; is_of = refl; what = refl; level = refl;
+        has = refl } refl tt refl
 
 -- a page of stage 2 in a run of sixteen, which stands second
 abbrev stage_2_items : List Item
@@ -88,6 +99,7 @@ abbrev run_leaf : ℕ → Leaf2
 run_leaf pa = record { level = pos 3; class = 16; pa = pa; perms = rights "rwx" "rwx"; mem = normal (wb "") (wb ""); sh = Ish }
 
 -- it serves each page of the run
-serves_the_run_of_stage_2 : (stands2 guest Low true 0x5010 stage_2_items ≡ ends (reaches (run_leaf 0x15010)) []) × (regions2 guest Low true 0x1008 stage_2_items ≡ regions2 guest Low true 0x5010 stage_2_items)
+serves_the_run_of_stage_2 : (stands2 guest Low true 0x5010 stage_2_items ≡ ends (reaches (run_leaf 0x15010)) [])
+    × (regions2 guest Low true 0x1008 stage_2_items ≡ regions2 guest Low true 0x5010 stage_2_items)
 unfolding on_worked_walks
 serves_the_run_of_stage_2 = stage2_shifts guest Low true 0x1008 0x5010 stage_2_items (run_leaf 0x11008) refl refl

@@ -24,17 +24,22 @@ read_given regs s now m (base2 _) i h = ap (λ z. Some z) (sym h)
 read_given regs s now m (word w) i h = rw h.1 (ap (λ z. Some z) (sym h.0))
 
 -- what lacked is not given
-lacks_given : (regs : Regs) (s : Side) (now : ℕ) (m : Memory) (F : Type 0) → (F → ⊥) → (e : Fed Need (End Landing)) → LacksFor (Some m) F e → EndsAsGiven (given regs s m now) e
+lacks_given : (regs : Regs) (s : Side) (now : ℕ) (m : Memory) (F : Type 0) → (F → ⊥) → (e : Fed Need (End Landing)) → LacksFor (Some m) F e →
+    EndsAsGiven (given regs s m now) e
 lacks_given regs s now m F f (ended a) h = tt
 lacks_given regs s now m F f (lacks base1) h = absurd h
 lacks_given regs s now m F f (lacks (base2 _)) h = absurd h
 lacks_given regs s now m F f (lacks (word w)) (inl h) = rw h refl
 lacks_given regs s now m F f (lacks (word w)) (inr h) = absurd (f h)
 
-fresh_told : (regs : Regs) (a : Access) (now : ℕ) (m : Memory) (F : Type 0) (items : List Item) (o : Outcome) → (F → ⊥) → WalkedWhole regs a now (Some m) F items o → (items ≡ fresh_items m regs a now) × (o ≡ fresh_outcome m regs a now)
+fresh_told : (regs : Regs) (a : Access) (now : ℕ) (m : Memory) (F : Type 0) (items : List Item) (o : Outcome) → (F → ⊥) →
+    WalkedWhole regs a now (Some m) F items o → (items ≡ fresh_items m regs a now) × (o ≡ fresh_outcome m regs a now)
 fresh_told regs a now m F items o f w =
-    let d = fed_took (given regs (side_of a.va) m now) (walk (config_of regs) true a) items w.end (took_weaker (ReadsNow regs (side_of a.va) now (Some m)) (λ n i. given regs (side_of a.va) m now n ≡ Some i) (read_given regs (side_of a.va) now m) (walk (config_of regs) true a) items w.end w.took) (lacks_given regs (side_of a.va) now m F f w.end w.cause) in
+    let d = fed_took (given regs (side_of a.va) m now) (walk (config_of regs) true a) items w.end
+    (took_weaker (ReadsNow regs (side_of a.va) now (Some m)) (λ n i. given regs (side_of a.va) m now n ≡ Some i) (read_given regs (side_of a.va) now m)
+    (walk (config_of regs) true a) items w.end w.took) (lacks_given regs (side_of a.va) now m F f w.end w.cause) in
     (d.0, w.answer ∙ ap fed_outcome d.1)
 
-pub fresh : (regs : Regs) (a : Access) (now : ℕ) (told : Told) (F : Type 0) (items : List Item) (o : Outcome) → WalkedWhole regs a now told F items o → IsFresh regs a now told F items o
+pub fresh : (regs : Regs) (a : Access) (now : ℕ) (told : Told) (F : Type 0) (items : List Item) (o : Outcome) → WalkedWhole regs a now told F items o →
+    IsFresh regs a now told F items o
 fresh regs a now told F items o w m e f = fresh_told regs a now m F items o f (rw e at w)

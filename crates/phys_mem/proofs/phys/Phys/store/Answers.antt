@@ -6,7 +6,8 @@ pub returns-in_default-clause-there : goal.returns-in_default-clause-there
 returns-in_default-clause-there c = rw (← c.self.view_is) (there_by _ c.args.pa None (rw (← c.as_slice.ensures.value, ← c.index_of.ensures.is) c.in_default.is))
 
 pub returns-clause-there : goal.returns-clause-there
-returns-clause-there c = rw (← c.self.view_is) (there_by _ c.args.pa (Some c.in-Some.index) (rw (← c.as_slice.ensures.value, ← c.index_of.ensures.is) c.in-Some.is))
+returns-clause-there c = rw (← c.self.view_is)
+    (there_by _ c.args.pa (Some c.in-Some.index) (rw (← c.as_slice.ensures.value, ← c.index_of.ensures.is) c.in-Some.is))
 
 pub returns-clause-after : goal.returns-clause-after
 returns-clause-after c =
