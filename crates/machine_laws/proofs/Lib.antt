@@ -38,3 +38,4 @@ pub mod Outlived
 pub mod NoRows
 pub mod Timeless
 pub mod Unchanged
+pub mod Promised

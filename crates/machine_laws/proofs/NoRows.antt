@@ -284,5 +284,5 @@ module _ (serves : ServesWell) (makes : MakesWell) (h : Header) (none : h.size �
           )
 
 -- where every run has the facts of the machine
-pub runs_without_rows_are_fresh : ServesWell → MakesWell → RunsWithoutRowsAreFresh
-runs_without_rows_are_fresh serves makes h events own none = (fresh_run serves makes h none events own).1
+pub fresh_without_rows : ServesWell → MakesWell → RunsWithoutRowsAreFresh
+fresh_without_rows serves makes h events own none = (fresh_run serves makes h none events own).1

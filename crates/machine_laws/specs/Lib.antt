@@ -15,4 +15,5 @@ pub use Rattle.machine_spec.specs.Sets
 pub use Rattle.machine_spec.specs.Served
 pub use Rattle.machine_spec.specs.Machine
 pub mod Headline
+pub mod Promise
 pub mod Rules

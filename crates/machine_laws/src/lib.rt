@@ -2,9 +2,11 @@
 #![tactic(auto)]
 
 mod headline;
+mod promise;
 mod rules;
 
 pub use headline::{runs_are_allowed, runs_without_rows_are_fresh, unchanged_trails_are_fresh};
+pub use promise::runs_keep_their_promise;
 pub use rules::{
     barrier_empties_inboxes, full_sets_lose_one, no_row_outlives_its_vmid,
     no_rows_made_changes_none, nothing_covered_changes_nothing, quiet_events_keep_rows,
