@@ -39,3 +39,4 @@ pub mod NoRows
 pub mod Timeless
 pub mod Unchanged
 pub mod Promised
+pub mod Wrong

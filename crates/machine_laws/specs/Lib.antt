@@ -16,4 +16,5 @@ pub use Rattle.machine_spec.specs.Served
 pub use Rattle.machine_spec.specs.Machine
 pub mod Headline
 pub mod Promise
+pub mod NotAllowed
 pub mod Rules
