@@ -40,3 +40,4 @@ pub mod Timeless
 pub mod Unchanged
 pub mod Promised
 pub mod Wrong
+pub mod WrongRuns

@@ -25,7 +25,7 @@ use Rattle.machine_spec.specs.Moments.{memory_after, regs_after}
 use Rattle.machine_spec.specs.Marks.{Mark, mark, marks}
 use Rattle.machine_spec.specs.Uses.{AllUsed}
 use Rattle.machine_spec.specs.Kept.{View, now, regs_when, base_by, IsKeptNow}
-use Rattle.machine_spec.specs.Allowed.{is_conflict, Case, case_of, config_now, IsTwice, IsForked, IsRight, IsAnswer, Ends, Keeps, last_entry}
+use Rattle.machine_spec.specs.Allowed.{is_conflict, Case, case_of, config_now, IsLacking, IsTwice, IsForked, IsConflict, IsRight, IsAnswer, Ends, Keeps, last_entry}
 use Rattle.machine_laws.specs.NotAllowed.{ItemsAreTrue, OutcomesAreTrue, ConflictsAreTrue, AnswersAreTrue, NothingFalseIsAllowed}
 use Rattle.machine_laws.proofs.Begins.{regs_now}
 use Rattle.machine_laws.proofs.Logs.{none_some}
@@ -64,7 +64,8 @@ fit_met true s met = (refl, met)
 fit_met false s met = absurd met
 
 -- what is said of each mark is said of each item
-module _ {A : Type 0} (r : Regime) (P : Mark → Option ℕ → Type 0) (Q : Item → Type 0) (told : (m : Mark) (u : Option ℕ) (i : Item) → IsOf m i → P m u → Q i) where
+module _ {A : Type 0} (r : Regime) (P : Mark → Option ℕ → Type 0) (Q : Item → Type 0)
+    (told : (m : Mark) (u : Option ℕ) (i : Item) → IsOf m i → P m u → Q i) where
   all_items : (t : Ask Need Item A) (above : Option ℕ) (xs : List Item) → IsMet (on (fits r) t xs) → AllUsed P above (marks r t xs) → All Q xs
   all_items (done a) above [] met used = All-nil Q
   all_items (done a) above (x ∷ xs) met used = absurd met
@@ -83,11 +84,13 @@ pub record WasRead (v : View) (i : Item) : Type 0 where
 was_read : (v : View) (m : Mark) (u : Option ℕ) (i : Item) → IsOf m i → IsKeptNow v m u → WasRead v i
 was_read v m u i of kept =
     let held = kept.held in
+    let what : i.what ≡ m.item.what = ap (λ (j : Item). j.what) (sym of.item) in
+    let stage : m.item.stage ≡ m.stage = ap (λ (j : Item). j.stage) of.item ∙ sym of.stage in
     subst (WasRead v) of.item record {
       fields = held.config_was;
       vmid = held.vmid_was;
-      base = λ e. ap (λ s. base_by (regs_when v m.item.moment) v.side s) (ap (λ (j : Item). j.stage) of.item ∙ sym of.stage) ∙ held.base (of.base (ap (λ (j : Item). j.what) (sym of.item) ∙ e));
-      word = λ e. held.word (of.word (ap (λ (j : Item). j.what) (sym of.item) ∙ e));
+      base = λ e. ap (λ s. base_by (regs_when v m.item.moment) v.side s) stage ∙ held.base (of.base (what ∙ e));
+      word = λ e. held.word (of.word (what ∙ e));
     }
 
 all_read : (q : Case) (xs : List Item) → IsMet (stands (config_now q) true q.access xs) → Keeps q true xs → All (WasRead q.view) xs
@@ -99,7 +102,8 @@ all_read q xs met kept =
 met_by : {A : Type 0} (s t : Stands Need Item A) → s ≡ t → IsMet t → IsMet s
 met_by s t e h = subst IsMet (sym e) h
 
-right_read : (q : Case) (xs : List Item) (second : Option (List Item)) (o : Outcome) → IsRight q xs second o → is_conflict o ≡ false → All (WasRead q.view) xs
+right_read : (q : Case) (xs : List Item) (second : Option (List Item)) (o : Outcome) → IsRight q xs second o → is_conflict o ≡ false
+    → All (WasRead q.view) xs
 right_read q xs second (Mapped pa perms mem sh) r one = all_read q xs (met_by _ _ r.walk_ends tt) r.kept
 right_read q xs second (Faulted f) r one = all_read q xs (met_by _ _ r.walk_ends tt) r.kept
 right_read q xs second (Absent s level pa s1ptw) r one = all_read q xs (met_by _ _ r.walk_needs tt) r.kept
@@ -136,31 +140,19 @@ not_equal : (q : Case) (xs : List Item) → IsTwice q xs xs ⊎ IsForked q xs xs
 not_equal q xs (inl t) = t.differ refl refl
 not_equal q xs (inr f) = f.differ (ap last_entry (same_tail f.front f.one f.two (sym f.first_is ∙ f.second_is)))
 
-conflict_apart : (q : Case) (xs : List Item) (second : Option (List Item)) (o : Outcome) → o ≡ Conflict → IsRight q xs second o → second ≡ Some xs → ⊥
-conflict_apart q xs second (Mapped pa perms mem sh) e r same = absurd cc
-conflict_apart q xs second (Faulted f) e r same = absurd cc
-conflict_apart q xs second (Absent s level pa s1ptw) e r same = absurd cc
-conflict_apart q xs second Conflict e r same =
+conflict_apart : (q : Case) (xs : List Item) (second : Option (List Item)) → IsConflict q xs second → second ≡ Some xs → ⊥
+conflict_apart q xs second r same =
     let other : xs ≡ r.other = same_Some xs r.other (sym same ∙ r.both) in
     not_equal q xs (subst (λ ys. IsTwice q xs ys ⊎ IsForked q xs ys) (sym other) r.how)
-
-conflict_of_two : (q : Case) (xs : List Item) (second : Option (List Item)) (o : Outcome) → o ≡ Conflict → IsRight q xs second o → second ≡ None → ⊥
-conflict_of_two q xs second (Mapped pa perms mem sh) e r none = absurd cc
-conflict_of_two q xs second (Faulted f) e r none = absurd cc
-conflict_of_two q xs second (Absent s level pa s1ptw) e r none = absurd cc
-conflict_of_two q xs second Conflict e r none = none_some r.other (sym none ∙ r.both)
 
 place_of_absent : (s t : Stage) (k l : ℤ) (p q : ℕ) (v w : Bool) → Absent s k p v ≡ Absent t l q w → p ≡ q
 place_of_absent s t k l p q v w e = cc
 
 -- a place that an answer lacks is one that memory lacks
-lacks_at : (q : Case) (xs : List Item) (second : Option (List Item)) (o : Outcome) (s : Stage) (l : ℤ) (p : ℕ) (w : Bool) → o ≡ Absent s l p w
-    → IsRight q xs second o → memory_after q.view.header q.view.log p ≡ None
-lacks_at q xs second (Mapped pa perms mem sh) s l p w e r = absurd cc
-lacks_at q xs second (Faulted f) s l p w e r = absurd cc
-lacks_at q xs second Conflict s l p w e r = absurd cc
-lacks_at q xs second (Absent t level pa s1ptw) s l p w e r =
-    let at : r.need.place ≡ p = place_of_absent _ _ _ _ _ _ _ _ (sym r.is ∙ e) in
+lacks_at : (q : Case) (xs : List Item) (second : Option (List Item)) (s : Stage) (l : ℤ) (p : ℕ) (w : Bool) → IsLacking q xs second (Absent s l p w)
+    → memory_after q.view.header q.view.log p ≡ None
+lacks_at q xs second s l p w r =
+    let at : r.need.place ≡ p = place_of_absent _ _ _ _ _ _ _ _ (sym r.is) in
     subst (λ n. memory_after q.view.header q.view.log n ≡ None) at r.lacking
 
 -- ALL LAWS
@@ -171,6 +163,9 @@ module _ (h : Header) (log : List Step) (c : ℕ) (a : Access) (r : Answer) wher
 
   now_is : {X : Type 0} (f : Regs → X) → f (regs_when here.view (now here.view)) ≡ f (regs_after c log)
   now_is f = ap f (regs_now here.view)
+
+  right : {o : Outcome} → r.outcome ≡ o → IsAnswer here r → IsRight here r.first r.second o
+  right is ok = subst (IsRight here r.first r.second) is ok.right
 
   items_true : is_conflict r.outcome ≡ false → (i : Item) → Contains r.first i → ItemsAreTrue h log c a r i
   items_true one i at =
@@ -185,14 +180,14 @@ module _ (h : Header) (log : List Step) (c : ℕ) (a : Access) (r : Answer) wher
   outcomes_true : is_conflict r.outcome ≡ false → OutcomesAreTrue h log c a r
   outcomes_true one = record {
     of_walk = λ e at wrong ok. wrong (end_is here r.first r.second r.outcome e ok.right one at);
-    lacking = λ s l p w v is there ok. none_some v (sym (lacks_at here r.first r.second r.outcome s l p w is ok.right) ∙ there);
+    lacking = λ s l p w v is there ok. none_some v (sym (lacks_at here r.first r.second s l p w (right is ok)) ∙ there);
     alone = λ wrong ok. wrong (alone_is here r.first r.second r.outcome ok.right one);
   }
 
   conflicts_true : r.outcome ≡ Conflict → ConflictsAreTrue h log c a r
   conflicts_true is = record {
-    one = λ none ok. conflict_of_two here r.first r.second r.outcome is ok.right none;
-    equal = λ same ok. conflict_apart here r.first r.second r.outcome is ok.right same;
+    one = λ none ok. none_some _ (sym none ∙ (right is ok).both);
+    equal = λ same ok. conflict_apart here r.first r.second (right is ok) same;
   }
 
   answers_true : AnswersAreTrue h log c a r

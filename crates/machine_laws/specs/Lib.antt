@@ -17,4 +17,5 @@ pub use Rattle.machine_spec.specs.Machine
 pub mod Headline
 pub mod Promise
 pub mod NotAllowed
+pub mod NotAllowedRuns
 pub mod Rules

@@ -7,7 +7,7 @@ mod promise;
 mod rules;
 
 pub use headline::{runs_are_allowed, runs_without_rows_are_fresh, unchanged_trails_are_fresh};
-pub use not_allowed::nothing_false_is_allowed;
+pub use not_allowed::{nothing_false_is_allowed, wrong_answers_are_refused};
 pub use promise::runs_keep_their_promise;
 pub use rules::{
     barrier_empties_inboxes, full_sets_lose_one, no_row_outlives_its_vmid,
