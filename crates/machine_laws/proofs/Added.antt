@@ -1,5 +1,5 @@
 -- Rows that come, leave and move: each row behind a step is one before or one that was made, and rows stay told apart.
-use Rattle.std.proofs.Common.{◌≡◌, ℕ, zero, suc, ◌+◌, Bool, true, false, not, ◌&&◌, ◌||◌, cond, List, [], ◌∷◌, ◌++◌, length, ◌⊎◌, inl, inr, refl, sym, ap, ◌∙◌, subst}
+use Rattle.std.proofs.Common.{◌≡◌, ℕ, ◌+◌, Bool, true, false, not, ◌&&◌, ◌||◌, cond, List, [], ◌∷◌, ◌++◌, length, ◌⊎◌, inl, inr, refl, sym, ap, ◌∙◌, subst}
 use Rattle.std.specs.Prelude.{◌==◌, nat_le, fold, filter}
 use Rattle.std.specs.List.{list_any}
 use Rattle.std.proofs.lemmas.Bool.{eq-eqb, both_ways, or_parts, not-true}
@@ -17,7 +17,8 @@ use Rattle.machine_spec.specs.Rows.{Row, same_bool, same_numbers, same_granules,
 use Rattle.machine_spec.specs.Made.{Maker, key_of}
 use Rattle.machine_spec.specs.Sets.{Cache, victim, without, same_set, same_key, added, is_row, to_end, touched}
 use Rattle.machine_laws.proofs.Facts.{In, IsApart, IsApart1, IsApart2, AllApart}
-use Rattle.machine_laws.proofs.Lists.{In-from_filter, In-push_cases}
+use Rattle.machine_laws.proofs.Lists.{In-from_filter, In-push_cases, In-without}
+use Rattle.machine_laws.proofs.Pairs.{pairs_filter, pairs_without, pairs_push}
 use Rattle.machine_laws.proofs.Combined.{IsMade1}
 
 -- EQUAL KEYS
@@ -90,39 +91,6 @@ apart_two (x ∷ xs) r s a (inl e) (inr j) n = subst (λ v. IsApart v s) (sym e)
 apart_two (x ∷ xs) r s a (inr i) (inl q) n = subst (λ v. IsApart r v) (sym q) (apart_sym x r (a.0 r i))
 apart_two (x ∷ xs) r s a (inr i) (inr j) n = apart_two xs r s a.1 i j n
 
-keep : (x z : Row) (ys xs : List Row) → (In z ys → In z xs) → In z (x ∷ ys) → In z (x ∷ xs)
-keep x z ys xs f (inl e) = inl e
-keep x z ys xs f (inr i) = inr (f i)
-
-In-case : (b : Bool) (z : Row) (us vs xs : List Row) → (In z us → In z xs) → (In z vs → In z xs) → In z (cond b us vs) → In z xs
-In-case true z us vs xs f g h = f h
-In-case false z us vs xs f g h = g h
-
-apart_case : (b : Bool) (us vs : List Row) → AllApart us → AllApart vs → AllApart (cond b us vs)
-apart_case true us vs h k = h
-apart_case false us vs h k = k
-
-pub In-without : (p : Row → Bool) (xs : List Row) (n : ℕ) (z : Row) → In z (without p xs n) → In z xs
-In-without p [] n z h = absurd h
-In-without p (x ∷ xs) zero z h = In-case (p x) z xs (x ∷ without p xs zero) (x ∷ xs) (λ i. inr i) (keep x z (without p xs zero) xs (In-without p xs zero z)) h
-In-without p (x ∷ xs) (suc n) z h =
-    In-case (p x) z (x ∷ without p xs n) (x ∷ without p xs (suc n)) (x ∷ xs) (keep x z (without p xs n) xs (In-without p xs n z)) (keep x z (without p xs (suc n)) xs (In-without p xs (suc n) z)) h
-
--- an eviction
-pub apart_without : (p : Row → Bool) (xs : List Row) (n : ℕ) → AllApart xs → AllApart (without p xs n)
-apart_without p [] n h = tt
-apart_without p (x ∷ xs) zero h = apart_case (p x) xs (x ∷ without p xs zero) h.1 ((λ s i. h.0 s (In-without p xs zero s i)), apart_without p xs zero h.1)
-apart_without p (x ∷ xs) (suc n) h = apart_case (p x) (x ∷ without p xs n) (x ∷ without p xs (suc n))
-    ((λ s i. h.0 s (In-without p xs n s i)), apart_without p xs n h.1) ((λ s i. h.0 s (In-without p xs (suc n) s i)), apart_without p xs (suc n) h.1)
-
-pub apart_filter : (p : Row → Bool) (xs : List Row) → AllApart xs → AllApart (filter p xs)
-apart_filter p [] h = tt
-apart_filter p (x ∷ xs) h = apart_case (p x) (x ∷ filter p xs) (filter p xs) ((λ s i. h.0 s (In-from_filter p xs s i).0), apart_filter p xs h.1) (apart_filter p xs h.1)
-
-pub apart_push : (rows : List Row) (r : Row) → ((x : Row) → In x rows → IsApart x r) → AllApart rows → AllApart (rows ++ r ∷ [])
-apart_push [] r h a = ((λ s i. absurd i), tt)
-apart_push (x ∷ rows) r h a = ((λ s i. elim (In-push_cases rows r s i) [ inl m ↦ a.0 s m | inr e ↦ subst (IsApart x) (sym e) (h x (inl refl)) ]), apart_push rows r (λ y i. h y (inr i)) a.1)
-
 -- ROWS THAT SERVED
 
 In-to_end : (rows : List Row) (r x : Row) → In x (to_end rows r) → In x rows ⊎ (x ≡ r)
@@ -141,10 +109,10 @@ module _ (olds : List Row) (apart : AllApart olds) where
 
   apart_end : (rows : List Row) (r : Row) → Within rows → In r olds → AllApart rows → AllApart (to_end rows r)
   apart_end rows r w i a =
-      apart_push (filter (λ y. not (is_row r y)) rows) r (λ x h.
+      pairs_push IsApart (filter (λ y. not (is_row r y)) rows) r (λ x h.
       let p = In-from_filter (λ y. not (is_row r y)) rows x h in
       apart_two olds x r apart (w x p.0) i (λ e. both_ways (is_row r r) (subst (λ z. is_row r z ≡ false) e (not-true (is_row r x) p.1)) (is_row_self r)))
-      (apart_filter (λ y. not (is_row r y)) rows a)
+      (pairs_filter IsApart (λ y. not (is_row r y)) rows a)
 
   within_ends : (served rows : List Row) → Within served → Within rows → Within (fold to_end rows served)
   within_ends [] rows s w = w
@@ -193,8 +161,8 @@ other_key r x kr kx h lx lr cf vm rg =
 
 apart_one : (b d : Bool) (l : Cache) (p : Row → Bool) (n : ℕ) (r : Row) → list_any (same_key r) l.rows ≡ b → ((x : Row) → In x l.rows → same_key r x ≡ false → IsApart x r) → AllApart l.rows → AllApart (added_by b d l p n r).rows
 apart_one true d l p n r e one a = a
-apart_one false true l p n r e one a = apart_push (without p l.rows n) r (λ x i. let m = In-without p l.rows n x i in one x m (any_not (same_key r) l.rows x e m)) (apart_without p l.rows n a)
-apart_one false false l p n r e one a = apart_push l.rows r (λ x i. one x i (any_not (same_key r) l.rows x e i)) a
+apart_one false true l p n r e one a = pairs_push IsApart (without p l.rows n) r (λ x i. let m = In-without p l.rows n x i in one x m (any_not (same_key r) l.rows x e m)) (pairs_without IsApart p l.rows n a)
+apart_one false false l p n r e one a = pairs_push IsApart l.rows r (λ x i. one x i (any_not (same_key r) l.rows x e i)) a
 
 module _ (h : Header) (c : ℕ) where
   abbrev is_full : Cache → Row → Bool

@@ -27,17 +27,8 @@ use Rattle.machine_laws.proofs.Facts.{In, sided, view_of, IsApart, AllApart, Fac
 use Rattle.machine_laws.proofs.Fine.{place_of, ServedOk, ServesWell, longer, issued_now, MadeOk, MakesWell}
 use Rattle.machine_laws.proofs.Lists.{In-filter, In-from_filter, In-left, In-last, In-push_cases}
 use Rattle.machine_laws.proofs.Logs.{none_some, bank-last, memory-last, issued_in}
+use Rattle.machine_laws.proofs.Pairs.{pairs_filter}
 use Rattle.machine_laws.proofs.Lasting.{Stays, moves}
-
--- ROWS THAT STAY TOLD APART
-
-apart_if : (r : Row) (rs : List Row) (b : Bool) → ((s : Row) → In s rs → IsApart r s) → AllApart rs → AllApart (cond b (r ∷ rs) rs)
-apart_if r rs true h a = (h, a)
-apart_if r rs false h a = a
-
-apart_filter : (p : Row → Bool) (rs : List Row) → AllApart rs → AllApart (filter p rs)
-apart_filter p [] a = tt
-apart_filter p (r ∷ rs) a = apart_if r (filter p rs) (p r) (λ s i. a.0 s (In-from_filter p rs s i).0) (apart_filter p rs a.1)
 
 -- WHAT AN INBOX LOSES
 
@@ -65,14 +56,14 @@ less_by w (i ∷ later) e = record {
             let m2 : In j (i ∷ later) = subst (In j) e m in
             elim m2 [ inl q ↦ absurd (covered_not (covers i r.tag) p.1 (subst (λ x. covers x r.tag ≡ true) q cov)) | inr q ↦ q ],
       );
-  apart = apart_filter (λ (x : Row). not (covers i x.tag)) w.cache.rows;
+  apart = pairs_filter IsApart (λ (x : Row). not (covers i x.tag)) w.cache.rows;
 }
 
 -- THE MESSAGES THAT A BARRIER COMPLETES
 
 left_apart : (is : List Inval) (l : Cache) → AllApart l.rows → AllApart (fold killed l is).rows
 left_apart [] l h = h
-left_apart (j ∷ js) l h = left_apart js (killed l j) (apart_filter (λ (x : Row). not (covers j x.tag)) l.rows h)
+left_apart (j ∷ js) l h = left_apart js (killed l j) (pairs_filter IsApart (λ (x : Row). not (covers j x.tag)) l.rows h)
 
 rows_left : (is : List Inval) (l : Cache) (r : Row) → In r (fold killed l is).rows → In r l.rows × ((i : Inval) → In i is → covers i r.tag ≡ true → ⊥)
 rows_left [] l r h = (h, λ i m cov. m)

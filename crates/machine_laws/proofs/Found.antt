@@ -14,6 +14,7 @@ use Rattle.machine_spec.specs.Rows.{Row, same_fields, same_kind, holds, matches,
 use Rattle.machine_spec.specs.Served.{Supplied, gives, nothing, both, Reply, pushed, serve, taken}
 use Rattle.machine_laws.proofs.Facts.{In, IsApart, AllApart}
 use Rattle.machine_laws.proofs.Lists.{In-from_filter, In-append}
+use Rattle.machine_laws.proofs.Pairs.{pairs_filter}
 use Rattle.machine_laws.proofs.Equal.{fields_same, kind_same}
 
 -- IN THE ORDER OF MAKING
@@ -56,16 +57,8 @@ pub apart_by_making : (rs : List Row) → AllApart rs → AllApart (by_making rs
 apart_by_making [] a = tt
 apart_by_making (r ∷ rs) a = apart_inserted r (by_making rs) (λ s i. a.0 s (In-by_making s rs i)) (apart_by_making rs a.1)
 
-apart_if : (r : Row) (rs : List Row) (b : Bool) → ((s : Row) → In s rs → IsApart r s) → AllApart rs → AllApart (cond b (r ∷ rs) rs)
-apart_if r rs true h a = (h, a)
-apart_if r rs false h a = a
-
-pub apart_filter : (test : Row → Bool) (rs : List Row) → AllApart rs → AllApart (filter test rs)
-apart_filter test [] a = tt
-apart_filter test (r ∷ rs) a = apart_if r (filter test rs) (test r) (λ s i. a.0 s (In-from_filter test rs s i).0) (apart_filter test rs a.1)
-
 pub apart_matching : (test : Row → Bool) (rows : List Row) → AllApart rows → AllApart (matching test rows)
-apart_matching test rows a = apart_by_making (filter test rows) (apart_filter test rows a)
+apart_matching test rows a = apart_by_making (filter test rows) (pairs_filter IsApart test rows a)
 
 -- THE DEEPEST
 

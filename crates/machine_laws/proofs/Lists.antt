@@ -1,8 +1,9 @@
 -- Membership by recursion, and induction on a list's end.
-use Rattle.std.proofs.Common.{◌≡◌, Bool, true, false, cond, List, [], ◌∷◌, ◌++◌, drop, ◌⊎◌, inl, inr, refl, sym, subst, append_assoc, append-nil, Option, Some, None}
+use Rattle.std.proofs.Common.{◌≡◌, ℕ, zero, suc, Bool, true, false, cond, List, [], ◌∷◌, ◌++◌, drop, ◌⊎◌, inl, inr, refl, sym, subst, append_assoc, append-nil, Option, Some, None}
 use Rattle.std.specs.Prelude.{filter, find}
 use Rattle.std.proofs.lemmas.Option.{same_Some}
-use Rattle.machine_laws.proofs.Facts.{In}
+use Rattle.machine_spec.specs.Sets.{without}
+use Rattle.machine_laws.specs.Leaving.{In}
 
 module _ {X : Type 0} (P : List X → Type 0) (step : (xs : List X) (x : X) → P xs → P (xs ++ x ∷ [])) where
   ends : (ys xs : List X) → P ys → P (ys ++ xs)
@@ -63,3 +64,21 @@ pub In-append : {X : Type 0} (xs ys : List X) (x : X) → In x (xs ++ ys) → In
 In-append [] ys x h = inr h
 In-append (z ∷ zs) ys x (inl e) = inl (inl e)
 In-append (z ∷ zs) ys x (inr i) = elim (In-append zs ys x i) [ inl j ↦ inl (inr j) | inr j ↦ inr j ]
+
+without_first : {X : Type 0} (p : X → Bool) (x : X) (xs : List X) (y : X) (b : Bool) → (In y (without p xs zero) → In y xs)
+    → In y (cond b xs (x ∷ without p xs zero)) → In y (x ∷ xs)
+without_first p x xs y true rec i = inr i
+without_first p x xs y false rec (inl e) = inl e
+without_first p x xs y false rec (inr i) = inr (rec i)
+
+without_later : {X : Type 0} (p : X → Bool) (x : X) (xs : List X) (y : X) (n : ℕ) (b : Bool) → (In y (without p xs n) → In y xs)
+    → (In y (without p xs (suc n)) → In y xs) → In y (cond b (x ∷ without p xs n) (x ∷ without p xs (suc n))) → In y (x ∷ xs)
+without_later p x xs y n true here rest (inl e) = inl e
+without_later p x xs y n true here rest (inr i) = inr (here i)
+without_later p x xs y n false here rest (inl e) = inl e
+without_later p x xs y n false here rest (inr i) = inr (rest i)
+
+pub In-without : {X : Type 0} (p : X → Bool) (xs : List X) (n : ℕ) (y : X) → In y (without p xs n) → In y xs
+In-without p [] n y i = i
+In-without p (x ∷ xs) zero y i = without_first p x xs y (p x) (In-without p xs zero y) i
+In-without p (x ∷ xs) (suc n) y i = without_later p x xs y n (p x) (In-without p xs n y) (In-without p xs (suc n) y) i

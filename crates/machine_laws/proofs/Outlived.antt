@@ -72,7 +72,7 @@ module _ (k : Maker) where
   read_new m whole chain true x i = by_new m whole chain m.stage m.part x i
   read_new m whole chain false x i = absurd i
 
-  rows_new : (ms : List Mark) (whole chain : List Item) (x : Row) → In x (rows_of k whole chain ms) → IsNew k.step x
+  pub rows_new : (ms : List Mark) (whole chain : List Item) (x : Row) → In x (rows_of k whole chain ms) → IsNew k.step x
   rows_new [] whole chain x i = absurd i
   rows_new (m ∷ ms) whole chain x i =
       let whole2 : List Item = whole ++ m.item ∷ [] in
@@ -92,7 +92,7 @@ module _ (k : Maker) where
   leaf_new class address trail None x i = absurd i
   leaf_new class address trail (Some m) x i = leaf_if class address m trail (is_mark_leaf1 m && is_read_now k m) x i
 
-  combined_new : (address : ℕ) (trail : List Item) (ms : List Mark) (end : Fed Need (End Landing)) (x : Row)
+  pub combined_new : (address : ℕ) (trail : List Item) (ms : List Mark) (end : Fed Need (End Landing)) (x : Row)
       → In x (combined_rows k address trail ms end) → IsNew k.step x
   combined_new address trail ms (ended (stops f)) x i = absurd i
   combined_new address trail ms (ended (reaches l)) x i = leaf_new l.class address trail (last_first ms) x i
@@ -262,7 +262,7 @@ record IsBehind (h : Header) (w : World) (step vmid : ℕ) (i : Inval) : Type 0 
       → In i (core_of w c).inbox ⊎ (step < r.made.step)
 
 module _ (h : Header) where
-  moved_at : (w : World) → length w.cores ≡ h.cores → (e : Event) (c : ℕ) → c < h.cores
+  pub moved_at : (w : World) → length w.cores ≡ h.cores → (e : Event) (c : ℕ) → c < h.cores
       → core_of (after_event h w e) c ≡ moved h w e c (core_of w c)
   moved_at w count e c lt = each_at (moved h w e) w.cores c no_core (omega (arith, count))
 

@@ -19,3 +19,4 @@ pub mod Promise
 pub mod NotAllowed
 pub mod NotAllowedRuns
 pub mod Rules
+pub mod Leaving
