@@ -37,7 +37,7 @@ use Rattle.machine_laws.proofs.Stands.{on_ends}
 use Rattle.machine_laws.proofs.Fine.{Good, config_at, here, longer, issued_now}
 use Rattle.machine_laws.proofs.Fronts.{whole_leaf}
 use Rattle.machine_laws.proofs.Longer.{both_same}
-use Rattle.machine_laws.proofs.Lists.{In-append}
+use Rattle.machine_laws.proofs.Lists.{In-append, none_some}
 use Rattle.machine_laws.proofs.Making.{row_at, at_cases, held_at, closed, last}
 
 -- MARKS
@@ -48,9 +48,6 @@ record LastFirst (ms : List Mark) (m : Mark) : Type 0 where
   out : List Mark
   is : ms ≡ pre ++ m ∷ out
   second : AllSecond out
-
-none_some : {X P : Type 0} (x : X) → ◌≡◌ {A = Option X} None (Some x) → P
-none_some x h = cc
 
 no_first : (x : Mark) (ms : List Mark) (o : Option Mark) (b : Bool) → last_first ms ≡ o → is_first x ≡ b → or_mark o (cond b (Some x) None) ≡ None → (last_first ms ≡ None → AllSecond ms) → (is_first x ≡ false) × AllSecond ms
 no_first x ms (Some y) b e f h rec = absurd cc

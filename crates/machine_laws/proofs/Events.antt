@@ -25,8 +25,8 @@ use Rattle.machine_spec.specs.Machine.{Core, World, no_core, killed, delivered_b
 use Rattle.machine_laws.specs.Headline.{core_named}
 use Rattle.machine_laws.proofs.Facts.{In, sided, view_of, IsApart, AllApart, Facts, AllFacts}
 use Rattle.machine_laws.proofs.Fine.{place_of, ServedOk, ServesWell, longer, issued_now, MadeOk, MakesWell}
-use Rattle.machine_laws.proofs.Lists.{In-filter, In-from_filter, In-left, In-last, In-push_cases}
-use Rattle.machine_laws.proofs.Logs.{none_some, bank-last, memory-last, issued_in}
+use Rattle.machine_laws.proofs.Lists.{In-filter, In-from_filter, In-left, In-last, In-push_cases, none_some}
+use Rattle.machine_laws.proofs.Logs.{bank-last, memory-last, issued_in}
 use Rattle.machine_laws.proofs.Pairs.{pairs_filter}
 use Rattle.machine_laws.proofs.Lasting.{Stays, moves}
 

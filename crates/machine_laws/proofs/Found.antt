@@ -13,7 +13,7 @@ use Rattle.machine_spec.specs.Header.{Kind}
 use Rattle.machine_spec.specs.Rows.{Row, same_fields, same_kind, holds, matches, matches1, is_older, inserted, by_making, matching, closer, deepest}
 use Rattle.machine_spec.specs.Served.{Supplied, gives, nothing, both, Reply, pushed, serve, taken}
 use Rattle.machine_laws.proofs.Facts.{In, IsApart, AllApart}
-use Rattle.machine_laws.proofs.Lists.{In-from_filter, In-append}
+use Rattle.machine_laws.proofs.Lists.{In-from_filter, In-append, none_some}
 use Rattle.machine_laws.proofs.Pairs.{pairs_filter}
 use Rattle.machine_laws.proofs.Equal.{fields_same, kind_same}
 
@@ -69,9 +69,6 @@ closer_if r x s false h = inl (sym (same_Some r x h))
 closer_case : (r x : Row) (o : Option Row) → closer r o ≡ Some x → (x ≡ r) ⊎ (o ≡ Some x)
 closer_case r x None h = inl (sym (same_Some r x h))
 closer_case r x (Some s) h = closer_if r x s (nat_lt s.region.class r.region.class) h
-
-none_some : {X P : Type 0} (x : X) → ◌≡◌ {A = Option X} None (Some x) → P
-none_some x h = cc
 
 deepest_if : (test : Row → Bool) (r x : Row) (rs : List Row) (b : Bool) → test r ≡ b → (deepest test rs ≡ Some x → In x rs × (test x ≡ true)) →
     cond b (closer r (deepest test rs)) (deepest test rs) ≡ Some x → In x (r ∷ rs) × (test x ≡ true)

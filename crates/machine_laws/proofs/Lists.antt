@@ -53,7 +53,7 @@ find_case : {X : Type 0} (p : X → Bool) (y : X) (ys : List X) (x : X) (b : Boo
 find_case p y ys x true e rest h = let s : y ≡ x = same_Some y x h in (inl (sym s), subst (λ v. p v ≡ true) s e)
 find_case p y ys x false e rest h = (inr (rest h).0, (rest h).1)
 
-none_some : {X P : Type 0} (x : X) → ◌≡◌ {A = Option X} None (Some x) → P
+pub none_some : {X P : Type 0} (x : X) → ◌≡◌ {A = Option X} None (Some x) → P
 none_some x h = cc
 
 pub In-find : {X : Type 0} (p : X → Bool) (xs : List X) (x : X) → find p xs ≡ Some x → In x xs × (p x ≡ true)

@@ -38,8 +38,8 @@ use Rattle.machine_spec.specs.Machine.{opened, after_event, world_after, answer_
 use Rattle.machine_laws.specs.Headline.{core_named, AreOfCores, IsFreshNow, IsFreshFor, RunsWithoutRowsAreFresh}
 use Rattle.machine_laws.proofs.Facts.{view_of, AllFacts}
 use Rattle.machine_laws.proofs.Fine.{place_of, ServesWell, MakesWell}
-use Rattle.machine_laws.proofs.Lists.{from_end}
-use Rattle.machine_laws.proofs.Logs.{none_some, get-old, get-last}
+use Rattle.machine_laws.proofs.Lists.{from_end, none_some}
+use Rattle.machine_laws.proofs.Logs.{get-old, get-last}
 use Rattle.machine_laws.proofs.Events.{each_at, place_is}
 use Rattle.machine_laws.proofs.Theorem.{world_on, run_on, facts_of_run}
 

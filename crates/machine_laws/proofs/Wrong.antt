@@ -28,8 +28,8 @@ use Rattle.machine_spec.specs.Kept.{View, now, regs_when, base_by, IsKeptNow}
 use Rattle.machine_spec.specs.Allowed.{is_conflict, Case, case_of, config_now, IsLacking, IsTwice, IsForked, IsConflict, IsRight, IsAnswer, Ends, Keeps, last_entry}
 use Rattle.machine_laws.specs.NotAllowed.{ItemsAreTrue, OutcomesAreTrue, ConflictsAreTrue, AnswersAreTrue, NothingFalseIsAllowed}
 use Rattle.machine_laws.proofs.Begins.{regs_now}
-use Rattle.machine_laws.proofs.Logs.{none_some}
 use Rattle.machine_laws.proofs.MarksOf.{fits_base1_parts, fits_base2_parts, fits_word_parts}
+use Rattle.machine_laws.proofs.Lists.{none_some}
 
 -- ITEMS
 
