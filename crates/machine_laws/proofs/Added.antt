@@ -11,7 +11,7 @@ use Rattle.trace_lang.specs.declared.header.Policy.{Policy}
 use Rattle.trace_lang.specs.declared.header.Policy.TheVariants.{Lru, Fifo, Random}
 use Rattle.tagged_tlb.specs.declared.row.Key.{Key}
 use Rattle.walk_spec.specs.Needs.{Region}
-use Rattle.machine_spec.specs.Header.{Header, shape_of, Kind, leaf1, table1, leaf2, table2}
+use Rattle.machine_spec.specs.Header.{Header, shape_of, leaf1, leaf2}
 use Rattle.machine_spec.specs.Marks.{Mark, is_global}
 use Rattle.machine_spec.specs.Rows.{Row, same_bool, same_numbers, same_granules, same_low, same_high, same_rest, same_fields, same_kind, same_region, holds, matches1}
 use Rattle.machine_spec.specs.Made.{Maker, key_of}
@@ -20,18 +20,14 @@ use Rattle.machine_laws.proofs.Facts.{In, IsApart, IsApart1, IsApart2, AllApart}
 use Rattle.machine_laws.proofs.Lists.{In-from_filter, In-push_cases, In-without}
 use Rattle.machine_laws.proofs.Pairs.{pairs_filter, pairs_without, pairs_push}
 use Rattle.machine_laws.proofs.Combined.{IsMade1}
+use Rattle.machine_laws.proofs.Found.{apart_sym}
+use Rattle.machine_laws.proofs.Sets.{kind_itself, In-added}
 
 -- EQUAL KEYS
 
 same_bool_self : (b : Bool) → same_bool b b ≡ true
 same_bool_self true = refl
 same_bool_self false = refl
-
-same_kind_self : (k : Kind) → same_kind k k ≡ true
-same_kind_self leaf1 = refl
-same_kind_self table1 = refl
-same_kind_self leaf2 = refl
-same_kind_self table2 = refl
 
 same : (n : ℕ) → (n == n) ≡ true
 same n = eq-eqb n n refl
@@ -72,16 +68,13 @@ same_fields_self c = rw (numbers_self c, granules_self c, low_self c, high_self 
 -- rows of equal kinds, regions, keys and global flags would serve the same
 pub same_key_from : (r x : Row) → r.kind ≡ x.kind → r.region ≡ x.region → r.key.vmid ≡ x.key.vmid → r.key.asid ≡ x.key.asid → r.global ≡ x.global → r.key.config ≡ x.key.config → same_key r x ≡ true
 same_key_from r x kd rg vm ad gl cf =
-    let a : same_kind r.kind x.kind ≡ true = subst (λ z. same_kind r.kind z ≡ true) kd (same_kind_self r.kind) in
+    let a : same_kind r.kind x.kind ≡ true = subst (λ z. same_kind r.kind z ≡ true) kd (kind_itself r.kind) in
     let b : same_region r.region x.region ≡ true = subst (λ z. same_region r.region z ≡ true) rg (same_region_self r.region) in
     let c : same_bool r.global x.global ≡ true = subst (λ z. same_bool r.global z ≡ true) gl (same_bool_self r.global) in
     let d : same_fields r.key.config x.key.config ≡ true = subst (λ z. same_fields r.key.config z ≡ true) cf (same_fields_self r.key.config) in
     rw (a, b, eq-eqb r.key.vmid x.key.vmid vm, eq-eqb r.key.asid x.key.asid ad, c, d) refl
 
 -- LISTS OF ROWS THAT ARE TOLD APART
-
-pub apart_sym : (r s : Row) → IsApart r s → IsApart s r
-apart_sym r s h = ((λ a b c d e. h.0 b a (sym c) (sym d) (sym e)), λ a b c d e f. let k = h.1 b a (sym c) (sym d) (sym e) (sym f) in (f ∙ k.0, λ q. k.1 (sym q)))
 
 -- any two rows of the list that aren't one, in whichever order they stand
 pub apart_two : (xs : List Row) (r s : Row) → AllApart xs → In r xs → In s xs → (r ≡ s → ⊥) → IsApart r s
@@ -139,11 +132,6 @@ module _ (olds : List Row) (apart : AllApart olds) where
 abbrev added_by : Bool → Bool → Cache → (Row → Bool) → ℕ → Row → Cache
 added_by b d l p n r = cond b l (cond d (record { rows = without p l.rows n ++ r ∷ []; evictions = l.evictions + 1 }) (record l { rows = l.rows ++ r ∷ [] }))
 
-added_cases : (b d : Bool) (l : Cache) (p : Row → Bool) (n : ℕ) (r x : Row) → In x (added_by b d l p n r).rows → In x l.rows ⊎ (x ≡ r)
-added_cases true d l p n r x h = inl h
-added_cases false false l p n r x h = In-push_cases l.rows r x h
-added_cases false true l p n r x h = elim (In-push_cases (without p l.rows n) r x h) [ inl m ↦ inl (In-without p l.rows n x m) | inr e ↦ inr e ]
-
 any_not : (p : Row → Bool) (rows : List Row) (x : Row) → list_any p rows ≡ false → In x rows → p x ≡ false
 any_not p [] x h i = absurd i
 any_not p (y ∷ ys) x h (inl e) = ap p e ∙ (or_parts (p y) (list_any p ys) h).0
@@ -171,17 +159,6 @@ module _ (h : Header) (c : ℕ) where
   abbrev place_in : Cache → Row → ℕ
   place_in l r = victim h.policy c l.evictions (shape_of h.size r.kind).ways
 
-  pub In-added : (l : Cache) (r x : Row) → In x (added h c l r).rows → In x l.rows ⊎ (x ≡ r)
-  In-added l r x i = added_cases (list_any (same_key r) l.rows) (is_full l r) l (same_set (shape_of h.size r.kind) r) (place_in l r) r x i
-
-  -- a row behind is one before, or one that was made
-  pub In-all_added : (made : List Row) (l : Cache) (x : Row) → In x (fold (added h c) l made).rows → In x l.rows ⊎ In x made
-  In-all_added [] l x i = inl i
-  In-all_added (y ∷ ys) l x i = elim (In-all_added ys (added h c l y) x i) [
-    | inl m ↦ elim (In-added l y x m) [ inl k ↦ inl k | inr e ↦ inr (inl e) ]
-    | inr m ↦ inr (inr m)
-  ]
-
   -- olds: the rows before; news: all rows that were made
   module _ (olds news : List Row) (keyed_old : (x : Row) → In x olds → IsKeyed x) (keyed_new : (x : Row) → In x news → IsKeyed x)
       (alone : (y : Row) → In y news → y.kind ≡ leaf1 → (x : Row) → In x olds → IsApart1 x y)
@@ -198,7 +175,7 @@ module _ (h : Header) (c : ℕ) where
     one_apart y iy x (inr i) n lx ly = absurd (both_ways (same_key y x) n (single x y i iy lx ly))
 
     known : (l : Cache) (y : Row) → In y news → Known l.rows → Known (added h c l y).rows
-    known l y iy k x i = elim (In-added l y x i) [ inl m ↦ k x m | inr e ↦ inr (subst (λ z. In z news) (sym e) iy) ]
+    known l y iy k x i = elim (In-added h c l y x i) [ inl m ↦ k x m | inr e ↦ inr (subst (λ z. In z news) (sym e) iy) ]
 
     pub apart_added : (made : List Row) (l : Cache) → ((x : Row) → In x made → In x news) → Known l.rows → AllApart l.rows → AllApart (fold (added h c) l made).rows
     apart_added [] l sub k a = a

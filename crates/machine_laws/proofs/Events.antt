@@ -32,7 +32,7 @@ use Rattle.machine_laws.proofs.Lasting.{Stays, moves}
 
 -- WHAT AN INBOX LOSES
 
-covered_not : (b : Bool) → not b ≡ true → b ≡ true → ⊥
+pub covered_not : (b : Bool) → not b ≡ true → b ≡ true → ⊥
 covered_not b h k = both_ways b (not-true b h) k
 
 -- a core with fewer messages and fewer rows, of which none is covered by a message that is gone
@@ -65,7 +65,7 @@ left_apart : (is : List Inval) (l : Cache) → AllApart l.rows → AllApart (fol
 left_apart [] l h = h
 left_apart (j ∷ js) l h = left_apart js (killed l j) (pairs_filter IsApart (λ (x : Row). not (covers j x.tag)) l.rows h)
 
-rows_left : (is : List Inval) (l : Cache) (r : Row) → In r (fold killed l is).rows → In r l.rows × ((i : Inval) → In i is → covers i r.tag ≡ true → ⊥)
+pub rows_left : (is : List Inval) (l : Cache) (r : Row) → In r (fold killed l is).rows → In r l.rows × ((i : Inval) → In i is → covers i r.tag ≡ true → ⊥)
 rows_left [] l r h = (h, λ i m cov. m)
 rows_left (j ∷ js) l r h =
     let p = rows_left js (killed l j) r h in

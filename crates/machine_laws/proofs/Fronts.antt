@@ -1,58 +1,9 @@
 -- What a new row keeps of the trail of its step: the uses of the items of a front, of a chain, and of a whole trail.
-use Rattle.std.proofs.Common.{◌≡◌, ℕ, Bool, true, false, ◌&&◌, cond, List, [], ◌∷◌, ◌++◌, refl, sym, ap, ◌∙◌, subst, Option, Some, None}
+use Rattle.std.proofs.Common.{◌≡◌, ℕ, true, false, List, [], ◌∷◌, ◌++◌, sym, ◌∙◌, subst, Option, Some, None}
 use Rattle.machine_spec.specs.Marks.{Mark, is_first, is_leaf}
-use Rattle.machine_spec.specs.Uses.{next_first, next_second, use_of, above_of, AllUsed}
+use Rattle.machine_spec.specs.Uses.{next_second, use_of, above_of, AllUsed}
 use Rattle.machine_laws.proofs.Trees.{AllSecond}
-
--- uses by whether the item is of stage 1
-abbrev use_by : Option ℕ → Bool → List Mark → Option ℕ
-use_by above b later = cond b (next_first later) (next_second above later)
-
-abbrev above_by : Option ℕ → Bool → Bool → ℕ → Option ℕ
-above_by above b l k = cond b (cond (b && l) (Some k) None) above
-
-use_second : (above : Option ℕ) (m : Mark) (later : List Mark) → is_first m ≡ false → use_of above m later ≡ next_second above later
-use_second above m later h = ap (λ b. use_by above b later) h
-
-use_first : (above : Option ℕ) (m : Mark) (later : List Mark) → is_first m ≡ true → use_of above m later ≡ next_first later
-use_first above m later h = ap (λ b. use_by above b later) h
-
-above_second : (above : Option ℕ) (m : Mark) → is_first m ≡ false → above_of above m ≡ above
-above_second above m h = ap (λ b. above_by above b (is_leaf m.part) m.item.moment) h
-
-above_leaf : (above : Option ℕ) (m : Mark) → is_first m ≡ true → is_leaf m.part ≡ true → above_of above m ≡ Some m.item.moment
-above_leaf above m h l = ap (λ b. above_by above b (is_leaf m.part) m.item.moment) h ∙ ap (λ b. above_by above true b m.item.moment) l
-
-cond_false : (b : Bool) (u v : Option ℕ) → b ≡ false → cond b u v ≡ v
-cond_false b u v h = rw h refl
-
-cond_true : (b : Bool) (u v : Option ℕ) → b ≡ true → cond b u v ≡ u
-cond_true b u v h = rw h refl
-
-none_of : (ms : List Mark) → AllSecond ms → next_first ms ≡ None
-none_of [] h = refl
-none_of (x ∷ xs) h = cond_false (is_first x) (Some x.item.moment) (next_first xs) h.0 ∙ none_of xs h.1
-
--- a stage 1 item that follows decides
-first_some : (b : Bool) (v : ℕ) (xs ys : Option ℕ) → ((u : ℕ) × (xs ≡ Some u) × (ys ≡ Some u)) → (u : ℕ) × (cond b (Some v) xs ≡ Some u) × (cond b (Some v) ys ≡ Some u)
-first_some true v xs ys h = (v, refl, refl)
-first_some false v xs ys h = h
-
-next_first_some : (pre : List Mark) (m : Mark) (ms : List Mark) → is_first m ≡ true → (u : ℕ) × (next_first (pre ++ m ∷ ms) ≡ Some u) × (next_first (pre ++ m ∷ []) ≡ Some u)
-next_first_some [] m ms f = (m.item.moment, cond_true (is_first m) (Some m.item.moment) (next_first ms) f, cond_true (is_first m) (Some m.item.moment) None f)
-next_first_some (x ∷ pre) m ms f = first_some (is_first x) x.item.moment (next_first (pre ++ m ∷ ms)) (next_first (pre ++ m ∷ [])) (next_first_some pre m ms f)
-
-next_second_some : (above : Option ℕ) (pre : List Mark) (m : Mark) (ms : List Mark) → (u : ℕ) × (next_second above (pre ++ m ∷ ms) ≡ Some u) × (next_second above (pre ++ m ∷ []) ≡ Some u)
-next_second_some above [] m ms = (m.item.moment, refl, refl)
-next_second_some above (x ∷ pre) m ms = (x.item.moment, refl, refl)
-
-use_case : (above : Option ℕ) (b : Bool) (pre : List Mark) (m : Mark) (ms : List Mark) → is_first m ≡ true → (u : ℕ) × (use_by above b (pre ++ m ∷ ms) ≡ Some u) × (use_by above b (pre ++ m ∷ []) ≡ Some u)
-use_case above true pre m ms f = next_first_some pre m ms f
-use_case above false pre m ms f = next_second_some above pre m ms
-
--- before an item of stage 1 each item has a use that what follows that item doesn't change
-use_some : (above : Option ℕ) (x : Mark) (pre : List Mark) (m : Mark) (ms : List Mark) → is_first m ≡ true → (u : ℕ) × (use_of above x (pre ++ m ∷ ms) ≡ Some u) × (use_of above x (pre ++ m ∷ []) ≡ Some u)
-use_some above x pre m ms f = use_case above (is_first x) pre m ms f
+use Rattle.machine_laws.proofs.Uses.{use_second, use_first, above_second, above_leaf, none_of, use_some}
 
 module _ (P Q : Mark → Option ℕ → Type 0) (closed : (m : Mark) (u : ℕ) → P m (Some u) → Q m (Some u)) where
   some_goes : (m : Mark) (o q : Option ℕ) (u : ℕ) → o ≡ Some u → q ≡ Some u → P m o → Q m q

@@ -18,7 +18,7 @@ use Rattle.tlbi_ops.specs.Operands.{reaches_core}
 use Rattle.machine_laws.specs.Leaving.{set_of, In, Used, pushed_out, IsEvicted, IsUsedSince}
 use Rattle.machine_laws.proofs.Lists.{In-filter, In-from_filter, In-left, In-last, In-without}
 use Rattle.machine_laws.proofs.Pairs.{AllPairs, pairs_filter, pairs_without, pairs_push, pairs_map}
-use Rattle.machine_laws.proofs.Sets.{added_by, In-touched, In-filled}
+use Rattle.machine_laws.proofs.Sets.{In-added, In-touched, In-filled}
 
 -- ROWS TOLD APART BY THEIR MAKING
 
@@ -209,7 +209,7 @@ module _ (h : Header) (c : ℕ) where
       let apart = λ (x : Row) (i : In x l.rows). below_not n k x r (below x i) at.0 in
       subst (λ v. AreRanked v (fold (added h c) (added h c l r) made).rows) (append_assoc u (r ∷ []) made)
       (made_ranked n (k + 1) made (u ++ r ∷ []) (added h c l r) at.1
-      (λ x i. elim (added_by h c l r x (list_any (same_key r) l.rows) i) [ inl j ↦ below_next n k x (below x j) | inr e ↦ below_last n k x r e at.0 ])
+      (λ x i. elim (In-added h c l r x i) [ inl j ↦ below_next n k x (below x j) | inr e ↦ below_last n k x r e at.0 ])
       (added_ranked u l r (list_any (same_key r) l.rows) apart a))
 
   -- a full set loses the row that the policy names

@@ -1,35 +1,27 @@
 -- What a log means behind one more step that issues no invalidation.
-use Rattle.std.proofs.Common.{◌≡◌, ℕ, zero, suc, ◌<◌, ◌≤◌, true, false, List, [], ◌∷◌, ◌++◌, length, map, take, refl, sym, ap, ◌∙◌, subst, Some, Option, None, arith}
-use Rattle.std.specs.Prelude.{slice_get}
-use Rattle.std.specs.Option.{option_and_then}
-use Rattle.std.proofs.lemmas.List.{map-append, length-map, take-append-le, length-append, take_at}
-use Rattle.std.proofs.lemmas.Option.{slice_get_within, option_and_then_some, same_Some}
+use Rattle.std.proofs.Common.{◌≡◌, ℕ, ◌<◌, ◌≤◌, true, false, List, [], ◌∷◌, ◌++◌, length, take, refl, sym, ap, ◌∙◌, subst, Some, arith}
+use Rattle.std.proofs.lemmas.List.{take-append-le, take_at}
 use Rattle.sysregs.specs.declared.regs.Regs.{Regs}
 use Rattle.sysregs.specs.declared.regs.Side.{Side}
 use Rattle.sysregs.specs.declared.regs.Config.{Config}
 use Rattle.sysregs.specs.Registers.{config_of, asid_of, vmid_of}
 use Rattle.fault_codes.specs.declared.fault.Stage.{Stage}
 use Rattle.fault_codes.specs.declared.fault.Stage.TheVariants.{S1, S2}
-use Rattle.trails.specs.declared.event.Event.{Event}
-use Rattle.trails.specs.declared.event.Event.TheVariants.{Store, Msr, Settle, Isb, Tlbi, Dsb, Deliver, Access, Prefetch}
 use Rattle.trails.specs.declared.step.Step.{Step}
 use Rattle.tlbi_ops.specs.declared.inval.Inval.{Inval}
-use Rattle.tlbi_ops.specs.Operands.{inval_of}
 use Rattle.tlbi_ops.specs.Covers.{covers, is_stage1}
 use Rattle.machine_spec.specs.Moments.{memory_after, regs_after, regs_at}
-use Rattle.machine_spec.specs.Invalidations.{issued_by, event_at, inval_at, IsComplete}
+use Rattle.machine_spec.specs.Invalidations.{inval_at}
 use Rattle.machine_spec.specs.Marks.{Mark, is_first, tag_by}
 use Rattle.machine_spec.specs.Kept.{View, now, base_by, tag_of, IsHeld, IsKeptItem}
 use Rattle.machine_laws.proofs.Facts.{sided}
 use Rattle.machine_laws.proofs.Fine.{longer, issued_now}
-use Rattle.machine_laws.proofs.Logs.{event-old, regs-old, inval-old, inval-last, inval-within, issued_at}
+use Rattle.machine_laws.proofs.Logs.{regs-old, inval-old, inval-last, inval-within, issued_at}
+use Rattle.machine_laws.proofs.Lasting.{at_last, complete_on}
 
 -- the moment of the step itself
 pub regs_now : (log : List Step) (s : Step) (c k : ℕ) → k ≡ length log → regs_at (log ++ s ∷ []) c k ≡ regs_after c log
 regs_now log s c k h = ap (regs_after c) (take_at log (s ∷ []) k (sym h))
-
-at_last : (log : List Step) (s : Step) (k : ℕ) → length log ≤ k → k < length (log ++ s ∷ []) → k ≡ length log
-at_last log s k h j = let j2 = simp length-append at j in omega arith
 
 -- SIDES
 
@@ -62,9 +54,6 @@ module _ (v : View) (s : Step) (t : Side) where
         word = λ b. ap (λ l. memory_after v.header l m.item.pa) q ∙ f.word b;
       }
 
-  complete_on : (use_ : ℕ) (i : Inval) → use_ ≤ now v → IsComplete (v.log ++ s ∷ []) use_ i → IsComplete v.log use_ i
-  complete_on use_ i h d = record { step = d.step; event = d.event; later = d.later; earlier = d.earlier; is = sym (event-old v.log s d.step (omega (arith, d.earlier))) ∙ d.is; ends = d.ends }
-
   -- an item that is kept up to a use stays so
   pub kept_on : (cf : Config) (vm : ℕ) (m : Mark) (use_ : ℕ) → OfBoth v.side t m → use_ ≤ now v → IsKeptItem v cf vm m use_ → IsKeptItem Behind cf vm m use_
   kept_on cf vm m use_ both h f = record {
@@ -76,7 +65,7 @@ module _ (v : View) (s : Step) (t : Side) where
         let e : i.issued ≡ k = issued_at (v.log ++ s ∷ []) k i at in
         let lt : k < length v.log = omega (arith, e, done.later, done.earlier) in
         let tag : tag_of Behind m ≡ tag_of v m = ap (λ g. tag_by g m) (regs-old v.log s v.core m.item.moment (omega (arith, f.past))) in
-        f.live word k i past (sym (inval-old v.log s k lt) ∙ at) reach (subst (λ x. covers i x ≡ true) tag cov) (complete_on use_ i h done);
+        f.live word k i past (sym (inval-old v.log s k lt) ∙ at) reach (subst (λ x. covers i x ≡ true) tag cov) (complete_on v s use_ i h done);
   }
 
   -- behind a step that issues none, no invalidation has a number from the old length on

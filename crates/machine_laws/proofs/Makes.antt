@@ -16,7 +16,6 @@ use Rattle.walk_spec.specs.BothStages.{Landing, walk}
 use Rattle.machine_spec.specs.Header.{Kind, leaf1, table1, leaf2, table2, keeps_rows}
 use Rattle.machine_spec.specs.Moments.{regs_after}
 use Rattle.machine_spec.specs.Marks.{Mark, marks}
-use Rattle.machine_spec.specs.Uses.{use_of, above_of, AllUsed}
 use Rattle.machine_spec.specs.Kept.{View, now}
 use Rattle.machine_spec.specs.Rows.{Row, holds}
 use Rattle.machine_spec.specs.Made.{Maker, rows_of, combined_rows, rows_made}
@@ -30,13 +29,11 @@ use Rattle.machine_laws.proofs.Lists.{In-append}
 use Rattle.machine_laws.proofs.Fine.{config_at, here, UsedBy, ServedOk, longer, issued_now, MadeOk, MakesWell}
 use Rattle.machine_laws.proofs.Making.{rows_of_words}
 use Rattle.machine_laws.proofs.Combined.{combined_row, end_class, renumbered, numbered_cases, made_one}
-use Rattle.machine_laws.proofs.Added.{IsKeyed, In-all_added, apart_added, within_touched, apart_touched, other_asid, made_same}
+use Rattle.machine_laws.proofs.Added.{IsKeyed, apart_added, within_touched, apart_touched, other_asid, made_same}
+use Rattle.machine_laws.proofs.Uses.{used_map}
+use Rattle.machine_laws.proofs.Sets.{all_added}
 
 -- NUMBERS
-
-used_map : (P Q : Mark → Option ℕ → Type 0) → ((m : Mark) (o : Option ℕ) → P m o → Q m o) → (above : Option ℕ) (ms : List Mark) → AllUsed P above ms → AllUsed Q above ms
-used_map P Q f above [] h = h
-used_map P Q f above (m ∷ ms) h = (f m (use_of above m ms) h.0, used_map P Q f (above_of above m) ms h.1)
 
 stored_numbered : (v : View) (inbox : List Inval) (r : Row) (d : Made) (m : Mark) (o : Option ℕ) → IsStored v inbox r m o → IsStored v inbox (renumbered r d) m o
 stored_numbered v inbox r d m None f = record { before = f.before; held = f.held; word = f.word; tag_is = f.tag_is; pending = f.pending; asid = f.asid }
@@ -134,7 +131,7 @@ module _ (laws : Laws) (v : View) (w : Core) (a : Access) (s : Step) (r : Reply)
   filled_well true end u =
       let served = within_touched w.cache.rows f.apart v.header.policy r.by ok.live in
       record {
-        rows = λ x i. elim (In-all_added v.header v.core (news end) (record w.cache { rows = touched v.header.policy w.cache.rows r.by }) x i) [
+        rows = λ x i. elim (all_added v.header v.core (news end) (record w.cache { rows = touched v.header.policy w.cache.rows r.by }) x i) [
           | inl m ↦ inl (served x m)
           | inr m ↦ inr (have_facts end u x m)
         ];

@@ -51,7 +51,7 @@ use Rattle.machine_laws.proofs.Trees.{IsOn, is_need1, needs_base, chain, Plan, f
 use Rattle.machine_laws.proofs.Facts.{In, sided, regime_for, IsStored, IsRow}
 use Rattle.machine_laws.proofs.Laws.{Laws}
 use Rattle.machine_laws.proofs.Lists.{In-append}
-use Rattle.machine_laws.proofs.Stands.{on_append, marks_append, mark_first, mark_base, mark_item, words_second, second_marks}
+use Rattle.machine_laws.proofs.Stands.{on_append, marks_append, mark_first, mark_base, mark_item, words_second, second_marks, marks_nil}
 use Rattle.machine_laws.proofs.Fine.{Good, config_at, here, longer, issued_now}
 use Rattle.machine_laws.proofs.Fronts.{front_first, front_second, used_drop}
 use Rattle.machine_laws.proofs.Longer.{regs_now, OfBoth, both_second, both_same, held_on, kept_on, none_since}
@@ -73,10 +73,6 @@ leaf_word r (word w) i g b h = refl
 
 second_asid : (m : Mark) → is_first m ≡ false → has_asid m ≡ true → {P : Type 0} → P
 second_asid m f h = absurd (both_ways (has_asid m) (rw f refl) h)
-
-marks_nil : {B : Type 0} (r : Regime) (t : Ask Need Item B) → marks r t [] ≡ []
-marks_nil r (done a) = refl
-marks_nil r (ask n k) = refl
 
 -- ONE HALF OF THE ADDRESSES
 

@@ -16,10 +16,11 @@ use Rattle.walk_laws.proofs.Places.{SameRegion, first_of_and, second_of_and}
 use Rattle.walk_laws.proofs.Tables2.{level_of_one}
 use Rattle.machine_spec.specs.Marks.{Mark, mark, marks, part_of}
 use Rattle.machine_laws.proofs.Trees.{IsOn}
+use Rattle.machine_laws.proofs.Stands.{marks_nil}
 
 -- ITEMS THAT FIT
 
-level_is : (a b : ℤ) → level_eq a b ≡ true → a ≡ b
+pub level_is : (a b : ℤ) → level_eq a b ≡ true → a ≡ b
 level_is (pos m) (pos n) h = ap (λ z. pos z) (eqb-true m n h)
 level_is (pos m) (negsuc n) h = absurd cc
 level_is (negsuc m) (pos n) h = absurd cc
@@ -115,10 +116,6 @@ module _ {A : Type 0} (r : Regime) where
   on_stands t u [] h = ap (λ z. on (fits r) z []) (sym h)
   on_stands (done a) u (x ∷ xs) h = absurd h
   on_stands (ask n k) u (x ∷ xs) h = rw h.0 (on_stands (k x) u xs h.1)
-
-pub marks_nil : {C : Type 0} (r : Regime) (t : Ask Need Item C) → marks r t [] ≡ []
-marks_nil r (done a) = refl
-marks_nil r (ask n k) = refl
 
 module _ {A B : Type 0} (r : Regime) where
   -- the other of two walks in step stands on the items too

@@ -32,7 +32,8 @@ use Rattle.machine_laws.proofs.Trees.{IsOn}
 use Rattle.machine_laws.proofs.Facts.{regime_for}
 use Rattle.machine_laws.proofs.Laws.{FirstLeaf}
 use Rattle.machine_laws.proofs.PlanOf.{root_table}
-use Rattle.machine_laws.proofs.MarksOf.{marks_nil, takes_on, step_on_other, step_marks}
+use Rattle.machine_laws.proofs.MarksOf.{takes_on, step_on_other, step_marks}
+use Rattle.machine_laws.proofs.Stands.{marks_nil}
 
 -- where one walk reaches something, the other reaches it on the same items
 abbrev Relax : {N A : Type 0} → Ask N Item (End A) → Ask N Item (End A) → Type 0

@@ -41,10 +41,10 @@ use Rattle.machine_spec.specs.Rows.{holds}
 use Rattle.machine_laws.proofs.Trees.{IsOn, chain, Plan, fin, own, via, joined, flat, rest_by, IsSound, AllSecond}
 use Rattle.machine_laws.proofs.Facts.{regime_for}
 use Rattle.machine_laws.proofs.Laws.{FirstTable}
-use Rattle.machine_laws.proofs.Stands.{marks_append, joined_is, via_on, via_marks, second_marks}
+use Rattle.machine_laws.proofs.Stands.{marks_append, joined_is, via_on, via_marks, second_marks, marks_nil}
 use Rattle.machine_laws.proofs.PlanOf.{word_need, read_next, word_behind, entry_plan, plan_of, output_plan, out_of, from_plan, root_table, behind_plan, off_end, whole_plan, plan_for, plan_is_walk}
 use Rattle.machine_laws.proofs.Sounds.{sound_plan, chain_second}
-use Rattle.machine_laws.proofs.MarksOf.{FitsWord, fits_word_parts, marks_nil, takes_on, on_takes, on_stands, step_on_other, step_marks}
+use Rattle.machine_laws.proofs.MarksOf.{FitsWord, fits_word_parts, takes_on, on_takes, on_stands, step_on_other, step_marks}
 use Rattle.machine_laws.proofs.Regions2.{mark_full, mark_at_full, mark_base1_part, mark_base2_part, last_tail, table_real, holds_same}
 
 -- TABLES OF STAGE 1

@@ -34,9 +34,9 @@ use Rattle.machine_spec.specs.Marks.{Part, nothing, table, leaf, Mark, mark, mar
 use Rattle.machine_spec.specs.Rows.{holds}
 use Rattle.machine_laws.proofs.Trees.{IsOn, chain, IsWords}
 use Rattle.machine_laws.proofs.Laws.{ChainLeaf, ChainTable}
-use Rattle.machine_laws.proofs.Stands.{words_on}
+use Rattle.machine_laws.proofs.Stands.{words_on, marks_nil}
 use Rattle.machine_laws.proofs.Sounds.{words_behind}
-use Rattle.machine_laws.proofs.MarksOf.{fits_word_parts, marks_nil, takes_on, step_on_other, step_marks}
+use Rattle.machine_laws.proofs.MarksOf.{fits_word_parts, takes_on, step_on_other, step_marks}
 use Rattle.machine_laws.proofs.Sides.{Twin, TwinOn, twin_on, twin_chain}
 
 -- THE LAST MARK

@@ -1,8 +1,7 @@
 -- What memory and registers give fits what is needed and is kept; and what is served behind items that are kept is kept with them.
-use Rattle.std.proofs.Common.{◌≡◌, ℕ, ◌*◌, ◌/◌, ◌%◌, ◌^◌, ◌<◌, ◌≤◌, Bool, true, false, List, [], ◌∷◌, ◌++◌, length, take, map, refl, sym, ap, ◌∙◌, subst, append_assoc, append-nil, Option, Some, None, arith}
+use Rattle.std.proofs.Common.{◌≡◌, ℕ, ◌*◌, ◌/◌, ◌%◌, ◌^◌, ◌<◌, ◌≤◌, Bool, true, false, List, [], ◌∷◌, ◌++◌, length, take, refl, sym, ap, ◌∙◌, subst, append_assoc, append-nil, Option, Some, None, arith}
 use Rattle.std.specs.Prelude.{ℤ, pos, negsuc, Result, Ok, Err}
-use Rattle.std.proofs.lemmas.List.{take_all, length-map}
-use Rattle.std.proofs.lemmas.Option.{slice_get_within, option_and_then_some}
+use Rattle.std.proofs.lemmas.List.{take_all}
 use Rattle.std.proofs.lemmas.Bool.{eq-eqb, lt-ltb}
 use Rattle.std.proofs.Math.Nat.{div-mul-le_self, mul-mod_right}
 use Rattle.geometry.specs.Tables.{table_size, level_of}
@@ -18,13 +17,10 @@ use Rattle.table_reads.specs.Numbers.{sizes1, sizes2}
 use Rattle.table_reads.specs.Places.{aligned_base}
 use Rattle.table_reads.specs.Items.{base_item}
 use Rattle.trails.specs.declared.item.Item.{Item}
-use Rattle.trails.specs.declared.step.Step.{Step}
-use Rattle.tlbi_ops.specs.declared.inval.Inval.{Inval}
 use Rattle.walk_spec.specs.Ask.{Ask, done, ask}
 use Rattle.walk_spec.specs.Needs.{Regime, regime_of, Need, base1, base2, word, WordNeed, stage_eq, level_eq, fits, fits_base as fits_base_by, needed_item}
 use Rattle.walk_spec.specs.Fresh.{start_base1, start_base2}
-use Rattle.machine_spec.specs.Moments.{regs_at, regs_after, memory_after}
-use Rattle.machine_spec.specs.Invalidations.{issued_by, event_at, inval_at}
+use Rattle.machine_spec.specs.Moments.{regs_after, memory_after}
 use Rattle.machine_spec.specs.Marks.{Mark, mark}
 use Rattle.machine_spec.specs.Kept.{View, now, regs_when, base_by}
 use Rattle.walk_spec.specs.Ask.{ended, lacks}
@@ -38,8 +34,9 @@ use Rattle.machine_spec.specs.Allowed.{IsNowOf}
 use Rattle.machine_spec.specs.Served.{Supplied, Stop, came, clash, Reply, pushed, serve}
 use Rattle.machine_laws.proofs.Trees.{IsOn, is_need1, needs_base, chain, Plan, fin, own, via, flat, rest_by, IsSound, IsSecond, AllSecond, IsWord}
 use Rattle.machine_laws.proofs.Fine.{Good, IsNow, LastOk, Kept1, FineOf}
-use Rattle.machine_laws.proofs.Stands.{on_append, marks_append, via_on, via_marks, mark_first, mark_base, second_marks}
+use Rattle.machine_laws.proofs.Stands.{on_append, marks_append, via_on, via_marks, mark_first, mark_base, second_marks, flat_fin}
 use Rattle.machine_laws.proofs.Uses.{use_first, use_second, above_first, above_second, above_leaf, first_none, open_at, chain_append, first_here, last_more, last_append}
+use Rattle.machine_laws.proofs.Logs.{inval-within}
 
 -- WHAT IS GIVEN FITS
 
@@ -90,11 +87,6 @@ fits_needed r w k value = rw (stage_self w.stage, level_self (level_of w.left), 
 
 -- WHAT IS READ NOW IS KEPT
 
-inval_within : (log : List Step) (k : ℕ) (i : Inval) → inval_at log k ≡ Some i → k < length log
-inval_within log k i h =
-    option_and_then_some (issued_by (λ c. regs_at log c k) k) (event_at log k) i h
-    (λ e at is. simp length-map at (slice_get_within (map (λ s. s.event) log) k e at))
-
 module _ (v : View) where
   pub opened : (m : Mark) (u : ℕ) → u ≡ now v → Good v m None → Good v m (Some u)
   opened m u e h = subst (λ k. Good v m (Some k)) (sym e) h
@@ -125,7 +117,7 @@ module _ (v : View) where
           };
           at_base = λ b. f.now_is;
           asid = λ h. ap (λ n. asid_of (regs_when v n)) f.now_is;
-          live = λ w k i past at reach cov is. let lt = inval_within v.log k i at in omega (arith, lt, past, f.now_is);
+          live = λ w k i past at reach cov is. let lt = inval-within v.log k i at in omega (arith, lt, past, f.now_is);
         },
         omega arith,
       )
@@ -160,11 +152,6 @@ pub serve_queue : (r : Regime) (sup : Need → Supplied) (q : List Item) (t u : 
 serve_queue r sup [] t u e = ap (serve sup []) (sym e)
 serve_queue r sup (i ∷ q) (done e) u h = absurd h
 serve_queue r sup (i ∷ q) (ask n k) u h = ap (pushed i []) (serve_queue r sup q (k i) u h.1)
-
-pub flat_fin : (r : Regime) (p : Plan) (e : End Landing) → flat r p ≡ done e → p ≡ fin e
-flat_fin r (fin a) e h = cc
-flat_fin r (own n k) e h = absurd cc
-flat_fin r (via p x next k) e h = absurd cc
 
 pub last_ok_more : (k : ℕ) (e : End Landing) (pre : List Mark) (m : Mark) (ms : List Mark) → LastOk k e (m ∷ ms) → LastOk k e (pre ++ m ∷ ms)
 last_ok_more k (reaches l) pre m ms h = last_more IsWord pre m ms h

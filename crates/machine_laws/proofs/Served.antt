@@ -34,12 +34,12 @@ use Rattle.machine_laws.proofs.Trees.{IsOn, chain, Plan, fin, flat, IsWord, AllS
 use Rattle.machine_laws.proofs.Facts.{In, sided, regime_for, IsStored, Suits, IsLeafRow1, IsTableRow1, IsRowBy, IsApart, AllApart, Facts}
 use Rattle.machine_laws.proofs.Laws.{Laws, Judged, IsCut}
 use Rattle.machine_laws.proofs.Lists.{In-filter, none_some}
-use Rattle.machine_laws.proofs.Stands.{on_ends, on_needs, marks_append, marks_nil}
+use Rattle.machine_laws.proofs.Stands.{on_ends, on_needs, marks_append, marks_nil, flat_fin}
 use Rattle.machine_laws.proofs.Uses.{used_map, table_append, cut_used, last_more}
 use Rattle.machine_laws.proofs.Fine.{Good, LastOk, Kept1, place_of, config_at, here, FineOf, FineBy, Begins, PlansAreFine, RightBy, UsedBy, IsAlone, ServedOk, ServesWell}
 use Rattle.machine_laws.proofs.Found.{In-matching, In-deepest, apart_matching, Match, matched1, region_same, NamesLive, serve_live, taken_none}
 use Rattle.machine_laws.proofs.Begins.{regs_now, last_word_base, Same, stored_good, begins, base_now}
-use Rattle.machine_laws.proofs.Serve.{fits_base2, fresh_good, opened, prepend, serve_queue, flat_fin, Pre, fine_after}
+use Rattle.machine_laws.proofs.Serve.{fits_base2, fresh_good, opened, prepend, serve_queue, Pre, fine_after}
 
 -- NO ROW MATCHES
 

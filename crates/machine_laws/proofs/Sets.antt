@@ -53,7 +53,7 @@ filter-other p q apart (x ∷ xs) (suc n) = other_later p q x xs n (p x) (filter
 
 -- ONE SET
 
-kind_itself : (k : Kind) → same_kind k k ≡ true
+pub kind_itself : (k : Kind) → same_kind k k ≡ true
 kind_itself leaf1 = refl
 kind_itself table1 = refl
 kind_itself leaf2 = refl
@@ -129,14 +129,17 @@ module _ (h : Header) (c : ℕ) where
   In-placed : (s : Shape) (l : Cache) (r x : Row) → In x (placed h c s l r).rows → In x l.rows ⊎ (x ≡ r)
   In-placed s l r x i = placed_by s l r x (nat_le s.ways (length (filter (same_set s r) l.rows))) i
 
-  pub added_by : (l : Cache) (r x : Row) (b : Bool) → In x (cond b l (placed h c (shape_of h.size r.kind) l r)).rows → In x l.rows ⊎ (x ≡ r)
+  added_by : (l : Cache) (r x : Row) (b : Bool) → In x (cond b l (placed h c (shape_of h.size r.kind) l r)).rows → In x l.rows ⊎ (x ≡ r)
   added_by l r x true i = inl i
   added_by l r x false i = In-placed (shape_of h.size r.kind) l r x i
+
+  pub In-added : (l : Cache) (r x : Row) → In x (added h c l r).rows → In x l.rows ⊎ (x ≡ r)
+  In-added l r x i = added_by l r x (list_any (same_key r) l.rows) i
 
   pub all_added : (made : List Row) (l : Cache) (x : Row) → In x (fold (added h c) l made).rows → In x l.rows ⊎ In x made
   all_added [] l x i = inl i
   all_added (r ∷ made) l x i = elim (all_added made (added h c l r) x i) [
-    | inl j ↦ elim (added_by l r x (list_any (same_key r) l.rows) j) [ inl k ↦ inl k | inr e ↦ inr (inl e) ]
+    | inl j ↦ elim (In-added l r x j) [ inl k ↦ inl k | inr e ↦ inr (inl e) ]
     | inr j ↦ inr (inr j)
   ]
 

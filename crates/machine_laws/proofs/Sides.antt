@@ -17,7 +17,7 @@ use Rattle.walk_laws.proofs.Places.{word_at}
 use Rattle.walk_laws.proofs.Stage2.{Turn2, table, leaf, fault, turn2}
 use Rattle.machine_spec.specs.Marks.{mark, marks}
 use Rattle.machine_laws.proofs.Trees.{IsOn, chain}
-use Rattle.machine_laws.proofs.MarksOf.{marks_nil}
+use Rattle.machine_laws.proofs.Stands.{marks_nil}
 
 -- two chains under two regimes ask alike and reach one leaf
 abbrev pub Twin : (r r' : Regime) → Ask Need Item (End Leaf2) → Ask Need Item (End Leaf2) → Type 0

@@ -28,7 +28,7 @@ use Rattle.machine_spec.specs.Uses.{LastIs}
 use Rattle.machine_spec.specs.Allowed.{is_of_word}
 use Rattle.machine_laws.proofs.Trees.{IsOn, is_need1, needs_base, chain, Plan, fin, own, via, joined, flat, rest_by, IsSound, IsSecond, IsWords, AllSecond, IsWord}
 use Rattle.machine_laws.proofs.Facts.{regime_for}
-use Rattle.machine_laws.proofs.Stands.{marks_append, on_split, joined_is, via_on, via_marks, mark_base, words_second, second_marks}
+use Rattle.machine_laws.proofs.Stands.{marks_append, on_split, joined_is, via_on, via_marks, mark_base, words_second, second_marks, marks_nil, flat_fin}
 use Rattle.machine_laws.proofs.PlanOf.{early2, read_next, word_behind, entry_plan, plan_of, output_plan, out_of, from_plan, root_table, behind_plan, off_end, whole_plan, plan_for, plan_is_walk}
 
 -- SOUND
@@ -209,14 +209,10 @@ last_more P [] m ms h = h
 last_more P (n ∷ []) m ms h = h
 last_more P (n ∷ (o ∷ pre)) m ms h = last_more P (o ∷ pre) m ms h
 
-marks_none : {A : Type 0} (r : Regime) (t : Ask Need Item A) → marks r t [] ≡ []
-marks_none r (done a) = refl
-marks_none r (ask n k) = refl
-
 words_last : {A : Type 0} (r : Regime) (pre : List Mark) (t u : Ask Need Item A) (y : Item) (ys : List Item) → IsWords t → IsOn r t (y ∷ ys) u → LastIs IsWord (pre ++ marks r t (y ∷ ys))
 words_last r pre (done a) u y ys h o = absurd o
 words_last r pre (ask n k) u y [] h o =
-    rw (marks_none r (k y)) (last_more IsWord pre (mark r n y) [] (mark_base r n y ∙ h.1))
+    rw (marks_nil r (k y)) (last_more IsWord pre (mark r n y) [] (mark_base r n y ∙ h.1))
 words_last r pre (ask n k) u y (z ∷ zs) h o =
     last_more IsWord pre (mark r n y) (marks r (k y) (z ∷ zs)) (words_last r (mark r n y ∷ []) (k y) u z zs (h.2 y) o.1)
 
@@ -258,11 +254,6 @@ off_marks c a items h =
 
 -- THE LAST ITEM OF A TRAIL THAT LEADS TO A TRANSLATION IS A WORD
 
-flat_fin : (r : Regime) (p : Plan) (e : End Landing) → flat r p ≡ done e → p ≡ fin e
-flat_fin r (fin d) e h = cc
-flat_fin r (own n k) e h = absurd cc
-flat_fin r (via p x next k) e h = absurd cc
-
 module _ (r : Regime) (l : Landing) where
   abbrev There : Ask Need Item (End Landing)
   There = done (reaches l)
@@ -287,7 +278,7 @@ module _ (r : Regime) (l : Landing) where
   last_own n k sound rec [] h = absurd cc
   last_own n k sound rec (y ∷ ys) h =
       last_word_on (flat r (own n k)) (flat r (k y)) (y ∷ []) ys (h.0, refl) h.1
-      (λ e. rw (marks_none r (flat r (k y))) (mark_base r n y ∙ not_base n k y (needs_base n) refl sound (flat_fin r (k y) (reaches l) e))) (rec y ys h.1)
+      (λ e. rw (marks_nil r (flat r (k y))) (mark_base r n y ∙ not_base n k y (needs_base n) refl sound (flat_fin r (k y) (reaches l) e))) (rec y ys h.1)
 
   last_fin : (e : End Landing) (xs : List Item) → IsOn r (done e) xs There → LastIs IsWord (marks r (done e) xs)
   last_fin e [] h = tt

@@ -1,6 +1,6 @@
 -- An allowed answer whose trail memory and registers of now would give again is that of the fresh walk.
 use Rattle.std.proofs.Common.{◌≡◌, ℕ, Bool, true, false, cond, List, [], ◌∷◌, length, refl, sym, ap, ◌∙◌, subst, Option, Some}
-use Rattle.std.specs.Prelude.{ℤ, pos, negsuc, option_map}
+use Rattle.std.specs.Prelude.{ℤ, option_map}
 use Rattle.std.proofs.lemmas.Bool.{eqb-true}
 use Rattle.geometry.specs.Tables.{level_of}
 use Rattle.sysregs.specs.declared.regs.Regs.{Regs}
@@ -20,7 +20,7 @@ use Rattle.table_reads.specs.Numbers.{sizes1, sizes2}
 use Rattle.table_reads.specs.Items.{base_item}
 use Rattle.table_reads.specs.Memory.{Memory}
 use Rattle.walk_spec.specs.Ask.{Ask, done, ask, Stands, needs, bad, ends, on, Fed, ended, lacks, Took}
-use Rattle.walk_spec.specs.Needs.{Regime, regime_of, Need, base1, base2, word, fits, fits_base, level_eq, needed_item}
+use Rattle.walk_spec.specs.Needs.{Regime, regime_of, Need, base1, base2, word, fits, fits_base, needed_item}
 use Rattle.walk_spec.specs.Steps.{End}
 use Rattle.walk_spec.specs.BothStages.{Landing, walk}
 use Rattle.walk_spec.specs.Fresh.{start_base1, start_base2, given, fed_outcome, fresh_items, fresh_outcome}
@@ -33,17 +33,11 @@ use Rattle.machine_spec.specs.Kept.{regs_when}
 use Rattle.machine_spec.specs.Allowed.{is_conflict, IsEnded, IsLacking, IsRight, case_of}
 use Rattle.machine_spec.specs.Unchanged.{IsAsNow, AreAsNow, IsUnchanged, read_at}
 use Rattle.machine_laws.specs.Headline.{UnchangedIsFresh}
-use Rattle.machine_laws.proofs.MarksOf.{fits_base1_parts, fits_base2_parts, fits_word_parts}
+use Rattle.machine_laws.proofs.MarksOf.{fits_base1_parts, fits_base2_parts, fits_word_parts, level_is}
 use Rattle.machine_laws.proofs.Begins.{regs_now}
 use Rattle.machine_laws.proofs.Timeless.{IsAlike, Alike, Equal, walk_timeless}
 
 -- WHAT IS AS NOW IS GIVEN NOW
-
-level_is : (a b : ℤ) → level_eq a b ≡ true → a ≡ b
-level_is (pos m) (pos n) h = ap (λ z. pos z) (eqb-true m n h)
-level_is (pos m) (negsuc n) h = absurd cc
-level_is (negsuc m) (pos n) h = absurd cc
-level_is (negsuc m) (negsuc n) h = ap (λ z. negsuc z) (eqb-true m n h)
 
 -- what a base that fits has besides its stage
 base_parts : (n : Sizes) (s : Stage) (i : Item) → fits_base n s i ≡ true → (i.level ≡ level_of n.start) × (i.pa ≡ i.value)
