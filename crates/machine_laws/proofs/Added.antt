@@ -66,7 +66,8 @@ unfolding same_fields
 same_fields_self c = rw (numbers_self c, granules_self c, low_self c, high_self c, rest_self c) refl
 
 -- rows of equal kinds, regions, keys and global flags would serve the same
-pub same_key_from : (r x : Row) → r.kind ≡ x.kind → r.region ≡ x.region → r.key.vmid ≡ x.key.vmid → r.key.asid ≡ x.key.asid → r.global ≡ x.global → r.key.config ≡ x.key.config → same_key r x ≡ true
+pub same_key_from : (r x : Row) → r.kind ≡ x.kind → r.region ≡ x.region → r.key.vmid ≡ x.key.vmid → r.key.asid ≡ x.key.asid → r.global ≡ x.global
+    → r.key.config ≡ x.key.config → same_key r x ≡ true
 same_key_from r x kd rg vm ad gl cf =
     let a : same_kind r.kind x.kind ≡ true = subst (λ z. same_kind r.kind z ≡ true) kd (kind_itself r.kind) in
     let b : same_region r.region x.region ≡ true = subst (λ z. same_region r.region z ≡ true) rg (same_region_self r.region) in
@@ -87,7 +88,8 @@ apart_two (x ∷ xs) r s a (inr i) (inr j) n = apart_two xs r s a.1 i j n
 -- ROWS THAT SERVED
 
 In-to_end : (rows : List Row) (r x : Row) → In x (to_end rows r) → In x rows ⊎ (x ≡ r)
-In-to_end rows r x h = elim (In-push_cases (filter (λ y. not (is_row r y)) rows) r x h) [ inl i ↦ inl (In-from_filter (λ y. not (is_row r y)) rows x i).0 | inr e ↦ inr e ]
+In-to_end rows r x h =
+    elim (In-push_cases (filter (λ y. not (is_row r y)) rows) r x h) [ inl i ↦ inl (In-from_filter (λ y. not (is_row r y)) rows x i).0 | inr e ↦ inr e ]
 
 is_row_self : (r : Row) → is_row r r ≡ true
 is_row_self r = rw (same r.made.step, same r.made.order) refl
@@ -147,9 +149,12 @@ other_key r x kr kx h lx lr cf vm rg =
     let b = kx lx in
     both_ways (same_key r x) h (same_key_from r x (lr ∙ sym lx) (sym rg) (sym vm) (a.0 ∙ sym b.0) (a.1 ∙ sym b.1) (sym cf))
 
-apart_one : (b d : Bool) (l : Cache) (p : Row → Bool) (n : ℕ) (r : Row) → list_any (same_key r) l.rows ≡ b → ((x : Row) → In x l.rows → same_key r x ≡ false → IsApart x r) → AllApart l.rows → AllApart (added_by b d l p n r).rows
+apart_one : (b d : Bool) (l : Cache) (p : Row → Bool) (n : ℕ) (r : Row) → list_any (same_key r) l.rows ≡ b
+    → ((x : Row) → In x l.rows → same_key r x ≡ false → IsApart x r) → AllApart l.rows → AllApart (added_by b d l p n r).rows
 apart_one true d l p n r e one a = a
-apart_one false true l p n r e one a = pairs_push IsApart (without p l.rows n) r (λ x i. let m = In-without p l.rows n x i in one x m (any_not (same_key r) l.rows x e m)) (pairs_without IsApart p l.rows n a)
+apart_one false true l p n r e one a =
+    pairs_push IsApart (without p l.rows n) r (λ x i. let m = In-without p l.rows n x i in one x m (any_not (same_key r) l.rows x e m))
+    (pairs_without IsApart p l.rows n a)
 apart_one false false l p n r e one a = pairs_push IsApart l.rows r (λ x i. one x i (any_not (same_key r) l.rows x e i)) a
 
 module _ (h : Header) (c : ℕ) where
@@ -177,7 +182,8 @@ module _ (h : Header) (c : ℕ) where
     known : (l : Cache) (y : Row) → In y news → Known l.rows → Known (added h c l y).rows
     known l y iy k x i = elim (In-added h c l y x i) [ inl m ↦ k x m | inr e ↦ inr (subst (λ z. In z news) (sym e) iy) ]
 
-    pub apart_added : (made : List Row) (l : Cache) → ((x : Row) → In x made → In x news) → Known l.rows → AllApart l.rows → AllApart (fold (added h c) l made).rows
+    pub apart_added : (made : List Row) (l : Cache) → ((x : Row) → In x made → In x news) → Known l.rows → AllApart l.rows
+        → AllApart (fold (added h c) l made).rows
     apart_added [] l sub k a = a
     apart_added (y ∷ ys) l sub k a =
         let iy = sub y (inl refl) in
@@ -191,14 +197,18 @@ by_parts : (a b c d e : Bool) → a ≡ true → b ≡ true → c ≡ true → d
 by_parts a b c d e p q r s h = sym (rw (p, q, r, s) refl) ∙ h
 
 -- a combined row that didn't match is of another ASID, where it serves the same
-pub other_asid : (g : Regs) (x : ℕ) (old new : Row) → matches1 leaf1 (key_of g) x old ≡ false → new.key ≡ key_of g → holds new.region x ≡ true → IsApart1 old new
+pub other_asid : (g : Regs) (x : ℕ) (old new : Row) → matches1 leaf1 (key_of g) x old ≡ false → new.key ≡ key_of g → holds new.region x ≡ true
+    → IsApart1 old new
 other_asid g x old new unmatched key held lo ln cf vm rg gl =
     let k : Key = key_of g in
     let a : same_kind old.kind leaf1 ≡ true = subst (λ z. same_kind z leaf1 ≡ true) (sym lo) refl in
     let b : holds old.region x ≡ true = subst (λ z. holds z x ≡ true) (sym rg) held in
     let v : (old.key.vmid == k.vmid) ≡ true = eq-eqb old.key.vmid k.vmid (vm ∙ ap (λ (z : Key). z.vmid) key) in
-    let f : same_fields old.key.config k.config ≡ true = subst (λ z. same_fields old.key.config z ≡ true) (cf ∙ ap (λ (z : Key). z.config) key) (same_fields_self old.key.config) in
-    let n = or_parts old.global (old.key.asid == k.asid) (by_parts (same_kind old.kind leaf1) (holds old.region x) (old.key.vmid == k.vmid) (same_fields old.key.config k.config) (old.global || (old.key.asid == k.asid)) a b v f unmatched) in
+    let f : same_fields old.key.config k.config ≡ true =
+    subst (λ z. same_fields old.key.config z ≡ true) (cf ∙ ap (λ (z : Key). z.config) key) (same_fields_self old.key.config) in
+    let n = or_parts old.global (old.key.asid == k.asid)
+    (by_parts (same_kind old.kind leaf1) (holds old.region x) (old.key.vmid == k.vmid) (same_fields old.key.config k.config)
+    (old.global || (old.key.asid == k.asid)) a b v f unmatched) in
     (n.0, λ e. both_ways (old.key.asid == k.asid) n.1 (eq-eqb old.key.asid k.asid (e ∙ ap (λ (z : Key). z.asid) key)))
 
 -- two that were made in one step would serve the same

@@ -127,7 +127,8 @@ module _ (v : View) (s : Step) (w : Core) (f : Facts v w) (b : Bank) (re : b ≡
   issued_on i true e quiet is = mailed_on i (nat_lt (length w.inbox) most_held) quiet is
   issued_on i false e quiet is = moves v s w (with_bank w b) f re
       (λ j h. inl (h, quiet j))
-      (λ j h reach. let q : i ≡ j = same_Some i j (sym is ∙ h) in absurd (both_ways (reaches_core i v.core) e (subst (λ y. reaches_core y v.core ≡ true) (sym q) reach)))
+      (λ j h reach. let q : i ≡ j = same_Some i j (sym is ∙ h) in
+      absurd (both_ways (reaches_core i v.core) e (subst (λ y. reaches_core y v.core ≡ true) (sym q) reach)))
       (λ r h. inl (h, λ j m cov. m))
       f.apart
 

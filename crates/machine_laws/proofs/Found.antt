@@ -42,7 +42,8 @@ apart_sym r s h = (
   λ ls lr cf vm rg gl. let d = h.1 lr ls (sym cf) (sym vm) (sym rg) (sym gl) in (gl ∙ d.0, λ e. d.1 (sym e)),
 )
 
-apart_inserted_if : (r s : Row) (rs ns : List Row) (b : Bool) → AllApart (r ∷ s ∷ rs) → ((x : Row) → In x ns → IsApart s x) → AllApart ns → AllApart (cond b (r ∷ s ∷ rs) (s ∷ ns))
+apart_inserted_if : (r s : Row) (rs ns : List Row) (b : Bool) → AllApart (r ∷ s ∷ rs) → ((x : Row) → In x ns → IsApart s x) → AllApart ns
+    → AllApart (cond b (r ∷ s ∷ rs) (s ∷ ns))
 apart_inserted_if r s rs ns true a h n = a
 apart_inserted_if r s rs ns false a h n = (h, n)
 

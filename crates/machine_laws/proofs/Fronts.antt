@@ -10,7 +10,8 @@ module _ (P Q : Mark → Option ℕ → Type 0) (closed : (m : Mark) (u : ℕ) �
   some_goes m o q u e f p = subst (Q m) (sym f) (closed m u (subst (P m) e p))
 
   -- up to an item of stage 1, whose own use is to come
-  pub front_first : (above : Option ℕ) (pre : List Mark) (m : Mark) (ms : List Mark) → is_first m ≡ true → Q m None → AllUsed P above (pre ++ m ∷ ms) → AllUsed Q above (pre ++ m ∷ [])
+  pub front_first : (above : Option ℕ) (pre : List Mark) (m : Mark) (ms : List Mark) → is_first m ≡ true → Q m None → AllUsed P above (pre ++ m ∷ ms)
+      → AllUsed Q above (pre ++ m ∷ [])
   front_first above [] m ms f q p = (subst (Q m) (sym (use_first above m [] f)) q, tt)
   front_first above (x ∷ pre) m ms f q p =
       let k = use_some above x pre m ms f in
@@ -29,7 +30,8 @@ module _ (P Q : Mark → Option ℕ → Type 0) (closed : (m : Mark) (u : ℕ) �
   )
 
   -- a whole trail, of which the stage 1 leaf alone has its use to come
-  pub whole_leaf : (above : Option ℕ) (pre : List Mark) (m : Mark) (ms : List Mark) → is_first m ≡ true → is_leaf m.part ≡ true → AllSecond ms → Q m None → AllUsed P above (pre ++ m ∷ ms) → AllUsed Q above (pre ++ m ∷ ms)
+  pub whole_leaf : (above : Option ℕ) (pre : List Mark) (m : Mark) (ms : List Mark) → is_first m ≡ true → is_leaf m.part ≡ true → AllSecond ms → Q m None
+      → AllUsed P above (pre ++ m ∷ ms) → AllUsed Q above (pre ++ m ∷ ms)
   whole_leaf above [] m ms f l s q p = (
     subst (Q m) (sym (use_first above m ms f ∙ none_of ms s)) q,
     subst (λ v. AllUsed Q v ms) (sym (above_leaf above m f l)) (out_closed m.item.moment ms s (subst (λ v. AllUsed P v ms) (above_leaf above m f l) p.1)),
@@ -39,13 +41,15 @@ module _ (P Q : Mark → Option ℕ → Type 0) (closed : (m : Mark) (u : ℕ) �
       (some_goes x (use_of above x (pre ++ m ∷ ms)) (use_of above x (pre ++ m ∷ ms)) k.0 k.1 k.1 p.0, whole_leaf (above_of above x) pre m ms f l s q p.1)
 
 module _ (P Q : Mark → Option ℕ → Type 0) (closed : (m : Mark) (u : ℕ) → is_first m ≡ false → P m (Some u) → Q m (Some u)) where
-  head2 : (above : Option ℕ) (x : Mark) (pre : List Mark) (m : Mark) (ms : List Mark) → is_first x ≡ false → P x (use_of above x (pre ++ m ∷ ms)) → Q x (use_of None x (pre ++ m ∷ []))
+  head2 : (above : Option ℕ) (x : Mark) (pre : List Mark) (m : Mark) (ms : List Mark) → is_first x ≡ false → P x (use_of above x (pre ++ m ∷ ms))
+      → Q x (use_of None x (pre ++ m ∷ []))
   head2 above x [] m ms s p = subst (Q x) (sym (use_second None x (m ∷ []) s)) (closed x m.item.moment s (subst (P x) (use_second above x (m ∷ ms) s) p))
   head2 above x (y ∷ pre) m ms s p =
       subst (Q x) (sym (use_second None x (y ∷ (pre ++ m ∷ [])) s)) (closed x y.item.moment s (subst (P x) (use_second above x (y ∷ (pre ++ m ∷ ms)) s) p))
 
   -- a chain of stage 2 up to an item whose own use is to come, from the rest of the trail that begins with it
-  pub front_second : (above : Option ℕ) (pre : List Mark) (m : Mark) (ms : List Mark) → AllSecond pre → is_first m ≡ false → Q m None → AllUsed P above (pre ++ m ∷ ms) → AllUsed Q None (pre ++ m ∷ [])
+  pub front_second : (above : Option ℕ) (pre : List Mark) (m : Mark) (ms : List Mark) → AllSecond pre → is_first m ≡ false → Q m None
+      → AllUsed P above (pre ++ m ∷ ms) → AllUsed Q None (pre ++ m ∷ [])
   front_second above [] m ms s f q p = (subst (Q m) (sym (use_second None m [] f)) q, tt)
   front_second above (x ∷ pre) m ms s f q p = (
     head2 above x pre m ms s.0 p.0,

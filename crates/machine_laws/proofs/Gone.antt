@@ -302,14 +302,16 @@ module _ (h : Header) (c : ℕ) where
     }
 
   -- a row stays, or a full set loses it
-  filled_keeps : (before : Cache) (used : Used) (n : ℕ) (u : List Row) → IsRanked n u before.rows → ((x : Row) → In x used.served → In x before.rows) → (x : Row)
+  filled_keeps : (before : Cache) (used : Used) (n : ℕ) (u : List Row) → IsRanked n u before.rows → ((x : Row) → In x used.served → In x before.rows)
+      → (x : Row)
       → (b : Bool) → keeps_rows h.size ≡ b → In x before.rows
       → In x (cond b (behind before used x used.made) before).rows ⊎ IsEvicted h c before used x
   filled_keeps before used n u state live x true on i =
       made_stays before used x on used.made [] refl ((by_policy h.policy refl u before.rows used.served live state.ranked).1 x i)
   filled_keeps before used n u state live x false off i = inl i
 
-  pub filled_stays : (before : Cache) (used : Used) (n : ℕ) (u : List Row) → IsRanked n u before.rows → ((x : Row) → In x used.served → In x before.rows) → (x : Row)
+  pub filled_stays : (before : Cache) (used : Used) (n : ℕ) (u : List Row) → IsRanked n u before.rows → ((x : Row) → In x used.served → In x before.rows)
+      → (x : Row)
       → In x before.rows → In x (filled h c before used.served used.made).rows ⊎ IsEvicted h c before used x
   filled_stays before used n u state live x i = filled_keeps before used n u state live x (keeps_rows h.size) refl i
 

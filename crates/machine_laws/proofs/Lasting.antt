@@ -28,7 +28,8 @@ use Rattle.machine_laws.proofs.Logs.{event-old, event-last, inval-old, inval-las
 use Rattle.machine_laws.proofs.Uses.{used_map}
 
 -- what a row promises holds of a weaker condition too
-pub row_map : (P Q : Side → Mark → Option ℕ → Type 0) → ((s : Side) (m : Mark) (o : Option ℕ) → P s m o → Q s m o) → (r : Row) (k : Kind) → IsRowBy P r k → IsRowBy Q r k
+pub row_map : (P Q : Side → Mark → Option ℕ → Type 0) → ((s : Side) (m : Mark) (o : Option ℕ) → P s m o → Q s m o) → (r : Row) (k : Kind) → IsRowBy P r k
+    → IsRowBy Q r k
 row_map P Q f r leaf1 h = λ a s.
     let g = h a s in
     record {
@@ -36,7 +37,9 @@ row_map P Q f r leaf1 h = λ a s.
       on = g.on;
       class_is = g.class_is;
       global_is = g.global_is;
-      stored = used_map (P (side_of a.va)) (Q (side_of a.va)) (f (side_of a.va)) None (marks (regime_for r.key.config a) (walk r.key.config false a) r.trail) g.stored;
+      stored =
+          used_map (P (side_of a.va)) (Q (side_of a.va)) (f (side_of a.va)) None (marks (regime_for r.key.config a) (walk r.key.config false a) r.trail)
+          g.stored;
     }
 row_map P Q f r table1 h = (
   h.0,
@@ -124,7 +127,8 @@ module _ (v : View) (s : Step) where
     live = λ word k i after at reach cov done_.
         let e : i.issued ≡ k = issued_at (v.log ++ s ∷ []) k i at in
         let lt : k < length v.log = omega (arith, e, done_.later, done_.earlier) in
-        f.live word k i after (sym (inval-old v.log s k lt) ∙ at) reach (subst (λ t. covers i t ≡ true) (tag_on m (omega (arith, f.past))) cov) (complete_on use_ i h done_);
+        f.live word k i after (sym (inval-old v.log s k lt) ∙ at) reach (subst (λ t. covers i t ≡ true) (tag_on m (omega (arith, f.past))) cov)
+        (complete_on use_ i h done_);
     asid = λ n. ap asid_of (regs-old v.log s v.core m.item.moment (omega (arith, f.past))) ∙ f.asid n ∙ sym (ap asid_of (regs-old v.log s v.core use_ h));
   }
 
@@ -178,7 +182,8 @@ module _ (v : View) (s : Step) where
   mail_case : (i : Inval)
       → ((i.issued < now v) × (IsComplete v.log (now v) i → ⊥) × (completes s.event i ≡ false)) ⊎ (i.issued ≡ now v)
       → (i.issued < now (longer v s)) × (IsComplete (v.log ++ s ∷ []) (now (longer v s)) i → ⊥)
-  mail_case i (inl h) = (simp length-append (omega (arith, h.0)), λ d. unfinished_on i h.1 h.2 d.step d.event d.later d.earlier d.is d.ends (cases_lt d.step (length v.log)))
+  mail_case i (inl h) =
+      (simp length-append (omega (arith, h.0)), λ d. unfinished_on i h.1 h.2 d.step d.event d.later d.earlier d.is d.ends (cases_lt d.step (length v.log)))
   mail_case i (inr e) = (simp length-append (omega arith), λ d. let lt = d.earlier in let lt2 = simp length-append at lt in omega (arith, d.later))
 
   -- One step of a core, whatever it does, keeps the facts: each message after it is an old one that the event doesn't

@@ -73,7 +73,8 @@ module _ (h : Header) (w : World) (c : ℕ) where
   used_if a true =
       let r : Reply = served seat_here.place a in
       record {
-        live = stop_live a r r.stop (λ x i. (In-from_filter (is_own (key_of seat_here.place.regs)) seat_here.place.rows x (served_own seat_here.place a x i)).0);
+        live = stop_live a r r.stop
+            (λ x i. (In-from_filter (is_own (key_of seat_here.place.regs)) seat_here.place.rows x (served_own seat_here.place a x i)).0);
         at = stop_numbered a r r.stop;
       }
   used_if a false = none_orderly
@@ -110,7 +111,8 @@ module _ (h : Header) (w : World) (c : ℕ) where
       stays = λ x i. elim (filled_stays h c core_here.cache used w.step u state o.live x i) [ inl j ↦ inl j | inr k ↦ inr (inr k) ];
     }
 
-    access_goes : (a : Access) (own : Bool) → Goes (cond own (used_here h w c a) (record { served = []; made = [] })) [] (cond own (accessed h w c core_here a) core_here).cache
+    access_goes : (a : Access) (own : Bool)
+        → Goes (cond own (used_here h w c a) (record { served = []; made = [] })) [] (cond own (accessed h w c core_here a) core_here).cache
     access_goes a true = let r : Reply = served seat_here.place a in by_use (used_here h w c a) (used_if a true) _ (stop_cache a r r.stop)
     access_goes a false = by_kills [] core_here.cache refl
 

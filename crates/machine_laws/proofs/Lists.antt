@@ -21,7 +21,8 @@ In-filter p (y ∷ ys) x (inr i) h =
     let rest = In-filter p ys x i h in
     elim (p y) as (λ b. In x (cond b (y ∷ filter p ys) (filter p ys))) [ true ↦ inr rest | false ↦ rest ]
 
-filter_case : {X : Type 0} (p : X → Bool) (y : X) (ys : List X) (x : X) (b : Bool) → p y ≡ b → (In x (filter p ys) → In x ys × (p x ≡ true)) → In x (cond b (y ∷ filter p ys) (filter p ys)) → ((x ≡ y) ⊎ In x ys) × (p x ≡ true)
+filter_case : {X : Type 0} (p : X → Bool) (y : X) (ys : List X) (x : X) (b : Bool) → p y ≡ b → (In x (filter p ys) → In x ys × (p x ≡ true))
+    → In x (cond b (y ∷ filter p ys) (filter p ys)) → ((x ≡ y) ⊎ In x ys) × (p x ≡ true)
 filter_case p y ys x true e rest (inl h) = (inl h, subst (λ v. p v ≡ true) (sym h) e)
 filter_case p y ys x true e rest (inr h) = (inr (rest h).0, (rest h).1)
 filter_case p y ys x false e rest h = (inr (rest h).0, (rest h).1)
@@ -49,7 +50,8 @@ pub In-drop_one : {X : Type 0} (xs : List X) (x : X) → In x (drop 1 xs) → In
 In-drop_one [] x h = elim h [ ]
 In-drop_one (y ∷ ys) x h = inr h
 
-find_case : {X : Type 0} (p : X → Bool) (y : X) (ys : List X) (x : X) (b : Bool) → p y ≡ b → (find p ys ≡ Some x → In x ys × (p x ≡ true)) → cond b (Some y) (find p ys) ≡ Some x → ((x ≡ y) ⊎ In x ys) × (p x ≡ true)
+find_case : {X : Type 0} (p : X → Bool) (y : X) (ys : List X) (x : X) (b : Bool) → p y ≡ b → (find p ys ≡ Some x → In x ys × (p x ≡ true))
+    → cond b (Some y) (find p ys) ≡ Some x → ((x ≡ y) ⊎ In x ys) × (p x ≡ true)
 find_case p y ys x true e rest h = let s : y ≡ x = same_Some y x h in (inl (sym s), subst (λ v. p v ≡ true) s e)
 find_case p y ys x false e rest h = (inr (rest h).0, (rest h).1)
 

@@ -73,13 +73,16 @@ ttbr_below : (regs : Regs) (s : Side) → ttbr_base regs s < 2 ^ 52
 ttbr_below regs Low = base_below (granule_of (config_of regs).tg0) (config_of regs).ips regs.ttbr0_el1
 ttbr_below regs High = base_below (granule_of (config_of regs).tg1) (config_of regs).ips regs.ttbr1_el1
 
-pub fits_base1 : (regs : Regs) (s : Side) (k : ℕ) → fits (regime_of (config_of regs) s) base1 (base_item k S1 (sizes1 (config_of regs) s) (start_base1 regs s)) ≡ true
+pub fits_base1 : (regs : Regs) (s : Side) (k : ℕ)
+    → fits (regime_of (config_of regs) s) base1 (base_item k S1 (sizes1 (config_of regs) s) (start_base1 regs s)) ≡ true
 unfolding fits
 fits_base1 regs s k = fits_aligned (sizes1 (config_of regs) s) S1 k (ttbr_base regs s) (ttbr_below regs s)
 
-pub fits_base2 : (regs : Regs) (s : Side) (x k : ℕ) → fits (regime_of (config_of regs) s) (base2 x) (base_item k S2 (sizes2 (config_of regs)) (start_base2 regs)) ≡ true
+pub fits_base2 : (regs : Regs) (s : Side) (x k : ℕ)
+    → fits (regime_of (config_of regs) s) (base2 x) (base_item k S2 (sizes2 (config_of regs)) (start_base2 regs)) ≡ true
 unfolding fits
-fits_base2 regs s x k = fits_aligned (sizes2 (config_of regs)) S2 k (vttbr_base regs) (base_below (granule_of (config_of regs).tg2) (config_of regs).ps regs.vttbr_el2)
+fits_base2 regs s x k =
+    fits_aligned (sizes2 (config_of regs)) S2 k (vttbr_base regs) (base_below (granule_of (config_of regs).tg2) (config_of regs).ps regs.vttbr_el2)
 
 pub fits_needed : (r : Regime) (w : WordNeed) (k value : ℕ) → fits r (word w) (needed_item k w value) ≡ true
 unfolding fits
@@ -133,7 +136,8 @@ module _ (v : View) where
   pub fresh_used : (above : Option ℕ) (ms : List Mark) → IsNow (now v) above → AllSecond ms → AllFresh ms → AllUsed (Good v) above ms
   fresh_used above [] h s f = tt
   fresh_used above (m ∷ ms) h s f = (
-    subst (Good v m) (sym (use_second above m ms s.0)) (open_at (Good v) (now v) opened m (next_second above ms) (fresh_next above ms h f.1) (fresh_good m f.0)),
+    subst (Good v m) (sym (use_second above m ms s.0))
+        (open_at (Good v) (now v) opened m (next_second above ms) (fresh_next above ms h f.1) (fresh_good m f.0)),
     subst (λ o. AllUsed (Good v) o ms) (sym (above_second above m s.0)) (fresh_used above ms h s.1 f.1),
   )
 
@@ -148,7 +152,8 @@ module _ (v : View) where
 abbrev pub prepend : List Item → Reply → Reply
 prepend items reply = record { items = items ++ reply.items; stop = reply.stop; by = reply.by }
 
-pub serve_queue : (r : Regime) (sup : Need → Supplied) (q : List Item) (t u : Ask Need Item (End Landing)) → IsOn r t q u → serve sup q t ≡ prepend q (serve sup [] u)
+pub serve_queue : (r : Regime) (sup : Need → Supplied) (q : List Item) (t u : Ask Need Item (End Landing)) → IsOn r t q u
+    → serve sup q t ≡ prepend q (serve sup [] u)
 serve_queue r sup [] t u e = ap (serve sup []) (sym e)
 serve_queue r sup (i ∷ q) (done e) u h = absurd h
 serve_queue r sup (i ∷ q) (ask n k) u h = ap (pushed i []) (serve_queue r sup q (k i) u h.1)
@@ -182,7 +187,8 @@ module _ (v : View) (r : Regime) where
 
   pub fine_after : (K L : List Item → Type 0) (t u : Ask Need Item (End Landing)) (pre items : List Item) (stop : Stop) → Pre K L t u pre →
       FineOf L v r u items stop → FineOf K v r t (pre ++ items) stop
-  fine_after K L t u pre items (came (ended e)) p f = (on_append r t u (done e) pre items p.on f.0, p.kept items f.1, last_after t u pre items e p.on f.0 p.last f.2)
+  fine_after K L t u pre items (came (ended e)) p f =
+      (on_append r t u (done e) pre items p.on f.0, p.kept items f.1, last_after t u pre items e p.on f.0 p.last f.2)
   fine_after K L t u pre items (came (lacks n)) p f = (f.0, f.1, f.2, on_append r t u (ask n f.1) pre items p.on f.3, p.kept items f.4, f.5)
   fine_after K L t u pre items (clash one two) p f = (
     f.0,
@@ -228,7 +234,8 @@ module _ (v : View) (r : Regime) where
           last_base = last_append (IsNowBase (now v)) (m ∷ []) (marks r (flat r (k i)) items) (λ b. f.now_is) h.last_base;
         };
         last = λ e h. subst (λ t. LastOk (now v) e (m ∷ marks r t [])) (sym h)
-            (last_one (now v) e m f.now_is (λ l is. mark_base r n i ∙ no_base n k i sound l (needs_base n) refl (flat_fin r (k i) (reaches l) (h ∙ ap (λ e. done e) is))));
+            (last_one (now v) e m f.now_is
+            (λ l is. mark_base r n i ∙ no_base n k i sound l (needs_base n) refl (flat_fin r (k i) (reaches l) (h ∙ ap (λ e. done e) is))));
       }
 
   err_of : (o : Result Need (End Landing)) (k : Item → Plan) (e : End Landing) → flat r (rest_by o k) ≡ done e → o ≡ Err e
@@ -236,7 +243,8 @@ module _ (v : View) (r : Regime) where
   err_of (Ok n) k e h = absurd cc
 
   -- behind a chain comes a question of stage 1 that is answered now, or the end
-  rest_now : (above : Option ℕ) (o : Result Need (End Landing)) (k : Item → Plan) (items : List Item) → IsNow (now v) above → ((n : Need) → o ≡ Ok n → is_need1 n ≡ true) →
+  rest_now : (above : Option ℕ) (o : Result Need (End Landing)) (k : Item → Plan) (items : List Item) → IsNow (now v) above
+      → ((n : Need) → o ≡ Ok n → is_need1 n ≡ true) →
       Kept1 v r above (flat r (rest_by o k)) items → IsNow (now v) (next_second above (marks r (flat r (rest_by o k)) items))
   rest_now above (Err e) k [] a one h = a
   rest_now above (Err e) k (i ∷ items) a one h = a
@@ -255,7 +263,8 @@ module _ (v : View) (r : Regime) where
     kept = λ items h.
         let rest : List Mark = marks r (flat r (rest_by (next e) k)) items in
         let ms : marks r (flat r (via p x next k)) (cs ++ items) ≡ marks r (chain r p x) cs ++ rest =
-        marks_append r (flat r (via p x next k)) (flat r (rest_by (next e) k)) cs items (via_on r p x next k cs e on) ∙ ap (λ l. l ++ rest) (via_marks r p x next k cs (done e) on) in
+        marks_append r (flat r (via p x next k)) (flat r (rest_by (next e) k)) cs items (via_on r p x next k cs e on)
+        ∙ ap (λ l. l ++ rest) (via_marks r p x next k cs (done e) on) in
         let s : AllSecond (marks r (chain r p x) cs) = second_marks r (chain r p x) cs second in
         record {
           used = subst (AllUsed (Good v) above) (sym ms)

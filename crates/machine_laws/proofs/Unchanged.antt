@@ -127,10 +127,12 @@ module _ (regs : Regs) (s : Side) (m : Memory) (k : ℕ) where
 
 -- items that are as now are those of the fresh walk but for moments, and so is the outcome
 again : (regs : Regs) (m : Memory) (a : Access) (k : ℕ) (xs : List Item) (e : Fed Need (End Landing)) → stands (config_of regs) true a xs ≡ stands_fed e
-    → EndsAsGiven (given regs (side_of a.va) m k) e → IsUnchanged regs m a xs → (read_at k xs ≡ fresh_items m regs a k) × (fed_outcome e ≡ fresh_outcome m regs a k)
+    → EndsAsGiven (given regs (side_of a.va) m k) e → IsUnchanged regs m a xs
+    → (read_at k xs ≡ fresh_items m regs a k) × (fed_outcome e ≡ fresh_outcome m regs a k)
 again regs m a k xs e st lacking as_now =
     let t = walk (config_of regs) true a in
-    let d = fed_took (given regs (side_of a.va) m k) t (read_at k xs) e (took_again regs (side_of a.va) m k t t xs e (walk_timeless (config_of regs) true a) st as_now) lacking in
+    let d = fed_took (given regs (side_of a.va) m k) t (read_at k xs) e
+    (took_again regs (side_of a.va) m k t t xs e (walk_timeless (config_of regs) true a) st as_now) lacking in
     (d.0, ap fed_outcome d.1)
 
 -- AN ANSWER
@@ -158,7 +160,8 @@ module _ (h : Header) (log : List Step) (c : ℕ) (a : Access) (xs : List Item) 
   lacking_fresh : (o : Outcome) → IsLacking (case_of h log c a) xs second o → IsUnchanged regs_here memory_here a xs → AsFresh o
   lacking_fresh o r as_now =
       let n : Need = word r.need in
-      let d = again regs_here memory_here a (length log) xs (lacks n) (here_is (lacks n) r.walk_needs) (ap (option_map (needed_item (length log) r.need)) r.lacking) as_now in
+      let d = again regs_here memory_here a (length log) xs (lacks n) (here_is (lacks n) r.walk_needs)
+      (ap (option_map (needed_item (length log) r.need)) r.lacking) as_now in
       (d.0, r.is ∙ d.1)
 
   right_fresh : (o : Outcome) → IsRight (case_of h log c a) xs second o → is_conflict o ≡ false → IsUnchanged regs_here memory_here a xs → AsFresh o
