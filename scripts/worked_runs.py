@@ -1,7 +1,8 @@
 #!/usr/bin/env python3
-"""Writes a file of theorems from traces and their reports.
+"""Writes the worked runs, as theorems, from traces and their reports.
 
-python3 scripts/worked_runs.py NAME.trace .. > crates/machine_spec/proofs/WorkedX.antt
+python3 scripts/worked_runs.py            writes each file that crates/machine_spec/data/worked_runs.txt names
+python3 scripts/worked_runs.py NAME.trace ..      prints such a file for these traces
 
 Each NAME.trace has its NAME.report beside it, as `vmsa run` prints it. A theorem says that the run of the trace has,
 at the steps that the report shows, just these answers, and comes to the summary, where the report has one. The
@@ -11,6 +12,9 @@ import os
 import sys
 import textwrap
 
+CRATE = os.path.join(os.path.dirname(os.path.dirname(os.path.abspath(__file__))), "crates", "machine_spec")
+DATA = os.path.join(CRATE, "data")
+PROOFS = os.path.join(CRATE, "proofs")
 WIDTH = 150
 REGS = {"SCTLR_EL1": "SctlrEl1", "TCR_EL1": "TcrEl1", "TTBR0_EL1": "Ttbr0El1", "TTBR1_EL1": "Ttbr1El1",
         "MAIR_EL1": "MairEl1", "HCR_EL2": "HcrEl2", "VTCR_EL2": "VtcrEl2", "VTTBR_EL2": "VttbrEl2"}
@@ -39,6 +43,8 @@ VARIANTS = {
     "trace_lang.specs.declared.header.Size": sorted(SIZES.values()),
     "trace_lang.specs.declared.header.Policy": ["Lru", "Fifo", "Random"],
 }
+LISTS = ["[]", "◌∷◌"]
+COMMON = LISTS + ["true", "false", "refl"]
 WORDS = ["header", "on_worked_runs", "Comes", "ReportsAs", "told", "conflict_told", "mapped", "fault", "fault2",
          "base1", "base2", "word1", "word2", "access"]
 
@@ -145,12 +151,12 @@ def read_report(path):
     return answers, counts
 
 
-def wrapped(parts, indent, last):
+def wrapped(parts, indent, last, width=WIDTH):
     """Parts joined to a list, over as many lines as they need."""
     lines, line = [], indent
     for part in parts + [last]:
         piece = part if part == last else part + " ∷ "
-        if len(line) + len(piece) > WIDTH and line != indent:
+        if len(line) + len(piece) > width and line != indent:
             lines.append(line.rstrip())
             line = indent
         line += piece
@@ -170,7 +176,7 @@ def theorem(path):
     out.append("    (" + answer(answers[0]) if answers else "    ([]")
     for one in answers[1:]:
         out[-1] += " ∷"
-        out.append("     " + answer(one))
+        out.append("    " + answer(one))
     out[-1] += " ∷ [])" if answers else ")"
     out.append("    (%s)" % ("Some (%s)" % " ∷ ".join(counts + ["[]"]) if counts else "None"))
     return "\n".join(out + ["unfolding on_worked_walks on_worked_runs", "%s = (refl, %s)" % (name, "refl" if counts else "tt")])
@@ -183,24 +189,48 @@ def answer(one):
         head = "conflict_told %s %s %s" % (step, asid, vmid)
     text = head
     for trail in trails:
-        lines = wrapped(trail, "         ", "[]")
-        text += "\n" + "\n".join(lines).replace("         ", "        (", 1) + ")"
+        lines = wrapped(trail, "    ", "[]", WIDTH - 5)
+        text += "\n" + "\n".join(lines).replace("    ", "    (", 1) + ")"
     return text
 
 
-def main():
-    body = "\n\n".join(theorem(path) for path in sys.argv[1:])
-    print("-- Worked runs, computed. Written by scripts/worked_runs.py from traces and their reports.")
-    print("use Rattle.std.proofs.Common.{[], ◌∷◌, true, false, refl}")
-    print("use Rattle.std.specs.Prelude.{Some, None}")
+def file_of(paths):
+    """The text of a file with a theorem for each trace."""
+    body = "\n\n".join(theorem(path) for path in paths)
+    lines = ["-- Worked runs, computed. Written by scripts/worked_runs.py from traces and their reports.",
+             "use Rattle.std.proofs.Common.{%s}" % ", ".join(n for n in COMMON if n in LISTS or has(body, n)),
+             "use Rattle.std.specs.Prelude.{%s}" % ", ".join(n for n in ["Some", "None"] if has(body, n))]
     for module, names in VARIANTS.items():
         used = [n for n in names if has(body, n.split(" as ")[-1])]
         if used:
-            print("use %s%s.TheVariants.{%s}" % (PREFIX, module, ", ".join(used)))
-    print("use Rattle.walk_spec.proofs.Worked.{%s}" % ", ".join(n for n in ["on_worked_walks", "access", "wb", "wt"] if has(body, n)))
-    print("use Rattle.machine_spec.proofs.Worked.{%s}" % ", ".join(n for n in WORDS if n != "access" and has(body, n)))
-    print()
-    print(body)
+            lines.append("use %s%s.TheVariants.{%s}" % (PREFIX, module, ", ".join(used)))
+    walks = [n for n in ["on_worked_walks", "access", "wb", "wt"] if has(body, n)]
+    lines.append("use Rattle.walk_spec.proofs.Worked.{%s}" % ", ".join(walks))
+    runs = [n for n in WORDS if n != "access" and has(body, n)]
+    lines.append("use Rattle.machine_spec.proofs.Worked.{%s}" % ", ".join(runs))
+    return "\n".join(lines + ["", body, ""])
+
+
+def listed():
+    """The files, and the traces of each: a line ends in a colon where it names a file."""
+    files = {}
+    with open(os.path.join(DATA, "worked_runs.txt"), encoding="ascii") as f:
+        for line in f.read().splitlines():
+            word = line.strip()
+            if word.endswith(":"):
+                files[word[:-1]] = traces = []
+            elif word and not word.startswith("#"):
+                traces.append(os.path.join(DATA, word + ".trace"))
+    return files
+
+
+def main():
+    if sys.argv[1:]:
+        sys.stdout.write(file_of(sys.argv[1:]))
+        return
+    for name, paths in listed().items():
+        with open(os.path.join(PROOFS, name + ".antt"), "w", encoding="utf-8") as f:
+            f.write(file_of(paths))
 
 
 def has(body, name):

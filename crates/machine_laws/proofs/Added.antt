@@ -1,5 +1,5 @@
 -- Rows that come, leave and move: each row behind a step is one before or one that was made, and rows stay told apart.
-use Rattle.std.proofs.Common.{◌≡◌, ℕ, zero, suc, ◌+◌, Bool, true, false, not, ◌&&◌, ◌||◌, cond, List, [], ◌∷◌, ◌++◌, length, ◌⊎◌, inl, inr, refl, sym, ap, ◌∙◌, subst}
+use Rattle.std.proofs.Common.{◌≡◌, ℕ, ◌+◌, Bool, true, false, not, ◌&&◌, ◌||◌, cond, List, [], ◌∷◌, ◌++◌, length, ◌⊎◌, inl, inr, refl, sym, ap, ◌∙◌, subst}
 use Rattle.std.specs.Prelude.{◌==◌, nat_le, fold, filter}
 use Rattle.std.specs.List.{list_any}
 use Rattle.std.proofs.lemmas.Bool.{eq-eqb, both_ways, or_parts, not-true}
@@ -11,26 +11,23 @@ use Rattle.trace_lang.specs.declared.header.Policy.{Policy}
 use Rattle.trace_lang.specs.declared.header.Policy.TheVariants.{Lru, Fifo, Random}
 use Rattle.tagged_tlb.specs.declared.row.Key.{Key}
 use Rattle.walk_spec.specs.Needs.{Region}
-use Rattle.machine_spec.specs.Header.{Header, shape_of, Kind, leaf1, table1, leaf2, table2}
+use Rattle.machine_spec.specs.Header.{Header, shape_of, leaf1, leaf2}
 use Rattle.machine_spec.specs.Marks.{Mark, is_global}
 use Rattle.machine_spec.specs.Rows.{Row, same_bool, same_numbers, same_granules, same_low, same_high, same_rest, same_fields, same_kind, same_region, holds, matches1}
 use Rattle.machine_spec.specs.Made.{Maker, key_of}
 use Rattle.machine_spec.specs.Sets.{Cache, victim, without, same_set, same_key, added, is_row, to_end, touched}
 use Rattle.machine_laws.proofs.Facts.{In, IsApart, IsApart1, IsApart2, AllApart}
-use Rattle.machine_laws.proofs.Lists.{In-from_filter, In-push_cases}
+use Rattle.machine_laws.proofs.Lists.{In-from_filter, In-push_cases, In-without}
+use Rattle.machine_laws.proofs.Pairs.{pairs_filter, pairs_without, pairs_push}
 use Rattle.machine_laws.proofs.Combined.{IsMade1}
+use Rattle.machine_laws.proofs.Found.{apart_sym}
+use Rattle.machine_laws.proofs.Sets.{kind_itself, In-added}
 
 -- EQUAL KEYS
 
 same_bool_self : (b : Bool) → same_bool b b ≡ true
 same_bool_self true = refl
 same_bool_self false = refl
-
-same_kind_self : (k : Kind) → same_kind k k ≡ true
-same_kind_self leaf1 = refl
-same_kind_self table1 = refl
-same_kind_self leaf2 = refl
-same_kind_self table2 = refl
 
 same : (n : ℕ) → (n == n) ≡ true
 same n = eq-eqb n n refl
@@ -69,18 +66,16 @@ unfolding same_fields
 same_fields_self c = rw (numbers_self c, granules_self c, low_self c, high_self c, rest_self c) refl
 
 -- rows of equal kinds, regions, keys and global flags would serve the same
-pub same_key_from : (r x : Row) → r.kind ≡ x.kind → r.region ≡ x.region → r.key.vmid ≡ x.key.vmid → r.key.asid ≡ x.key.asid → r.global ≡ x.global → r.key.config ≡ x.key.config → same_key r x ≡ true
+pub same_key_from : (r x : Row) → r.kind ≡ x.kind → r.region ≡ x.region → r.key.vmid ≡ x.key.vmid → r.key.asid ≡ x.key.asid → r.global ≡ x.global
+    → r.key.config ≡ x.key.config → same_key r x ≡ true
 same_key_from r x kd rg vm ad gl cf =
-    let a : same_kind r.kind x.kind ≡ true = subst (λ z. same_kind r.kind z ≡ true) kd (same_kind_self r.kind) in
+    let a : same_kind r.kind x.kind ≡ true = subst (λ z. same_kind r.kind z ≡ true) kd (kind_itself r.kind) in
     let b : same_region r.region x.region ≡ true = subst (λ z. same_region r.region z ≡ true) rg (same_region_self r.region) in
     let c : same_bool r.global x.global ≡ true = subst (λ z. same_bool r.global z ≡ true) gl (same_bool_self r.global) in
     let d : same_fields r.key.config x.key.config ≡ true = subst (λ z. same_fields r.key.config z ≡ true) cf (same_fields_self r.key.config) in
     rw (a, b, eq-eqb r.key.vmid x.key.vmid vm, eq-eqb r.key.asid x.key.asid ad, c, d) refl
 
 -- LISTS OF ROWS THAT ARE TOLD APART
-
-pub apart_sym : (r s : Row) → IsApart r s → IsApart s r
-apart_sym r s h = ((λ a b c d e. h.0 b a (sym c) (sym d) (sym e)), λ a b c d e f. let k = h.1 b a (sym c) (sym d) (sym e) (sym f) in (f ∙ k.0, λ q. k.1 (sym q)))
 
 -- any two rows of the list that aren't one, in whichever order they stand
 pub apart_two : (xs : List Row) (r s : Row) → AllApart xs → In r xs → In s xs → (r ≡ s → ⊥) → IsApart r s
@@ -90,43 +85,11 @@ apart_two (x ∷ xs) r s a (inl e) (inr j) n = subst (λ v. IsApart v s) (sym e)
 apart_two (x ∷ xs) r s a (inr i) (inl q) n = subst (λ v. IsApart r v) (sym q) (apart_sym x r (a.0 r i))
 apart_two (x ∷ xs) r s a (inr i) (inr j) n = apart_two xs r s a.1 i j n
 
-keep : (x z : Row) (ys xs : List Row) → (In z ys → In z xs) → In z (x ∷ ys) → In z (x ∷ xs)
-keep x z ys xs f (inl e) = inl e
-keep x z ys xs f (inr i) = inr (f i)
-
-In-case : (b : Bool) (z : Row) (us vs xs : List Row) → (In z us → In z xs) → (In z vs → In z xs) → In z (cond b us vs) → In z xs
-In-case true z us vs xs f g h = f h
-In-case false z us vs xs f g h = g h
-
-apart_case : (b : Bool) (us vs : List Row) → AllApart us → AllApart vs → AllApart (cond b us vs)
-apart_case true us vs h k = h
-apart_case false us vs h k = k
-
-pub In-without : (p : Row → Bool) (xs : List Row) (n : ℕ) (z : Row) → In z (without p xs n) → In z xs
-In-without p [] n z h = absurd h
-In-without p (x ∷ xs) zero z h = In-case (p x) z xs (x ∷ without p xs zero) (x ∷ xs) (λ i. inr i) (keep x z (without p xs zero) xs (In-without p xs zero z)) h
-In-without p (x ∷ xs) (suc n) z h =
-    In-case (p x) z (x ∷ without p xs n) (x ∷ without p xs (suc n)) (x ∷ xs) (keep x z (without p xs n) xs (In-without p xs n z)) (keep x z (without p xs (suc n)) xs (In-without p xs (suc n) z)) h
-
--- an eviction
-pub apart_without : (p : Row → Bool) (xs : List Row) (n : ℕ) → AllApart xs → AllApart (without p xs n)
-apart_without p [] n h = tt
-apart_without p (x ∷ xs) zero h = apart_case (p x) xs (x ∷ without p xs zero) h.1 ((λ s i. h.0 s (In-without p xs zero s i)), apart_without p xs zero h.1)
-apart_without p (x ∷ xs) (suc n) h = apart_case (p x) (x ∷ without p xs n) (x ∷ without p xs (suc n))
-    ((λ s i. h.0 s (In-without p xs n s i)), apart_without p xs n h.1) ((λ s i. h.0 s (In-without p xs (suc n) s i)), apart_without p xs (suc n) h.1)
-
-pub apart_filter : (p : Row → Bool) (xs : List Row) → AllApart xs → AllApart (filter p xs)
-apart_filter p [] h = tt
-apart_filter p (x ∷ xs) h = apart_case (p x) (x ∷ filter p xs) (filter p xs) ((λ s i. h.0 s (In-from_filter p xs s i).0), apart_filter p xs h.1) (apart_filter p xs h.1)
-
-pub apart_push : (rows : List Row) (r : Row) → ((x : Row) → In x rows → IsApart x r) → AllApart rows → AllApart (rows ++ r ∷ [])
-apart_push [] r h a = ((λ s i. absurd i), tt)
-apart_push (x ∷ rows) r h a = ((λ s i. elim (In-push_cases rows r s i) [ inl m ↦ a.0 s m | inr e ↦ subst (IsApart x) (sym e) (h x (inl refl)) ]), apart_push rows r (λ y i. h y (inr i)) a.1)
-
 -- ROWS THAT SERVED
 
 In-to_end : (rows : List Row) (r x : Row) → In x (to_end rows r) → In x rows ⊎ (x ≡ r)
-In-to_end rows r x h = elim (In-push_cases (filter (λ y. not (is_row r y)) rows) r x h) [ inl i ↦ inl (In-from_filter (λ y. not (is_row r y)) rows x i).0 | inr e ↦ inr e ]
+In-to_end rows r x h =
+    elim (In-push_cases (filter (λ y. not (is_row r y)) rows) r x h) [ inl i ↦ inl (In-from_filter (λ y. not (is_row r y)) rows x i).0 | inr e ↦ inr e ]
 
 is_row_self : (r : Row) → is_row r r ≡ true
 is_row_self r = rw (same r.made.step, same r.made.order) refl
@@ -141,10 +104,10 @@ module _ (olds : List Row) (apart : AllApart olds) where
 
   apart_end : (rows : List Row) (r : Row) → Within rows → In r olds → AllApart rows → AllApart (to_end rows r)
   apart_end rows r w i a =
-      apart_push (filter (λ y. not (is_row r y)) rows) r (λ x h.
+      pairs_push IsApart (filter (λ y. not (is_row r y)) rows) r (λ x h.
       let p = In-from_filter (λ y. not (is_row r y)) rows x h in
       apart_two olds x r apart (w x p.0) i (λ e. both_ways (is_row r r) (subst (λ z. is_row r z ≡ false) e (not-true (is_row r x) p.1)) (is_row_self r)))
-      (apart_filter (λ y. not (is_row r y)) rows a)
+      (pairs_filter IsApart (λ y. not (is_row r y)) rows a)
 
   within_ends : (served rows : List Row) → Within served → Within rows → Within (fold to_end rows served)
   within_ends [] rows s w = w
@@ -171,11 +134,6 @@ module _ (olds : List Row) (apart : AllApart olds) where
 abbrev added_by : Bool → Bool → Cache → (Row → Bool) → ℕ → Row → Cache
 added_by b d l p n r = cond b l (cond d (record { rows = without p l.rows n ++ r ∷ []; evictions = l.evictions + 1 }) (record l { rows = l.rows ++ r ∷ [] }))
 
-added_cases : (b d : Bool) (l : Cache) (p : Row → Bool) (n : ℕ) (r x : Row) → In x (added_by b d l p n r).rows → In x l.rows ⊎ (x ≡ r)
-added_cases true d l p n r x h = inl h
-added_cases false false l p n r x h = In-push_cases l.rows r x h
-added_cases false true l p n r x h = elim (In-push_cases (without p l.rows n) r x h) [ inl m ↦ inl (In-without p l.rows n x m) | inr e ↦ inr e ]
-
 any_not : (p : Row → Bool) (rows : List Row) (x : Row) → list_any p rows ≡ false → In x rows → p x ≡ false
 any_not p [] x h i = absurd i
 any_not p (y ∷ ys) x h (inl e) = ap p e ∙ (or_parts (p y) (list_any p ys) h).0
@@ -191,10 +149,13 @@ other_key r x kr kx h lx lr cf vm rg =
     let b = kx lx in
     both_ways (same_key r x) h (same_key_from r x (lr ∙ sym lx) (sym rg) (sym vm) (a.0 ∙ sym b.0) (a.1 ∙ sym b.1) (sym cf))
 
-apart_one : (b d : Bool) (l : Cache) (p : Row → Bool) (n : ℕ) (r : Row) → list_any (same_key r) l.rows ≡ b → ((x : Row) → In x l.rows → same_key r x ≡ false → IsApart x r) → AllApart l.rows → AllApart (added_by b d l p n r).rows
+apart_one : (b d : Bool) (l : Cache) (p : Row → Bool) (n : ℕ) (r : Row) → list_any (same_key r) l.rows ≡ b
+    → ((x : Row) → In x l.rows → same_key r x ≡ false → IsApart x r) → AllApart l.rows → AllApart (added_by b d l p n r).rows
 apart_one true d l p n r e one a = a
-apart_one false true l p n r e one a = apart_push (without p l.rows n) r (λ x i. let m = In-without p l.rows n x i in one x m (any_not (same_key r) l.rows x e m)) (apart_without p l.rows n a)
-apart_one false false l p n r e one a = apart_push l.rows r (λ x i. one x i (any_not (same_key r) l.rows x e i)) a
+apart_one false true l p n r e one a =
+    pairs_push IsApart (without p l.rows n) r (λ x i. let m = In-without p l.rows n x i in one x m (any_not (same_key r) l.rows x e m))
+    (pairs_without IsApart p l.rows n a)
+apart_one false false l p n r e one a = pairs_push IsApart l.rows r (λ x i. one x i (any_not (same_key r) l.rows x e i)) a
 
 module _ (h : Header) (c : ℕ) where
   abbrev is_full : Cache → Row → Bool
@@ -202,17 +163,6 @@ module _ (h : Header) (c : ℕ) where
 
   abbrev place_in : Cache → Row → ℕ
   place_in l r = victim h.policy c l.evictions (shape_of h.size r.kind).ways
-
-  pub In-added : (l : Cache) (r x : Row) → In x (added h c l r).rows → In x l.rows ⊎ (x ≡ r)
-  In-added l r x i = added_cases (list_any (same_key r) l.rows) (is_full l r) l (same_set (shape_of h.size r.kind) r) (place_in l r) r x i
-
-  -- a row behind is one before, or one that was made
-  pub In-all_added : (made : List Row) (l : Cache) (x : Row) → In x (fold (added h c) l made).rows → In x l.rows ⊎ In x made
-  In-all_added [] l x i = inl i
-  In-all_added (y ∷ ys) l x i = elim (In-all_added ys (added h c l y) x i) [
-    | inl m ↦ elim (In-added l y x m) [ inl k ↦ inl k | inr e ↦ inr (inl e) ]
-    | inr m ↦ inr (inr m)
-  ]
 
   -- olds: the rows before; news: all rows that were made
   module _ (olds news : List Row) (keyed_old : (x : Row) → In x olds → IsKeyed x) (keyed_new : (x : Row) → In x news → IsKeyed x)
@@ -230,9 +180,10 @@ module _ (h : Header) (c : ℕ) where
     one_apart y iy x (inr i) n lx ly = absurd (both_ways (same_key y x) n (single x y i iy lx ly))
 
     known : (l : Cache) (y : Row) → In y news → Known l.rows → Known (added h c l y).rows
-    known l y iy k x i = elim (In-added l y x i) [ inl m ↦ k x m | inr e ↦ inr (subst (λ z. In z news) (sym e) iy) ]
+    known l y iy k x i = elim (In-added h c l y x i) [ inl m ↦ k x m | inr e ↦ inr (subst (λ z. In z news) (sym e) iy) ]
 
-    pub apart_added : (made : List Row) (l : Cache) → ((x : Row) → In x made → In x news) → Known l.rows → AllApart l.rows → AllApart (fold (added h c) l made).rows
+    pub apart_added : (made : List Row) (l : Cache) → ((x : Row) → In x made → In x news) → Known l.rows → AllApart l.rows
+        → AllApart (fold (added h c) l made).rows
     apart_added [] l sub k a = a
     apart_added (y ∷ ys) l sub k a =
         let iy = sub y (inl refl) in
@@ -246,14 +197,18 @@ by_parts : (a b c d e : Bool) → a ≡ true → b ≡ true → c ≡ true → d
 by_parts a b c d e p q r s h = sym (rw (p, q, r, s) refl) ∙ h
 
 -- a combined row that didn't match is of another ASID, where it serves the same
-pub other_asid : (g : Regs) (x : ℕ) (old new : Row) → matches1 leaf1 (key_of g) x old ≡ false → new.key ≡ key_of g → holds new.region x ≡ true → IsApart1 old new
+pub other_asid : (g : Regs) (x : ℕ) (old new : Row) → matches1 leaf1 (key_of g) x old ≡ false → new.key ≡ key_of g → holds new.region x ≡ true
+    → IsApart1 old new
 other_asid g x old new unmatched key held lo ln cf vm rg gl =
     let k : Key = key_of g in
     let a : same_kind old.kind leaf1 ≡ true = subst (λ z. same_kind z leaf1 ≡ true) (sym lo) refl in
     let b : holds old.region x ≡ true = subst (λ z. holds z x ≡ true) (sym rg) held in
     let v : (old.key.vmid == k.vmid) ≡ true = eq-eqb old.key.vmid k.vmid (vm ∙ ap (λ (z : Key). z.vmid) key) in
-    let f : same_fields old.key.config k.config ≡ true = subst (λ z. same_fields old.key.config z ≡ true) (cf ∙ ap (λ (z : Key). z.config) key) (same_fields_self old.key.config) in
-    let n = or_parts old.global (old.key.asid == k.asid) (by_parts (same_kind old.kind leaf1) (holds old.region x) (old.key.vmid == k.vmid) (same_fields old.key.config k.config) (old.global || (old.key.asid == k.asid)) a b v f unmatched) in
+    let f : same_fields old.key.config k.config ≡ true =
+    subst (λ z. same_fields old.key.config z ≡ true) (cf ∙ ap (λ (z : Key). z.config) key) (same_fields_self old.key.config) in
+    let n = or_parts old.global (old.key.asid == k.asid)
+    (by_parts (same_kind old.kind leaf1) (holds old.region x) (old.key.vmid == k.vmid) (same_fields old.key.config k.config)
+    (old.global || (old.key.asid == k.asid)) a b v f unmatched) in
     (n.0, λ e. both_ways (old.key.asid == k.asid) n.1 (eq-eqb old.key.asid k.asid (e ∙ ap (λ (z : Key). z.asid) key)))
 
 -- two that were made in one step would serve the same

@@ -44,7 +44,8 @@ regs_now v = ap (regs_after v.core) (take_all (length v.log) v.log (omega arith)
 
 -- the items of a chain are of stage 2
 pub chain_second : (laws : Laws) (r : Regime) (p : Bool) (x : ℕ) (items : List Item) → AllSecond (marks r (chain r p x) items)
-chain_second laws r p x items = second_marks r (chain r p x) items (refl, λ i. words_second (walk2_behind (asked2 r p x) i.value) (laws.behind_words r p x i.value))
+chain_second laws r p x items =
+    second_marks r (chain r p x) items (refl, λ i. words_second (walk2_behind (asked2 r p x) i.value) (laws.behind_words r p x i.value))
 
 -- an item of stage 2 has no ASID
 pub no_asid : (m : Mark) → is_first m ≡ false → has_asid m ≡ true → ⊥
@@ -60,7 +61,8 @@ from_asks : (q : Asked2) (left base : ℕ) (l : Leaf2) → walk2_from q left bas
 from_asks q zero base l e = absurd cc
 from_asks q (suc left) base l e = absurd cc
 
-behind_if : (q : Asked2) (base : ℕ) (l : Leaf2) (b : Bool) → cond b (done (stops (fault2 q AddressSize most_left))) (walk2_from q q.sizes.start base) ≡ done (reaches l) → ⊥
+behind_if : (q : Asked2) (base : ℕ) (l : Leaf2) (b : Bool)
+    → cond b (done (stops (fault2 q AddressSize most_left))) (walk2_from q q.sizes.start base) ≡ done (reaches l) → ⊥
 behind_if q base l true e = absurd cc
 behind_if q base l false e = from_asks q q.sizes.start base l e
 
@@ -79,7 +81,8 @@ module _ (v : View) (w : Core) (f : Facts v w) where
       subst (λ n. IsHeld v (config_of (regs_when v (now v))) n m) (s.vmid_same ∙ sym (ap vmid_of (regs_now v)))
       (subst (λ c. IsHeld v c r.key.vmid m) (s.config_same ∙ sym (ap config_of (regs_now v))) h)
 
-  kept_now : (r : Row) → Same r → (m : Mark) (u : ℕ) → IsKeptItem v r.key.config r.key.vmid m u → IsKeptItem v (config_of (regs_when v (now v))) (vmid_of (regs_when v (now v))) m u
+  kept_now : (r : Row) → Same r → (m : Mark) (u : ℕ) → IsKeptItem v r.key.config r.key.vmid m u
+      → IsKeptItem v (config_of (regs_when v (now v))) (vmid_of (regs_when v (now v))) m u
   kept_now r s m u h =
       subst (λ n. IsKeptItem v (config_of (regs_when v (now v))) n m u) (s.vmid_same ∙ sym (ap vmid_of (regs_now v)))
       (subst (λ c. IsKeptItem v c r.key.vmid m u) (s.config_same ∙ sym (ap config_of (regs_now v))) h)
@@ -115,16 +118,19 @@ module _ (v : View) (w : Core) (f : Facts v w) where
     second_used : (r : Row) → Same r → (p : Bool) (x : ℕ) (items : List Item) → AllUsed (IsStored v w.inbox r) None (marks rg (chain rg p x) items) →
         AllUsed (Good v) None (marks rg (chain rg p x) items)
     second_used r s p x items h =
-        second_map (IsStored v w.inbox r) (Good v) (λ m o e q. stored_good r s m o (λ n g. absurd (no_asid m e n)) q) None (marks rg (chain rg p x) items) (chain_second laws rg p x items) h
+        second_map (IsStored v w.inbox r) (Good v) (λ m o e q. stored_good r s m o (λ n g. absurd (no_asid m e n)) q) None (marks rg (chain rg p x) items)
+        (chain_second laws rg p x items) h
 
     -- a row's chain, as it stands under the register fields of now
-    leaf_now : (r : Row) → Same r → (p : Bool) (x : ℕ) → IsLeafRow2 (IsStored (sided v (side_of a.va)) w.inbox r) (regime_of r.key.config (side_of a.va)) p r.trail x r.region.class →
+    leaf_now : (r : Row) → Same r → (p : Bool) (x : ℕ)
+        → IsLeafRow2 (IsStored (sided v (side_of a.va)) w.inbox r) (regime_of r.key.config (side_of a.va)) p r.trail x r.region.class →
         IsLeafRow2 (IsStored v w.inbox r) rg p r.trail x r.region.class
     leaf_now r s p x h =
         subst (λ u. IsLeafRow2 (IsStored u w.inbox r) rg p r.trail x r.region.class) view_is
         (subst (λ c. IsLeafRow2 (IsStored (sided v (side_of a.va)) w.inbox r) (regime_of c (side_of a.va)) p r.trail x r.region.class) s.config_same h)
 
-    table_now : (r : Row) → Same r → (p : Bool) (x : ℕ) → IsTableRow2 (IsStored (sided v (side_of a.va)) w.inbox r) (regime_of r.key.config (side_of a.va)) p r.trail x →
+    table_now : (r : Row) → Same r → (p : Bool) (x : ℕ)
+        → IsTableRow2 (IsStored (sided v (side_of a.va)) w.inbox r) (regime_of r.key.config (side_of a.va)) p r.trail x →
         IsTableRow2 (IsStored v w.inbox r) rg p r.trail x
     table_now r s p x h =
         subst (λ u. IsTableRow2 (IsStored u w.inbox r) rg p r.trail x) view_is
@@ -132,7 +138,8 @@ module _ (v : View) (w : Core) (f : Facts v w) where
 
     -- ONE ROW
 
-    leaf_start : (r : Row) (p : Bool) (x : ℕ) (otherwise : Supplied) (items : List Item) → Same r → IsLeafRow2 (IsStored v w.inbox r) rg p items x r.region.class →
+    leaf_start : (r : Row) (p : Bool) (x : ℕ) (otherwise : Supplied) (items : List Item) → Same r
+        → IsLeafRow2 (IsStored v w.inbox r) rg p items x r.region.class →
         Begins v rg p x (chain_by r otherwise items)
     leaf_start r p x o [] s h = let e : done (reaches h.leaf) ≡ chain rg p x = h.on in absurd cc
     leaf_start r p x o (i ∷ rest) s h =
@@ -149,7 +156,8 @@ module _ (v : View) (w : Core) (f : Facts v w) where
 
     table_start : (r : Row) (p : Bool) (x : ℕ) (otherwise : Supplied) (items : List Item) → Same r → IsTableRow2 (IsStored v w.inbox r) rg p items x →
         Begins v rg p x (chain_by r otherwise items)
-    table_start r p x o [] s h = let e : ask h.need h.go ≡ chain rg p x = h.on in let k : IsWords (chain rg p x) = subst IsWords e h.words in absurd (both_ways true k.1 refl)
+    table_start r p x o [] s h = let e : ask h.need h.go ≡ chain rg p x = h.on in let k : IsWords (chain rg p x) = subst IsWords e h.words in
+        absurd (both_ways true k.1 refl)
     table_start r p x o (i ∷ rest) s h =
         let last = last_stored r (marks rg (chain rg p x) (i ∷ rest)) (chain_second laws rg p x (i ∷ rest)) h.stored in
         record {
@@ -185,7 +193,8 @@ module _ (v : View) (w : Core) (f : Facts v w) where
             on = ((fresh x).0, refl);
             used = subst (λ ms. AllUsed (Good v) None (mark rg (base2 x) base_now ∷ ms)) (sym (marks_nil rg (walk2_behind (asked2 rg p x) base_now.value)))
                 (subst (Good v (mark rg (base2 x) base_now)) (sym (use_second None (mark rg (base2 x) base_now) [] (mark_first rg (base2 x) base_now))) g, tt);
-            last_base = subst (λ ms. LastIs (IsNowBase (now v)) (mark rg (base2 x) base_now ∷ ms)) (sym (marks_nil rg (walk2_behind (asked2 rg p x) base_now.value)))
+            last_base =
+                subst (λ ms. LastIs (IsNowBase (now v)) (mark rg (base2 x) base_now ∷ ms)) (sym (marks_nil rg (walk2_behind (asked2 rg p x) base_now.value)))
                 (λ b. ap (λ (i : Item). i.moment) (mark_item rg (base2 x) base_now));
             goes = λ g e. (refl, refl);
             word = λ l e. absurd (behind_asks (asked2 rg p x) base_now.value l e);
@@ -193,27 +202,32 @@ module _ (v : View) (w : Core) (f : Facts v w) where
 
       -- SEVERAL ROWS
 
-      leaf_of_row : (p : Bool) (x : ℕ) (r : Row) → In r (matching (matches leaf2 (key_of (regs_after v.core v.log)) x) w.cache.rows) → Same r × IsLeafRow2 (IsStored v w.inbox r) rg p r.trail x r.region.class
+      leaf_of_row : (p : Bool) (x : ℕ) (r : Row) → In r (matching (matches leaf2 (key_of (regs_after v.core v.log)) x) w.cache.rows)
+          → Same r × IsLeafRow2 (IsStored v w.inbox r) rg p r.trail x r.region.class
       leaf_of_row p x r h =
           let m = In-matching (matches leaf2 (key_of (regs_after v.core v.log)) x) w.cache.rows r h in
           let t = matched leaf2 (key_of (regs_after v.core v.log)) x r m.1 in
           let s = same_by leaf2 x r t in
           (s, leaf_now r s p x ((as_kind leaf2 r t.kind_is m.0).2 (side_of a.va) p x t.held))
 
-      by_table : (p : Bool) (x : ℕ) (o : Option Row) → deepest (matches table2 (key_of (regs_after v.core v.log)) x) w.cache.rows ≡ o → Begins v rg p x (begun2 (fresh_of (place_of v w.cache.rows) a (base2 x)) o)
+      by_table : (p : Bool) (x : ℕ) (o : Option Row) → deepest (matches table2 (key_of (regs_after v.core v.log)) x) w.cache.rows ≡ o
+          → Begins v rg p x (begun2 (fresh_of (place_of v w.cache.rows) a (base2 x)) o)
       by_table p x None e = base_start p x
       by_table p x (Some r) e =
           let m = In-deepest (matches table2 (key_of (regs_after v.core v.log)) x) w.cache.rows r e in
           let t = matched table2 (key_of (regs_after v.core v.log)) x r m.1 in
           let s = same_by table2 x r t in
-          table_start r p x (fresh_of (place_of v w.cache.rows) a (base2 x)) r.trail s (table_now r s p x ((as_kind table2 r t.kind_is m.0).2 (side_of a.va) p x t.held))
+          table_start r p x (fresh_of (place_of v w.cache.rows) a (base2 x)) r.trail s
+          (table_now r s p x ((as_kind table2 r t.kind_is m.0).2 (side_of a.va) p x t.held))
 
       whole_of : (p : Bool) (x : ℕ) (r : Row) → Same r × IsLeafRow2 (IsStored v w.inbox r) rg p r.trail x r.region.class → Whole v rg p x r.trail
       whole_of p x r h = record {
         leaf = h.1.leaf;
         on = h.1.on;
         used = second_used r h.0 p x r.trail h.1.stored;
-        last_base = last_word_base (now v) (marks rg (chain rg p x) r.trail) (last_stored r (marks rg (chain rg p x) r.trail) (chain_second laws rg p x r.trail) h.1.stored);
+        last_base =
+            last_word_base (now v) (marks rg (chain rg p x) r.trail)
+            (last_stored r (marks rg (chain rg p x) r.trail) (chain_second laws rg p x r.trail) h.1.stored);
       }
 
       -- two rows that match differ in their last items
@@ -229,7 +243,8 @@ module _ (v : View) (w : Core) (f : Facts v w) where
           apart.0 mr.kind_is ms.kind_is (mr.config ∙ sym ms.config) (mr.vmid ∙ sym ms.vmid) (region_same r s x mr.held ms.held c)
 
       by_rows : (p : Bool) (x : ℕ) (rs : List Row) → matching (matches leaf2 (key_of (regs_after v.core v.log)) x) w.cache.rows ≡ rs →
-          Begins v rg p x (chain_of (fresh_of (place_of v w.cache.rows) a (base2 x)) rs (deepest (matches table2 (key_of (regs_after v.core v.log)) x) w.cache.rows))
+          Begins v rg p x
+          (chain_of (fresh_of (place_of v w.cache.rows) a (base2 x)) rs (deepest (matches table2 (key_of (regs_after v.core v.log)) x) w.cache.rows))
       by_rows p x [] e = by_table p x (deepest (matches table2 (key_of (regs_after v.core v.log)) x) w.cache.rows) refl
       by_rows p x (r ∷ []) e =
           let h = leaf_of_row p x r (subst (In r) (sym e) (inl refl)) in

@@ -37,7 +37,7 @@ use Rattle.machine_laws.proofs.Stands.{on_ends}
 use Rattle.machine_laws.proofs.Fine.{Good, config_at, here, longer, issued_now}
 use Rattle.machine_laws.proofs.Fronts.{whole_leaf}
 use Rattle.machine_laws.proofs.Longer.{both_same}
-use Rattle.machine_laws.proofs.Lists.{In-append}
+use Rattle.machine_laws.proofs.Lists.{In-append, none_some}
 use Rattle.machine_laws.proofs.Making.{row_at, at_cases, held_at, closed, last}
 
 -- MARKS
@@ -49,10 +49,8 @@ record LastFirst (ms : List Mark) (m : Mark) : Type 0 where
   is : ms ≡ pre ++ m ∷ out
   second : AllSecond out
 
-none_some : {X P : Type 0} (x : X) → ◌≡◌ {A = Option X} None (Some x) → P
-none_some x h = cc
-
-no_first : (x : Mark) (ms : List Mark) (o : Option Mark) (b : Bool) → last_first ms ≡ o → is_first x ≡ b → or_mark o (cond b (Some x) None) ≡ None → (last_first ms ≡ None → AllSecond ms) → (is_first x ≡ false) × AllSecond ms
+no_first : (x : Mark) (ms : List Mark) (o : Option Mark) (b : Bool) → last_first ms ≡ o → is_first x ≡ b → or_mark o (cond b (Some x) None) ≡ None
+    → (last_first ms ≡ None → AllSecond ms) → (is_first x ≡ false) × AllSecond ms
 no_first x ms (Some y) b e f h rec = absurd cc
 no_first x ms None true e f h rec = absurd cc
 no_first x ms None false e f h rec = (f, rec e)
@@ -61,7 +59,8 @@ all_second : (ms : List Mark) → last_first ms ≡ None → AllSecond ms
 all_second [] h = tt
 all_second (x ∷ ms) h = no_first x ms (last_first ms) (is_first x) refl refl h (all_second ms)
 
-lift : (x : Mark) (ms : List Mark) (m : Mark) (o : Option Mark) (b : Bool) → last_first ms ≡ o → is_first x ≡ b → or_mark o (cond b (Some x) None) ≡ Some m → (last_first ms ≡ Some m → LastFirst ms m) → LastFirst (x ∷ ms) m
+lift : (x : Mark) (ms : List Mark) (m : Mark) (o : Option Mark) (b : Bool) → last_first ms ≡ o → is_first x ≡ b → or_mark o (cond b (Some x) None) ≡ Some m
+    → (last_first ms ≡ Some m → LastFirst ms m) → LastFirst (x ∷ ms) m
 lift x ms m (Some y) b e f h rec = let r = rec (e ∙ h) in record { pre = x ∷ r.pre; out = r.out; is = ap (λ v. x ∷ v) r.is; second = r.second }
 lift x ms m None true e f h rec = record { pre = []; out = ms; is = ap (λ (v : Mark). v ∷ ms) (same_Some x m h); second = all_second ms e }
 lift x ms m None false e f h rec = none_some m h
@@ -106,17 +105,20 @@ own_leaf : (m : Mark) → is_leaf m.part ≡ true → has_asid m ≡ true → is
 own_leaf m l h = leaf_case m.part (is_first m) l h
 
 -- an access of the piece of a landing is of its half of the addresses
-leaf_side : (c : Config) (a b : Access) (trail : List Item) (l : Landing) (ms : List Mark) → c.m ≡ true → FirstLeaf c trail ms l.class b → untagged b.va / 2 ^ l.class ≡ untagged a.va / 2 ^ l.class → side_of b.va ≡ side_of a.va
+leaf_side : (c : Config) (a b : Access) (trail : List Item) (l : Landing) (ms : List Mark) → c.m ≡ true → FirstLeaf c trail ms l.class b
+    → untagged b.va / 2 ^ l.class ≡ untagged a.va / 2 ^ l.class → side_of b.va ≡ side_of a.va
 leaf_side c a b trail l ms m t near =
     let r : Regime = regime_for c b in
-    let d = walk_in_step r (of_fields c (side_of b.va)) b b m refl trail t.landing (takes_ends (fits r) (walk c false b) trail (reaches t.landing) (on_ends r (walk c false b) (reaches t.landing) trail t.on)) in
+    let d = walk_in_step r (of_fields c (side_of b.va)) b b m refl trail t.landing
+    (takes_ends (fits r) (walk c false b) trail (reaches t.landing) (on_ends r (walk c false b) (reaches t.landing) trail t.on)) in
     let n = d.most in
     let e = t.class_is in
     same_side b.va a.va l.class (omega (arith, n, e)) near
 
 -- THE ROW
 
-module _ (laws : Laws) (v : View) (s : Step) (none : (i : Inval) → issued_now v s.event ≡ Some i → ⊥) (inbox : List Inval) (a : Access) (side : v.side ≡ side_of a.va) where
+module _ (laws : Laws) (v : View) (s : Step) (none : (i : Inval) → issued_now v s.event ≡ Some i → ⊥) (inbox : List Inval) (a : Access)
+    (side : v.side ≡ side_of a.va) where
   abbrev regs : Regs
   regs = regs_after v.core v.log
 
@@ -140,7 +142,8 @@ module _ (laws : Laws) (v : View) (s : Step) (none : (i : Inval) → issued_now 
   abbrev AllGood : List Item → Type 0
   AllGood trail = AllUsed (Good v) None (marks R (here v a) trail)
 
-  leaf1_row : (trail : List Item) (l : Landing) (m : Mark) → IsOn R (here v a) trail (done (reaches l)) → AllGood trail → last_first (marks R (here v a) trail) ≡ Some m
+  leaf1_row : (trail : List Item) (l : Landing) (m : Mark) → IsOn R (here v a) trail (done (reaches l)) → AllGood trail
+      → last_first (marks R (here v a) trail) ≡ Some m
       → m.item.moment ≡ now v → is_first m ≡ true → is_leaf m.part ≡ true → IsRow (longer v s) inbox (row_with (key_of regs) l.class m trail)
   leaf1_row trail l m on used is at first lf = λ b suits.
       let r : Row = row_with (key_of regs) l.class m trail in
@@ -152,7 +155,8 @@ module _ (laws : Laws) (v : View) (s : Step) (none : (i : Inval) → issued_now 
       let t = laws.first_leaf (config_at v) a b trail l suits.on suits.accepted on near in
       let e : side_of b.va ≡ v.side = leaf_side (config_at v) a b trail l (marks R (here v a) trail) suits.on t near ∙ sym side in
       let stored : AllUsed (IsStored (sided (longer v s) (side_of b.va)) inbox r) None (d.pre ++ m ∷ d.out) =
-      whole_leaf (Good v) (IsStored (sided (longer v s) (side_of b.va)) inbox r) (λ x u. closed laws v s none inbox (side_of b.va) r refl refl x u (both_same v.side (side_of b.va) x e)) None d.pre m d.out first lf d.second
+      whole_leaf (Good v) (IsStored (sided (longer v s) (side_of b.va)) inbox r)
+      (λ x u. closed laws v s none inbox (side_of b.va) r refl refl x u (both_same v.side (side_of b.va) x e)) None d.pre m d.out first lf d.second
       (last laws v s none inbox (side_of b.va) r refl refl m (both_same v.side (side_of b.va) m e) at base refl (λ n. (refl, own_leaf m lf n)) held) used2 in
       record {
         landing = t.landing;
@@ -165,7 +169,8 @@ module _ (laws : Laws) (v : View) (s : Step) (none : (i : Inval) → issued_now 
   abbrev All : List Row → Type 0
   All rs = (r : Row) → In r rs → IsRow (longer v s) inbox r
 
-  leaf_if : (trail : List Item) (l : Landing) (m : Mark) (b : Bool) → (is_mark_leaf1 m && is_read_now maker m) ≡ b → IsOn R (here v a) trail (done (reaches l)) → AllGood trail → last_first (marks R (here v a) trail) ≡ Some m
+  leaf_if : (trail : List Item) (l : Landing) (m : Mark) (b : Bool) → (is_mark_leaf1 m && is_read_now maker m) ≡ b
+      → IsOn R (here v a) trail (done (reaches l)) → AllGood trail → last_first (marks R (here v a) trail) ≡ Some m
       → All (cond b (leaf_row maker l.class (untagged a.va) m trail ∷ []) [])
   leaf_if trail l m false e on used is = λ r i. absurd i
   leaf_if trail l m true e on used is = λ r i.
@@ -177,12 +182,14 @@ module _ (laws : Laws) (v : View) (s : Step) (none : (i : Inval) → issued_now 
         | inr h ↦ absurd h
       ]
 
-  leaf_by : (trail : List Item) (l : Landing) (o : Option Mark) → last_first (marks R (here v a) trail) ≡ o → IsOn R (here v a) trail (done (reaches l)) → AllGood trail → All (leaf_rows maker l.class (untagged a.va) trail o)
+  leaf_by : (trail : List Item) (l : Landing) (o : Option Mark) → last_first (marks R (here v a) trail) ≡ o → IsOn R (here v a) trail (done (reaches l))
+      → AllGood trail → All (leaf_rows maker l.class (untagged a.va) trail o)
   leaf_by trail l None e on used = λ r i. absurd i
   leaf_by trail l (Some m) e on used = leaf_if trail l m (is_mark_leaf1 m && is_read_now maker m) refl on used e
 
   -- the combined row of a walk
-  pub combined_row : (trail : List Item) (e : End Landing) → IsOn R (here v a) trail (done e) → AllGood trail → (r : Row) → In r (combined_rows maker (untagged a.va) trail (marks R (here v a) trail) (ended e)) → IsRow (longer v s) inbox r
+  pub combined_row : (trail : List Item) (e : End Landing) → IsOn R (here v a) trail (done e) → AllGood trail → (r : Row)
+      → In r (combined_rows maker (untagged a.va) trail (marks R (here v a) trail) (ended e)) → IsRow (longer v s) inbox r
   combined_row trail (stops f) on used = λ r i. absurd i
   combined_row trail (reaches l) on used = leaf_by trail l (last_first (marks R (here v a) trail)) refl on used
 
@@ -202,7 +209,8 @@ pub record IsMade1 (k : Maker) (class x : ℕ) (ms : List Mark) (r : Row) : Type
   pub region_is : r.region ≡ record { class = class; start = x / 2 ^ class }
   pub global_is : r.global ≡ is_global mark_of.part
 
-leaf_made : (k : Maker) (class x : ℕ) (trail : List Item) (ms : List Mark) (m : Mark) (b : Bool) (r : Row) → last_first ms ≡ Some m → (is_mark_leaf1 m && is_read_now k m) ≡ b
+leaf_made : (k : Maker) (class x : ℕ) (trail : List Item) (ms : List Mark) (m : Mark) (b : Bool) (r : Row) → last_first ms ≡ Some m
+    → (is_mark_leaf1 m && is_read_now k m) ≡ b
     → In r (cond b (leaf_row k class x m trail ∷ []) []) → IsMade1 k class x ms r
 leaf_made k class x trail ms m false r e q h = absurd h
 leaf_made k class x trail ms m true r e q (inl h) =
@@ -217,11 +225,13 @@ leaf_made k class x trail ms m true r e q (inl h) =
     }
 leaf_made k class x trail ms m true r e q (inr h) = absurd h
 
-leaves_made : (k : Maker) (class x : ℕ) (trail : List Item) (ms : List Mark) (o : Option Mark) (r : Row) → last_first ms ≡ o → In r (leaf_rows k class x trail o) → IsMade1 k class x ms r
+leaves_made : (k : Maker) (class x : ℕ) (trail : List Item) (ms : List Mark) (o : Option Mark) (r : Row) → last_first ms ≡ o
+    → In r (leaf_rows k class x trail o) → IsMade1 k class x ms r
 leaves_made k class x trail ms None r e h = absurd h
 leaves_made k class x trail ms (Some m) r e h = leaf_made k class x trail ms m (is_mark_leaf1 m && is_read_now k m) r e refl h
 
-combined_made : (k : Maker) (x : ℕ) (trail : List Item) (ms : List Mark) (end : Fed Need (End Landing)) (r : Row) → In r (combined_rows k x trail ms end) → IsMade1 k (end_class end) x ms r
+combined_made : (k : Maker) (x : ℕ) (trail : List Item) (ms : List Mark) (end : Fed Need (End Landing)) (r : Row) → In r (combined_rows k x trail ms end)
+    → IsMade1 k (end_class end) x ms r
 combined_made k x trail ms (ended (stops f)) r h = absurd h
 combined_made k x trail ms (ended (reaches l)) r h = leaves_made k l.class x trail ms (last_first ms) r refl h
 combined_made k x trail ms (lacks n) r h = absurd h
@@ -258,7 +268,8 @@ numbered_cases n [] r h = absurd h
 numbered_cases n (z ∷ rows) r (inl e) = (z, inl refl, (made_in z.made.step n, e))
 numbered_cases n (z ∷ rows) r (inr i) = let c = numbered_cases (n + 1) rows r i in (c.0, inr c.1, c.2)
 
-pub made_one : (k : Maker) (x : ℕ) (trail : List Item) (ms : List Mark) (end : Fed Need (End Landing)) (r : Row) → In r (rows_made k x trail ms end) → r.kind ≡ leaf1 → IsMade1 k (end_class end) x ms r
+pub made_one : (k : Maker) (x : ℕ) (trail : List Item) (ms : List Mark) (end : Fed Need (End Landing)) (r : Row) → In r (rows_made k x trail ms end)
+    → r.kind ≡ leaf1 → IsMade1 k (end_class end) x ms r
 made_one k x trail ms end r h e =
     let c = numbered_cases 0 (rows_of k [] [] ms ++ combined_rows k x trail ms end) r h in
     let z : Row = c.0 in
@@ -266,5 +277,6 @@ made_one k x trail ms end r h e =
       | inl i ↦ absurd (not_combined k [] [] ms z i (sym (ap (λ (q : Row). q.kind) c.2.1) ∙ e))
       | inr i ↦
           let d = combined_made k x trail ms end z i in
-          subst (IsMade1 k (end_class end) x ms) (sym c.2.1) (record { mark_of = d.mark_of; last_is = d.last_is; read = d.read; key_is = d.key_is; region_is = d.region_is; global_is = d.global_is })
+          subst (IsMade1 k (end_class end) x ms) (sym c.2.1)
+          (record { mark_of = d.mark_of; last_is = d.last_is; read = d.read; key_is = d.key_is; region_is = d.region_is; global_is = d.global_is })
     ]

@@ -48,11 +48,25 @@ switches_same a b h = grind (arith, bool_same a.m b.m, bool_same a.i b.i, bool_s
 
 rest_same : (a b : Config) → same_rest a b ≡ true → SameSwitches a b × SameUpdates a b × SameStage2 a b
 rest_same a b h =
-    let p10 = and_parts (same_bool a.m b.m && same_bool a.i b.i && same_bool a.wxn b.wxn && same_bool a.epan b.epan && same_bool a.ha1 b.ha1 && same_bool a.hd1 b.hd1 && same_bool a.vm b.vm && same_bool a.ptw b.ptw && same_bool a.ha2 b.ha2) (same_bool a.hd2 b.hd2) h in
-    let p9 = and_parts (same_bool a.m b.m && same_bool a.i b.i && same_bool a.wxn b.wxn && same_bool a.epan b.epan && same_bool a.ha1 b.ha1 && same_bool a.hd1 b.hd1 && same_bool a.vm b.vm && same_bool a.ptw b.ptw) (same_bool a.ha2 b.ha2) p10.0 in
-    let p8 = and_parts (same_bool a.m b.m && same_bool a.i b.i && same_bool a.wxn b.wxn && same_bool a.epan b.epan && same_bool a.ha1 b.ha1 && same_bool a.hd1 b.hd1 && same_bool a.vm b.vm) (same_bool a.ptw b.ptw) p9.0 in
-    let p7 = and_parts (same_bool a.m b.m && same_bool a.i b.i && same_bool a.wxn b.wxn && same_bool a.epan b.epan && same_bool a.ha1 b.ha1 && same_bool a.hd1 b.hd1) (same_bool a.vm b.vm) p8.0 in
-    let p6 = and_parts (same_bool a.m b.m && same_bool a.i b.i && same_bool a.wxn b.wxn && same_bool a.epan b.epan && same_bool a.ha1 b.ha1) (same_bool a.hd1 b.hd1) p7.0 in
+    let p10 =
+    and_parts
+    (same_bool a.m b.m && same_bool a.i b.i && same_bool a.wxn b.wxn && same_bool a.epan b.epan && same_bool a.ha1 b.ha1 && same_bool a.hd1 b.hd1 &&
+    same_bool a.vm b.vm && same_bool a.ptw b.ptw && same_bool a.ha2 b.ha2) (same_bool a.hd2 b.hd2) h in
+    let p9 =
+    and_parts
+    (same_bool a.m b.m && same_bool a.i b.i && same_bool a.wxn b.wxn && same_bool a.epan b.epan && same_bool a.ha1 b.ha1 && same_bool a.hd1 b.hd1 &&
+    same_bool a.vm b.vm && same_bool a.ptw b.ptw) (same_bool a.ha2 b.ha2) p10.0 in
+    let p8 =
+    and_parts
+    (same_bool a.m b.m && same_bool a.i b.i && same_bool a.wxn b.wxn && same_bool a.epan b.epan && same_bool a.ha1 b.ha1 && same_bool a.hd1 b.hd1 &&
+    same_bool a.vm b.vm) (same_bool a.ptw b.ptw) p9.0 in
+    let p7 =
+    and_parts
+    (same_bool a.m b.m && same_bool a.i b.i && same_bool a.wxn b.wxn && same_bool a.epan b.epan && same_bool a.ha1 b.ha1 && same_bool a.hd1 b.hd1)
+    (same_bool a.vm b.vm) p8.0 in
+    let p6 =
+    and_parts (same_bool a.m b.m && same_bool a.i b.i && same_bool a.wxn b.wxn && same_bool a.epan b.epan && same_bool a.ha1 b.ha1)
+    (same_bool a.hd1 b.hd1) p7.0 in
     let p5 = and_parts (same_bool a.m b.m && same_bool a.i b.i && same_bool a.wxn b.wxn && same_bool a.epan b.epan) (same_bool a.ha1 b.ha1) p6.0 in (
       switches_same a b p5.0,
       record { ha1 = bool_same a.ha1 b.ha1 p5.1; hd1 = bool_same a.hd1 b.hd1 p6.1; ha2 = bool_same a.ha2 b.ha2 p9.1; hd2 = bool_same a.hd2 b.hd2 p10.1 },

@@ -25,23 +25,14 @@ use Rattle.machine_spec.specs.Machine.{Core, World, no_core, killed, delivered_b
 use Rattle.machine_laws.specs.Headline.{core_named}
 use Rattle.machine_laws.proofs.Facts.{In, sided, view_of, IsApart, AllApart, Facts, AllFacts}
 use Rattle.machine_laws.proofs.Fine.{place_of, ServedOk, ServesWell, longer, issued_now, MadeOk, MakesWell}
-use Rattle.machine_laws.proofs.Lists.{In-filter, In-from_filter, In-left, In-last, In-push_cases}
-use Rattle.machine_laws.proofs.Logs.{none_some, bank-last, memory-last, issued_in}
+use Rattle.machine_laws.proofs.Lists.{In-filter, In-from_filter, In-left, In-last, In-push_cases, none_some}
+use Rattle.machine_laws.proofs.Logs.{bank-last, memory-last, issued_in}
+use Rattle.machine_laws.proofs.Pairs.{pairs_filter}
 use Rattle.machine_laws.proofs.Lasting.{Stays, moves}
-
--- ROWS THAT STAY TOLD APART
-
-apart_if : (r : Row) (rs : List Row) (b : Bool) → ((s : Row) → In s rs → IsApart r s) → AllApart rs → AllApart (cond b (r ∷ rs) rs)
-apart_if r rs true h a = (h, a)
-apart_if r rs false h a = a
-
-apart_filter : (p : Row → Bool) (rs : List Row) → AllApart rs → AllApart (filter p rs)
-apart_filter p [] a = tt
-apart_filter p (r ∷ rs) a = apart_if r (filter p rs) (p r) (λ s i. a.0 s (In-from_filter p rs s i).0) (apart_filter p rs a.1)
 
 -- WHAT AN INBOX LOSES
 
-covered_not : (b : Bool) → not b ≡ true → b ≡ true → ⊥
+pub covered_not : (b : Bool) → not b ≡ true → b ≡ true → ⊥
 covered_not b h k = both_ways b (not-true b h) k
 
 -- a core with fewer messages and fewer rows, of which none is covered by a message that is gone
@@ -65,16 +56,16 @@ less_by w (i ∷ later) e = record {
             let m2 : In j (i ∷ later) = subst (In j) e m in
             elim m2 [ inl q ↦ absurd (covered_not (covers i r.tag) p.1 (subst (λ x. covers x r.tag ≡ true) q cov)) | inr q ↦ q ],
       );
-  apart = apart_filter (λ (x : Row). not (covers i x.tag)) w.cache.rows;
+  apart = pairs_filter IsApart (λ (x : Row). not (covers i x.tag)) w.cache.rows;
 }
 
 -- THE MESSAGES THAT A BARRIER COMPLETES
 
 left_apart : (is : List Inval) (l : Cache) → AllApart l.rows → AllApart (fold killed l is).rows
 left_apart [] l h = h
-left_apart (j ∷ js) l h = left_apart js (killed l j) (apart_filter (λ (x : Row). not (covers j x.tag)) l.rows h)
+left_apart (j ∷ js) l h = left_apart js (killed l j) (pairs_filter IsApart (λ (x : Row). not (covers j x.tag)) l.rows h)
 
-rows_left : (is : List Inval) (l : Cache) (r : Row) → In r (fold killed l is).rows → In r l.rows × ((i : Inval) → In i is → covers i r.tag ≡ true → ⊥)
+pub rows_left : (is : List Inval) (l : Cache) (r : Row) → In r (fold killed l is).rows → In r l.rows × ((i : Inval) → In i is → covers i r.tag ≡ true → ⊥)
 rows_left [] l r h = (h, λ i m cov. m)
 rows_left (j ∷ js) l r h =
     let p = rows_left js (killed l j) r h in
@@ -136,7 +127,8 @@ module _ (v : View) (s : Step) (w : Core) (f : Facts v w) (b : Bank) (re : b ≡
   issued_on i true e quiet is = mailed_on i (nat_lt (length w.inbox) most_held) quiet is
   issued_on i false e quiet is = moves v s w (with_bank w b) f re
       (λ j h. inl (h, quiet j))
-      (λ j h reach. let q : i ≡ j = same_Some i j (sym is ∙ h) in absurd (both_ways (reaches_core i v.core) e (subst (λ y. reaches_core y v.core ≡ true) (sym q) reach)))
+      (λ j h reach. let q : i ≡ j = same_Some i j (sym is ∙ h) in
+      absurd (both_ways (reaches_core i v.core) e (subst (λ y. reaches_core y v.core ≡ true) (sym q) reach)))
       (λ r h. inl (h, λ j m cov. m))
       f.apart
 

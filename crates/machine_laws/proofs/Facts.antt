@@ -1,5 +1,5 @@
 -- What holds of each core behind each front of a run: its rows, its invalidations, its registers.
-use Rattle.std.proofs.Common.{◌≡◌, ℕ, ◌<◌, ◌≤◌, Bool, true, false, List, [], ◌∷◌, ◌++◌, length, ◌⊎◌, Option, Some, None}
+use Rattle.std.proofs.Common.{◌≡◌, ℕ, ◌<◌, ◌≤◌, Bool, true, false, List, [], ◌∷◌, ◌++◌, length, Option, Some, None}
 use Rattle.sysregs.specs.declared.regs.Config.{Config}
 use Rattle.sysregs.specs.declared.regs.Side.{Side}
 use Rattle.sysregs.specs.Registers.{asid_of}
@@ -26,12 +26,9 @@ use Rattle.machine_spec.specs.Kept.{View, now, regs_when, tag_of, IsHeld, IsKept
 use Rattle.machine_spec.specs.Rows.{Row, holds}
 use Rattle.machine_spec.specs.Made.{last_first}
 use Rattle.machine_spec.specs.Machine.{Core, World, core_of}
+pub use Rattle.machine_laws.specs.Leaving.{In}
+use Rattle.machine_laws.proofs.Pairs.{AllPairs}
 use Rattle.machine_laws.proofs.Trees.{IsOn, chain, Plan, fin, flat, IsSound, IsWords}
-
--- membership
-abbrev pub In : {X : Type 0} → X → List X → Type 0
-In x [] = ⊥
-In x (y ∷ ys) = (x ≡ y) ⊎ In x ys
 
 -- the view of a core, of an access of this side
 abbrev pub sided : View → Side → View
@@ -127,8 +124,7 @@ abbrev pub IsApart : Row → Row → Type 0
 IsApart r s = IsApart2 r s × IsApart1 r s
 
 abbrev pub AllApart : List Row → Type 0
-AllApart [] = Unit {0}
-AllApart (r ∷ rs) = ((s : Row) → In s rs → IsApart r s) × AllApart rs
+AllApart rows = AllPairs IsApart rows
 
 -- the facts of a core behind a log; the side of the view doesn't count
 pub record Facts (v : View) (w : Core) : Type 0 where

@@ -13,7 +13,8 @@ use Rattle.machine_spec.specs.Header.{Kind}
 use Rattle.machine_spec.specs.Rows.{Row, same_fields, same_kind, holds, matches, matches1, is_older, inserted, by_making, matching, closer, deepest}
 use Rattle.machine_spec.specs.Served.{Supplied, gives, nothing, both, Reply, pushed, serve, taken}
 use Rattle.machine_laws.proofs.Facts.{In, IsApart, AllApart}
-use Rattle.machine_laws.proofs.Lists.{In-from_filter, In-append}
+use Rattle.machine_laws.proofs.Lists.{In-from_filter, In-append, none_some}
+use Rattle.machine_laws.proofs.Pairs.{pairs_filter}
 use Rattle.machine_laws.proofs.Equal.{fields_same, kind_same}
 
 -- IN THE ORDER OF MAKING
@@ -41,7 +42,8 @@ apart_sym r s h = (
   λ ls lr cf vm rg gl. let d = h.1 lr ls (sym cf) (sym vm) (sym rg) (sym gl) in (gl ∙ d.0, λ e. d.1 (sym e)),
 )
 
-apart_inserted_if : (r s : Row) (rs ns : List Row) (b : Bool) → AllApart (r ∷ s ∷ rs) → ((x : Row) → In x ns → IsApart s x) → AllApart ns → AllApart (cond b (r ∷ s ∷ rs) (s ∷ ns))
+apart_inserted_if : (r s : Row) (rs ns : List Row) (b : Bool) → AllApart (r ∷ s ∷ rs) → ((x : Row) → In x ns → IsApart s x) → AllApart ns
+    → AllApart (cond b (r ∷ s ∷ rs) (s ∷ ns))
 apart_inserted_if r s rs ns true a h n = a
 apart_inserted_if r s rs ns false a h n = (h, n)
 
@@ -56,16 +58,8 @@ pub apart_by_making : (rs : List Row) → AllApart rs → AllApart (by_making rs
 apart_by_making [] a = tt
 apart_by_making (r ∷ rs) a = apart_inserted r (by_making rs) (λ s i. a.0 s (In-by_making s rs i)) (apart_by_making rs a.1)
 
-apart_if : (r : Row) (rs : List Row) (b : Bool) → ((s : Row) → In s rs → IsApart r s) → AllApart rs → AllApart (cond b (r ∷ rs) rs)
-apart_if r rs true h a = (h, a)
-apart_if r rs false h a = a
-
-pub apart_filter : (test : Row → Bool) (rs : List Row) → AllApart rs → AllApart (filter test rs)
-apart_filter test [] a = tt
-apart_filter test (r ∷ rs) a = apart_if r (filter test rs) (test r) (λ s i. a.0 s (In-from_filter test rs s i).0) (apart_filter test rs a.1)
-
 pub apart_matching : (test : Row → Bool) (rows : List Row) → AllApart rows → AllApart (matching test rows)
-apart_matching test rows a = apart_by_making (filter test rows) (apart_filter test rows a)
+apart_matching test rows a = apart_by_making (filter test rows) (pairs_filter IsApart test rows a)
 
 -- THE DEEPEST
 
@@ -76,9 +70,6 @@ closer_if r x s false h = inl (sym (same_Some r x h))
 closer_case : (r x : Row) (o : Option Row) → closer r o ≡ Some x → (x ≡ r) ⊎ (o ≡ Some x)
 closer_case r x None h = inl (sym (same_Some r x h))
 closer_case r x (Some s) h = closer_if r x s (nat_lt s.region.class r.region.class) h
-
-none_some : {X P : Type 0} (x : X) → ◌≡◌ {A = Option X} None (Some x) → P
-none_some x h = cc
 
 deepest_if : (test : Row → Bool) (r x : Row) (rs : List Row) (b : Bool) → test r ≡ b → (deepest test rs ≡ Some x → In x rs × (test x ≡ true)) →
     cond b (closer r (deepest test rs)) (deepest test rs) ≡ Some x → In x (r ∷ rs) × (test x ≡ true)

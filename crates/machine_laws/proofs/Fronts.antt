@@ -1,65 +1,17 @@
 -- What a new row keeps of the trail of its step: the uses of the items of a front, of a chain, and of a whole trail.
-use Rattle.std.proofs.Common.{◌≡◌, ℕ, Bool, true, false, ◌&&◌, cond, List, [], ◌∷◌, ◌++◌, refl, sym, ap, ◌∙◌, subst, Option, Some, None}
+use Rattle.std.proofs.Common.{◌≡◌, ℕ, true, false, List, [], ◌∷◌, ◌++◌, sym, ◌∙◌, subst, Option, Some, None}
 use Rattle.machine_spec.specs.Marks.{Mark, is_first, is_leaf}
-use Rattle.machine_spec.specs.Uses.{next_first, next_second, use_of, above_of, AllUsed}
+use Rattle.machine_spec.specs.Uses.{next_second, use_of, above_of, AllUsed}
 use Rattle.machine_laws.proofs.Trees.{AllSecond}
-
--- uses by whether the item is of stage 1
-abbrev use_by : Option ℕ → Bool → List Mark → Option ℕ
-use_by above b later = cond b (next_first later) (next_second above later)
-
-abbrev above_by : Option ℕ → Bool → Bool → ℕ → Option ℕ
-above_by above b l k = cond b (cond (b && l) (Some k) None) above
-
-use_second : (above : Option ℕ) (m : Mark) (later : List Mark) → is_first m ≡ false → use_of above m later ≡ next_second above later
-use_second above m later h = ap (λ b. use_by above b later) h
-
-use_first : (above : Option ℕ) (m : Mark) (later : List Mark) → is_first m ≡ true → use_of above m later ≡ next_first later
-use_first above m later h = ap (λ b. use_by above b later) h
-
-above_second : (above : Option ℕ) (m : Mark) → is_first m ≡ false → above_of above m ≡ above
-above_second above m h = ap (λ b. above_by above b (is_leaf m.part) m.item.moment) h
-
-above_leaf : (above : Option ℕ) (m : Mark) → is_first m ≡ true → is_leaf m.part ≡ true → above_of above m ≡ Some m.item.moment
-above_leaf above m h l = ap (λ b. above_by above b (is_leaf m.part) m.item.moment) h ∙ ap (λ b. above_by above true b m.item.moment) l
-
-cond_false : (b : Bool) (u v : Option ℕ) → b ≡ false → cond b u v ≡ v
-cond_false b u v h = rw h refl
-
-cond_true : (b : Bool) (u v : Option ℕ) → b ≡ true → cond b u v ≡ u
-cond_true b u v h = rw h refl
-
-none_of : (ms : List Mark) → AllSecond ms → next_first ms ≡ None
-none_of [] h = refl
-none_of (x ∷ xs) h = cond_false (is_first x) (Some x.item.moment) (next_first xs) h.0 ∙ none_of xs h.1
-
--- a stage 1 item that follows decides
-first_some : (b : Bool) (v : ℕ) (xs ys : Option ℕ) → ((u : ℕ) × (xs ≡ Some u) × (ys ≡ Some u)) → (u : ℕ) × (cond b (Some v) xs ≡ Some u) × (cond b (Some v) ys ≡ Some u)
-first_some true v xs ys h = (v, refl, refl)
-first_some false v xs ys h = h
-
-next_first_some : (pre : List Mark) (m : Mark) (ms : List Mark) → is_first m ≡ true → (u : ℕ) × (next_first (pre ++ m ∷ ms) ≡ Some u) × (next_first (pre ++ m ∷ []) ≡ Some u)
-next_first_some [] m ms f = (m.item.moment, cond_true (is_first m) (Some m.item.moment) (next_first ms) f, cond_true (is_first m) (Some m.item.moment) None f)
-next_first_some (x ∷ pre) m ms f = first_some (is_first x) x.item.moment (next_first (pre ++ m ∷ ms)) (next_first (pre ++ m ∷ [])) (next_first_some pre m ms f)
-
-next_second_some : (above : Option ℕ) (pre : List Mark) (m : Mark) (ms : List Mark) → (u : ℕ) × (next_second above (pre ++ m ∷ ms) ≡ Some u) × (next_second above (pre ++ m ∷ []) ≡ Some u)
-next_second_some above [] m ms = (m.item.moment, refl, refl)
-next_second_some above (x ∷ pre) m ms = (x.item.moment, refl, refl)
-
-use_case : (above : Option ℕ) (b : Bool) (pre : List Mark) (m : Mark) (ms : List Mark) → is_first m ≡ true → (u : ℕ) × (use_by above b (pre ++ m ∷ ms) ≡ Some u) × (use_by above b (pre ++ m ∷ []) ≡ Some u)
-use_case above true pre m ms f = next_first_some pre m ms f
-use_case above false pre m ms f = next_second_some above pre m ms
-
--- before an item of stage 1 each item has a use that what follows that item doesn't change
-use_some : (above : Option ℕ) (x : Mark) (pre : List Mark) (m : Mark) (ms : List Mark) → is_first m ≡ true → (u : ℕ) × (use_of above x (pre ++ m ∷ ms) ≡ Some u) × (use_of above x (pre ++ m ∷ []) ≡ Some u)
-use_some above x pre m ms f = use_case above (is_first x) pre m ms f
+use Rattle.machine_laws.proofs.Uses.{use_second, use_first, above_second, above_leaf, none_of, use_some}
 
 module _ (P Q : Mark → Option ℕ → Type 0) (closed : (m : Mark) (u : ℕ) → P m (Some u) → Q m (Some u)) where
   some_goes : (m : Mark) (o q : Option ℕ) (u : ℕ) → o ≡ Some u → q ≡ Some u → P m o → Q m q
   some_goes m o q u e f p = subst (Q m) (sym f) (closed m u (subst (P m) e p))
 
   -- up to an item of stage 1, whose own use is to come
-  pub front_first : (above : Option ℕ) (pre : List Mark) (m : Mark) (ms : List Mark) → is_first m ≡ true → Q m None → AllUsed P above (pre ++ m ∷ ms) → AllUsed Q above (pre ++ m ∷ [])
+  pub front_first : (above : Option ℕ) (pre : List Mark) (m : Mark) (ms : List Mark) → is_first m ≡ true → Q m None → AllUsed P above (pre ++ m ∷ ms)
+      → AllUsed Q above (pre ++ m ∷ [])
   front_first above [] m ms f q p = (subst (Q m) (sym (use_first above m [] f)) q, tt)
   front_first above (x ∷ pre) m ms f q p =
       let k = use_some above x pre m ms f in
@@ -78,7 +30,8 @@ module _ (P Q : Mark → Option ℕ → Type 0) (closed : (m : Mark) (u : ℕ) �
   )
 
   -- a whole trail, of which the stage 1 leaf alone has its use to come
-  pub whole_leaf : (above : Option ℕ) (pre : List Mark) (m : Mark) (ms : List Mark) → is_first m ≡ true → is_leaf m.part ≡ true → AllSecond ms → Q m None → AllUsed P above (pre ++ m ∷ ms) → AllUsed Q above (pre ++ m ∷ ms)
+  pub whole_leaf : (above : Option ℕ) (pre : List Mark) (m : Mark) (ms : List Mark) → is_first m ≡ true → is_leaf m.part ≡ true → AllSecond ms → Q m None
+      → AllUsed P above (pre ++ m ∷ ms) → AllUsed Q above (pre ++ m ∷ ms)
   whole_leaf above [] m ms f l s q p = (
     subst (Q m) (sym (use_first above m ms f ∙ none_of ms s)) q,
     subst (λ v. AllUsed Q v ms) (sym (above_leaf above m f l)) (out_closed m.item.moment ms s (subst (λ v. AllUsed P v ms) (above_leaf above m f l) p.1)),
@@ -88,13 +41,15 @@ module _ (P Q : Mark → Option ℕ → Type 0) (closed : (m : Mark) (u : ℕ) �
       (some_goes x (use_of above x (pre ++ m ∷ ms)) (use_of above x (pre ++ m ∷ ms)) k.0 k.1 k.1 p.0, whole_leaf (above_of above x) pre m ms f l s q p.1)
 
 module _ (P Q : Mark → Option ℕ → Type 0) (closed : (m : Mark) (u : ℕ) → is_first m ≡ false → P m (Some u) → Q m (Some u)) where
-  head2 : (above : Option ℕ) (x : Mark) (pre : List Mark) (m : Mark) (ms : List Mark) → is_first x ≡ false → P x (use_of above x (pre ++ m ∷ ms)) → Q x (use_of None x (pre ++ m ∷ []))
+  head2 : (above : Option ℕ) (x : Mark) (pre : List Mark) (m : Mark) (ms : List Mark) → is_first x ≡ false → P x (use_of above x (pre ++ m ∷ ms))
+      → Q x (use_of None x (pre ++ m ∷ []))
   head2 above x [] m ms s p = subst (Q x) (sym (use_second None x (m ∷ []) s)) (closed x m.item.moment s (subst (P x) (use_second above x (m ∷ ms) s) p))
   head2 above x (y ∷ pre) m ms s p =
       subst (Q x) (sym (use_second None x (y ∷ (pre ++ m ∷ [])) s)) (closed x y.item.moment s (subst (P x) (use_second above x (y ∷ (pre ++ m ∷ ms)) s) p))
 
   -- a chain of stage 2 up to an item whose own use is to come, from the rest of the trail that begins with it
-  pub front_second : (above : Option ℕ) (pre : List Mark) (m : Mark) (ms : List Mark) → AllSecond pre → is_first m ≡ false → Q m None → AllUsed P above (pre ++ m ∷ ms) → AllUsed Q None (pre ++ m ∷ [])
+  pub front_second : (above : Option ℕ) (pre : List Mark) (m : Mark) (ms : List Mark) → AllSecond pre → is_first m ≡ false → Q m None
+      → AllUsed P above (pre ++ m ∷ ms) → AllUsed Q None (pre ++ m ∷ [])
   front_second above [] m ms s f q p = (subst (Q m) (sym (use_second None m [] f)) q, tt)
   front_second above (x ∷ pre) m ms s f q p = (
     head2 above x pre m ms s.0 p.0,

@@ -53,7 +53,16 @@ record CutBehind (r : Regime) (m : Mark) (t u : Ask Need Item (End Landing)) (xs
 cut_more : (pm ms cut : List Mark) → IsCut ms cut → IsCut (pm ++ ms) (pm ++ cut)
 cut_more pm ms cut (inl e) = inl (ap (λ v. pm ++ v) e)
 cut_more pm ms cut (inr k) =
-    inr (pm ++ k.0, k.1, k.2, k.3, k.4, k.5, ap (λ v. pm ++ v) k.6 ∙ sym (append_assoc pm k.0 (k.1 ∷ k.2)), ap (λ v. pm ++ v) k.7 ∙ sym (append_assoc pm k.0 (k.1 ∷ [])))
+    inr (
+      pm ++ k.0,
+      k.1,
+      k.2,
+      k.3,
+      k.4,
+      k.5,
+      ap (λ v. pm ++ v) k.6 ∙ sym (append_assoc pm k.0 (k.1 ∷ k.2)),
+      ap (λ v. pm ++ v) k.7 ∙ sym (append_assoc pm k.0 (k.1 ∷ [])),
+    )
 
 module _ (r : Regime) (a : Access) (l : Landing) where
   abbrev There : Ask Need Item (End Landing)
@@ -64,7 +73,15 @@ module _ (r : Regime) (a : Access) (l : Landing) where
 
   behind : (m : Mark) (t u : Ask Need Item (End Landing)) (xs : List Item) → CutAt r t u xs → CutBehind r m t u xs
   behind m t u xs c =
-      record { front = c.front; rest = c.rest; is = c.is; end = c.end; on = c.on; fine = c.fine; cut = cut_more (m ∷ []) (marks r t xs) (marks r u c.front) c.cut }
+      record {
+        front = c.front;
+        rest = c.rest;
+        is = c.is;
+        end = c.end;
+        on = c.on;
+        fine = c.fine;
+        cut = cut_more (m ∷ []) (marks r t xs) (marks r u c.front) c.cut;
+      }
 
   abbrev without : Asked
   without = under r false a
@@ -94,11 +111,13 @@ module _ (r : Regime) (a : Access) (l : Landing) where
             ∙ sym (marks_after r (chain r false k.out) (done (reaches m)) (Out with k) front on));
       }
 
-  output_cut : (b d : Bool) (k : Leaf1) (xs : List Item) → IsOn r (flat r (output_plan without b d k)) xs There → CutAt r (flat r (output_plan without b d k)) (flat r (output_plan with b d k)) xs
+  output_cut : (b d : Bool) (k : Leaf1) (xs : List Item) → IsOn r (flat r (output_plan without b d k)) xs There
+      → CutAt r (flat r (output_plan without b d k)) (flat r (output_plan with b d k)) xs
   output_cut true true k xs h = cut_same (flat r (output_plan without true true k)) xs h
   output_cut true false k xs h =
       let d = on_split r (chain r false k.out) (Out without k) xs (reaches l) h in
-      subst (CutAt r (flat r (output_plan without true false k)) (flat r (output_plan with true false k))) (sym d.is) (out_end k d.front d.rest d.end d.on_front d.more)
+      subst (CutAt r (flat r (output_plan without true false k)) (flat r (output_plan with true false k))) (sym d.is)
+      (out_end k d.front d.rest d.end d.on_front d.more)
   output_cut false d k xs h = cut_same (flat r (output_plan without false d k)) xs h
 
   -- THE LEAF OF STAGE 1
@@ -112,7 +131,8 @@ module _ (r : Regime) (a : Access) (l : Landing) where
   abbrev Leaf : Asked → Below → ℕ → Leaf1 → Bool → Plan
   Leaf q below left k refused = plan_of r (out_of q) (step_then below (verdict left k refused))
 
-  leaf_cut : (bf bt : Below) (m : Mark) (left : ℕ) (k : Leaf1) (b : Bool) (xs : List Item) → is_first m ≡ true → m.base ≡ false → IsOn r (flat r (Leaf without bf left k false)) xs There
+  leaf_cut : (bf bt : Below) (m : Mark) (left : ℕ) (k : Leaf1) (b : Bool) (xs : List Item) → is_first m ≡ true → m.base ≡ false
+      → IsOn r (flat r (Leaf without bf left k false)) xs There
       → CutBehind r m (flat r (Leaf without bf left k false)) (flat r (Leaf with bt left k b)) xs
   leaf_cut bf bt m left k true xs f w h =
       record {
@@ -122,7 +142,16 @@ module _ (r : Regime) (a : Access) (l : Landing) where
         end = stops (fault1 Permission left);
         on = refl;
         fine = λ g e. sym (ap (λ z. gives_word (Err z)) e);
-        cut = inr ([], m, marks r (flat r (out_of without (reaches k))) xs, f, w, second_marks r (flat r (out_of without (reaches k))) xs (out_second without (reaches k)), refl, refl);
+        cut = inr (
+          [],
+          m,
+          marks r (flat r (out_of without (reaches k))) xs,
+          f,
+          w,
+          second_marks r (flat r (out_of without (reaches k))) xs (out_second without (reaches k)),
+          refl,
+          refl,
+        );
       }
   leaf_cut bf bt m left k false xs f w h =
       behind m (flat r (out_of without (reaches k))) (flat r (out_of with (reaches k))) xs (output_cut r.config.vm (is_refused2 r.config k.out) k xs h)
@@ -134,13 +163,17 @@ module _ (r : Regime) (a : Access) (l : Landing) where
   Onward q below left t i = plan_of r (out_of q) (step_then below (step1 q (entry1 q left t) i.pa i.value))
 
   abbrev BelowCut : Below → Below → Type 0
-  BelowCut bf bt = (t : Table1) (xs : List Item) → IsOn r (flat r (plan_of r (out_of without) (bf t))) xs There → CutAt r (flat r (plan_of r (out_of without) (bf t))) (flat r (plan_of r (out_of with) (bt t))) xs
+  BelowCut bf bt =
+      (t : Table1) (xs : List Item) → IsOn r (flat r (plan_of r (out_of without) (bf t))) xs There
+      → CutAt r (flat r (plan_of r (out_of without) (bf t))) (flat r (plan_of r (out_of with) (bt t))) xs
 
-  turn_cut : (bf bt : Below) → BelowCut bf bt → (m : Mark) (left : ℕ) (t : Table1) (i : Item) (xs : List Item) → is_first m ≡ true → m.base ≡ false → Turn1 r left i
+  turn_cut : (bf bt : Below) → BelowCut bf bt → (m : Mark) (left : ℕ) (t : Table1) (i : Item) (xs : List Item) → is_first m ≡ true → m.base ≡ false
+      → Turn1 r left i
       → IsOn r (flat r (Onward without bf left t i)) xs There → CutBehind r m (flat r (Onward without bf left t i)) (flat r (Onward with bt left t i)) xs
   turn_cut bf bt rec m left t i xs f w (table next bits al d) h =
       let n : Table1 = record { address = next; bits = joined_bits t.bits bits } in
-      rw (d false a t, d true a t) (behind m (flat r (plan_of r (out_of without) (bf n))) (flat r (plan_of r (out_of with) (bt n))) xs (rec n xs (rw (d false a t) at h)))
+      rw (d false a t, d true a t)
+      (behind m (flat r (plan_of r (out_of without) (bf n))) (flat r (plan_of r (out_of with) (bt n))) xs (rec n xs (rw (d false a t) at h)))
   turn_cut bf bt rec m left t i xs f w (leaf v e d) h =
       let k : Leaf1 = leaf1_of r (entry1 without left t) i.pa v in
       let b : Bool = not (is_allowed1 k.perms (is_uxn v.bits t.bits) a.el a.kind a.pan r.config.epan) in
@@ -150,33 +183,41 @@ module _ (r : Regime) (a : Access) (l : Landing) where
       rw (d false a t, d true a t) (behind m u u xs (cut_same u xs (rw (d false a t) at h)))
 
   abbrev KCut : (Item → Plan) → (Item → Plan) → Type 0
-  KCut kf kt = (m : Mark) (i : Item) (xs : List Item) → is_first m ≡ true → m.base ≡ false → IsOn r (flat r (kf i)) xs There → CutBehind r m (flat r (kf i)) (flat r (kt i)) xs
+  KCut kf kt =
+      (m : Mark) (i : Item) (xs : List Item) → is_first m ≡ true → m.base ≡ false → IsOn r (flat r (kf i)) xs There
+      → CutBehind r m (flat r (kf i)) (flat r (kt i)) xs
 
-  own_cut : (n : Need) (kf kt : Item → Plan) → ((i : Item) (xs : List Item) → IsOn r (flat r (kf i)) xs There → CutBehind r (mark r n i) (flat r (kf i)) (flat r (kt i)) xs)
+  own_cut : (n : Need) (kf kt : Item → Plan)
+      → ((i : Item) (xs : List Item) → IsOn r (flat r (kf i)) xs There → CutBehind r (mark r n i) (flat r (kf i)) (flat r (kt i)) xs)
       → (xs : List Item) → IsOn r (flat r (own n kf)) xs There → CutAt r (flat r (own n kf)) (flat r (own n kt)) xs
   own_cut n kf kt rec [] h = absurd cc
   own_cut n kf kt rec (y ∷ ys) h =
       let c = rec y ys h.1 in
       record { front = y ∷ c.front; rest = c.rest; is = ap (λ v. y ∷ v) c.is; end = c.end; on = (h.0, c.on); fine = c.fine; cut = c.cut }
 
-  word_cut : (e : Entry1) (p : ℕ) (kf kt : Item → Plan) → KCut kf kt → (xs : List Item) → IsOn r (flat r (own (word_need e p) kf)) xs There → CutAt r (flat r (own (word_need e p) kf)) (flat r (own (word_need e p) kt)) xs
-  word_cut e p kf kt rec xs h = own_cut (word_need e p) kf kt (λ i ys k. rec (mark r (word_need e p) i) i ys (mark_first r (word_need e p) i) (mark_base r (word_need e p) i) k) xs h
+  word_cut : (e : Entry1) (p : ℕ) (kf kt : Item → Plan) → KCut kf kt → (xs : List Item) → IsOn r (flat r (own (word_need e p) kf)) xs There
+      → CutAt r (flat r (own (word_need e p) kf)) (flat r (own (word_need e p) kt)) xs
+  word_cut e p kf kt rec xs h =
+      own_cut (word_need e p) kf kt (λ i ys k. rec (mark r (word_need e p) i) i ys (mark_first r (word_need e p) i) (mark_base r (word_need e p) i) k) xs h
 
   read_cut : (b : Bool) (e : Entry1) (m : Leaf2) (kf kt : Item → Plan) → KCut kf kt → (xs : List Item) → IsOn r (flat r (rest_by (read_next b e m) kf)) xs There
       → CutAt r (flat r (rest_by (read_next b e m) kf)) (flat r (rest_by (read_next b e m) kt)) xs
   read_cut true e m kf kt rec xs h = word_cut e m.pa kf kt rec xs h
   read_cut false e m kf kt rec xs h = cut_same (done (stops (read_fault m))) xs h
 
-  rest_cut : (e : Entry1) (d : End Leaf2) (kf kt : Item → Plan) → KCut kf kt → (xs : List Item) → IsOn r (flat r (rest_by (word_behind r.config e d) kf)) xs There
+  rest_cut : (e : Entry1) (d : End Leaf2) (kf kt : Item → Plan) → KCut kf kt → (xs : List Item)
+      → IsOn r (flat r (rest_by (word_behind r.config e d) kf)) xs There
       → CutAt r (flat r (rest_by (word_behind r.config e d) kf)) (flat r (rest_by (word_behind r.config e d) kt)) xs
   rest_cut e (stops f) kf kt rec xs h = cut_same (done (stops f)) xs h
   rest_cut e (reaches m) kf kt rec xs h = read_cut (is_readable r.config m) e m kf kt rec xs h
 
-  via_cut : (e : Entry1) (kf kt : Item → Plan) → KCut kf kt → let v = λ (k : Item → Plan). flat r (via true e.place (word_behind r.config e) k) in (xs : List Item) → IsOn r (v kf) xs There → CutAt r (v kf) (v kt) xs
+  via_cut : (e : Entry1) (kf kt : Item → Plan) → KCut kf kt → let v = λ (k : Item → Plan). flat r (via true e.place (word_behind r.config e) k) in
+      (xs : List Item) → IsOn r (v kf) xs There → CutAt r (v kf) (v kt) xs
   via_cut e kf kt rec xs h =
       let next : End Leaf2 → Result Need (End Landing) = word_behind r.config e in
       let ch : Ask Need Item (End Leaf2) = chain r true e.place in
-      let d : Split r ch (λ e. joined (next e) (λ i. flat r (kf i))) xs (reaches l) = on_split r ch (λ e. joined (next e) (λ i. flat r (kf i))) xs (reaches l) h in
+      let d : Split r ch (λ e. joined (next e) (λ i. flat r (kf i))) xs (reaches l) =
+      on_split r ch (λ e. joined (next e) (λ i. flat r (kf i))) xs (reaches l) h in
       let tu : Ask Need Item (End Landing) = flat r (via true e.place next kf) in
       let tj : Ask Need Item (End Landing) = flat r (via true e.place next kt) in
       let uu : Ask Need Item (End Landing) = flat r (rest_by (next d.end) kf) in
@@ -187,8 +228,10 @@ module _ (r : Regime) (a : Access) (l : Landing) where
       let ont : IsOn r tj d.front uj = via_on r true e.place next kt d.front d.end d.on_front in
       let mf : marks r tu d.front ≡ marks r ch d.front = via_marks r true e.place next kf d.front (done d.end) d.on_front in
       let mt : marks r tj d.front ≡ marks r ch d.front = via_marks r true e.place next kt d.front (done d.end) d.on_front in
-      let ef : marks r tu xs ≡ marks r ch d.front ++ marks r uu d.rest = ap (marks r tu) d.is ∙ marks_append r tu uu d.front d.rest onf ∙ ap (λ v. v ++ marks r uu d.rest) mf in
-      let et : marks r tj (d.front ++ c.front) ≡ marks r ch d.front ++ marks r uj c.front = marks_append r tj uj d.front c.front ont ∙ ap (λ v. v ++ marks r uj c.front) mt in
+      let ef : marks r tu xs ≡ marks r ch d.front ++ marks r uu d.rest =
+      ap (marks r tu) d.is ∙ marks_append r tu uu d.front d.rest onf ∙ ap (λ v. v ++ marks r uu d.rest) mf in
+      let et : marks r tj (d.front ++ c.front) ≡ marks r ch d.front ++ marks r uj c.front =
+      marks_append r tj uj d.front c.front ont ∙ ap (λ v. v ++ marks r uj c.front) mt in
       record {
         front = d.front ++ c.front;
         rest = c.rest;
@@ -196,10 +239,12 @@ module _ (r : Regime) (a : Access) (l : Landing) where
         end = c.end;
         on = on_append r tj uj (done c.end) d.front c.front ont c.on;
         fine = c.fine;
-        cut = subst (λ v. IsCut v (marks r tj (d.front ++ c.front))) (sym ef) (subst (IsCut (marks r ch d.front ++ marks r uu d.rest)) (sym et) (cut_more (marks r ch d.front) (marks r uu d.rest) (marks r uj c.front) c.cut));
+        cut = subst (λ v. IsCut v (marks r tj (d.front ++ c.front))) (sym ef)
+            (subst (IsCut (marks r ch d.front ++ marks r uu d.rest)) (sym et) (cut_more (marks r ch d.front) (marks r uu d.rest) (marks r uj c.front) c.cut));
       }
 
-  entry_cut : (b d : Bool) (e : Entry1) (kf kt : Item → Plan) → KCut kf kt → let v = λ (k : Item → Plan). flat r (entry_plan r b d e (λ f. fin (stops f)) k) in (xs : List Item) → IsOn r (v kf) xs There → CutAt r (v kf) (v kt) xs
+  entry_cut : (b d : Bool) (e : Entry1) (kf kt : Item → Plan) → KCut kf kt → let v =
+      λ (k : Item → Plan). flat r (entry_plan r b d e (λ f. fin (stops f)) k) in (xs : List Item) → IsOn r (v kf) xs There → CutAt r (v kf) (v kt) xs
   entry_cut true true e kf kt rec xs h = cut_same (done (stops (early2 r true e.place))) xs h
   entry_cut true false e kf kt rec xs h = via_cut e kf kt rec xs h
   entry_cut false d e kf kt rec xs h = word_cut e e.place kf kt rec xs h
@@ -208,32 +253,42 @@ module _ (r : Regime) (a : Access) (l : Landing) where
   last_below t = done (stops (fault1 Translation 0))
 
   level_cut : (bf bt : Below) → BelowCut bf bt → (left : ℕ) (t : Table1) (xs : List Item)
-      → let v = λ (q : Asked) (b : Below). flat r (plan_of r (out_of q) (ask (entry1 q left t) (λ i. step_then b (step1 q (entry1 q left t) i.pa i.value)))) in IsOn r (v without bf) xs There → CutAt r (v without bf) (v with bt) xs
+      → let v =
+      λ (q : Asked) (b : Below). flat r (plan_of r (out_of q) (ask (entry1 q left t) (λ i. step_then b (step1 q (entry1 q left t) i.pa i.value)))) in
+      IsOn r (v without bf) xs There → CutAt r (v without bf) (v with bt) xs
   level_cut bf bt rec left t xs h =
       let e : Entry1 = entry1 without left t in
-      entry_cut r.config.vm (is_refused2 r.config e.place) e (λ i. Onward without bf left t i) (λ i. Onward with bt left t i) (λ m i ys f w g. turn_cut bf bt rec m left t i ys f w (turn1 r left i) g) xs h
+      entry_cut r.config.vm (is_refused2 r.config e.place) e (λ i. Onward without bf left t i) (λ i. Onward with bt left t i)
+      (λ m i ys f w g. turn_cut bf bt rec m left t i ys f w (turn1 r left i) g) xs h
 
-  from_cut : (left : ℕ) (t : Table1) (xs : List Item) → IsOn r (flat r (from_plan without left t)) xs There → CutAt r (flat r (from_plan without left t)) (flat r (from_plan with left t)) xs
+  from_cut : (left : ℕ) (t : Table1) (xs : List Item) → IsOn r (flat r (from_plan without left t)) xs There
+      → CutAt r (flat r (from_plan without left t)) (flat r (from_plan with left t)) xs
   from_cut zero t xs h = level_cut last_below last_below (λ t ys g. cut_same (done (stops (fault1 Translation 0))) ys g) 0 t xs h
   from_cut (suc left) t xs h = level_cut (walk1_from without left) (walk1_from with left) (λ t ys g. from_cut left t ys g) (suc left) t xs h
 
-  behind_cut : (b : Bool) (base : ℕ) (xs : List Item) → IsOn r (flat r (behind_plan without b base)) xs There → CutAt r (flat r (behind_plan without b base)) (flat r (behind_plan with b base)) xs
+  behind_cut : (b : Bool) (base : ℕ) (xs : List Item) → IsOn r (flat r (behind_plan without b base)) xs There
+      → CutAt r (flat r (behind_plan without b base)) (flat r (behind_plan with b base)) xs
   behind_cut true base xs h = cut_same (flat r (behind_plan without true base)) xs h
   behind_cut false base xs h = from_cut r.stage1.start (root_table base) xs h
 
-  whole_cut : (b d : Bool) (xs : List Item) → b ≡ true → d ≡ false → IsOn r (flat r (whole_plan without b d)) xs There → CutAt r (flat r (whole_plan without b d)) (flat r (whole_plan with b d)) xs
+  whole_cut : (b d : Bool) (xs : List Item) → b ≡ true → d ≡ false → IsOn r (flat r (whole_plan without b d)) xs There
+      → CutAt r (flat r (whole_plan without b d)) (flat r (whole_plan with b d)) xs
   whole_cut true false xs e f h =
       own_cut base1 (λ i. behind_plan without (is_too_large r.stage1 i.value) i.value) (λ i. behind_plan with (is_too_large r.stage1 i.value) i.value)
-      (λ i ys g. behind (mark r base1 i) (flat r (behind_plan without (is_too_large r.stage1 i.value) i.value)) (flat r (behind_plan with (is_too_large r.stage1 i.value) i.value)) ys (behind_cut (is_too_large r.stage1 i.value) i.value ys g)) xs h
+      (λ i ys g.
+      behind (mark r base1 i) (flat r (behind_plan without (is_too_large r.stage1 i.value) i.value))
+      (flat r (behind_plan with (is_too_large r.stage1 i.value) i.value)) ys (behind_cut (is_too_large r.stage1 i.value) i.value ys g)) xs h
   whole_cut true true xs e f h = absurd (both_ways true f refl)
   whole_cut false d xs e f h = absurd (both_ways false refl e)
 
 -- judging leaves the trail, or cuts it
-pub judged_is : (c : Config) (a : Access) (trail : List Item) (l : Landing) → c.m ≡ true → is_refused1 c a ≡ false → IsOn (regime_for c a) (walk c false a) trail (done (reaches l)) → Judged c trail a
+pub judged_is : (c : Config) (a : Access) (trail : List Item) (l : Landing) → c.m ≡ true → is_refused1 c a ≡ false
+    → IsOn (regime_for c a) (walk c false a) trail (done (reaches l)) → Judged c trail a
 judged_is c a trail l on ok h =
     let r : Regime = regime_for c a in
     let e = plan_is_walk c false a in
     let w = plan_is_walk c true a in
     let k = whole_cut r a l c.m (is_refused1 c a) trail on ok (subst (λ t. IsOn r t trail (done (reaches l))) (sym e) h) in
-    let k2 : CutAt r (walk c false a) (walk c true a) trail = subst (λ t. CutAt r t (walk c true a) trail) e (subst (λ t. CutAt r (flat r (plan_for c false a)) t trail) w k) in
+    let k2 : CutAt r (walk c false a) (walk c true a) trail =
+    subst (λ t. CutAt r t (walk c true a) trail) e (subst (λ t. CutAt r (flat r (plan_for c false a)) t trail) w k) in
     record { front = k2.front; rest = k2.rest; is = k2.is; end = k2.end; on = k2.on; fine = k2.fine; cut = k2.cut }

@@ -83,23 +83,33 @@ module _ (r : Regime) (p : Bool) (x : ℕ) where
   ends_leaf m [] l h = (refl, leaf_same l m h)
   ends_leaf m (y ∷ ys) l h = absurd h
 
-  ends_step : (below : ℕ → Ask Need Item (End Leaf2)) → ((n : ℕ) (xs : List Item) (l : Leaf2) → IsOn r (below n) xs (done (reaches l)) → Ends2 r xs l) → (left : ℕ) (i : Item) (xs : List Item) (l : Leaf2) → i.level ≡ level_of left → Turn2 r left i
+  ends_step : (below : ℕ → Ask Need Item (End Leaf2)) → ((n : ℕ) (xs : List Item) (l : Leaf2) → IsOn r (below n) xs (done (reaches l)) → Ends2 r xs l)
+      → (left : ℕ) (i : Item) (xs : List Item) (l : Leaf2) → i.level ≡ level_of left → Turn2 r left i
       → IsOn r (step_then below (step2 (asked2 r p x) left i.pa i.value)) xs (done (reaches l)) → Ends2 r (i ∷ xs) l
   ends_step below rec left i xs l e (table next a d) h = ends_more i xs l (rec next xs l (rw (d p x) at h))
   ends_step below rec left i xs l e (leaf f m d) h =
       let g = ends_leaf (leaf2_of (asked2 r p x) left i.pa f) xs l (rw (d p x) at h) in
-      record { item = i; left = left; last = subst (λ (ys : List Item). LastIs (i ∷ ys) i) (sym g.0) refl; level = e; class_is = ap (λ z. z.class) g.1 ∙ rw m refl }
+      record {
+        item = i;
+        left = left;
+        last = subst (λ (ys : List Item). LastIs (i ∷ ys) i) (sym g.0) refl;
+        level = e;
+        class_is = ap (λ z. z.class) g.1 ∙ rw m refl;
+      }
   ends_step below rec left i xs l e (fault k d) h = absurd (ends_stop _ xs l (rw (d p x) at h))
 
   ends_from : (left n : ℕ) (xs : List Item) (l : Leaf2) → IsOn r (walk2_from (asked2 r p x) left n) xs (done (reaches l)) → Ends2 r xs l
   ends_from zero n [] l h = absurd cc
   ends_from (suc left) n [] l h = absurd cc
   ends_from zero n (i ∷ xs) l h =
-      ends_step (λ _. done (stops (fault2 (asked2 r p x) Translation 0))) (λ n ys m g. absurd (ends_stop _ ys m g)) 0 i xs l (fits_word_parts r _ i h.0).level (turn2 r 0 i) h.1
+      ends_step (λ _. done (stops (fault2 (asked2 r p x) Translation 0))) (λ n ys m g. absurd (ends_stop _ ys m g)) 0 i xs l (fits_word_parts r _ i h.0).level
+      (turn2 r 0 i) h.1
   ends_from (suc left) n (i ∷ xs) l h =
       ends_step (walk2_from (asked2 r p x) left) (ends_from left) (suc left) i xs l (fits_word_parts r _ i h.0).level (turn2 r (suc left) i) h.1
 
-  ends_behind : (b : Bool) (base : ℕ) (xs : List Item) (l : Leaf2) → IsOn r (cond b (done (stops (fault2 (asked2 r p x) AddressSize most_left))) (walk2_from (asked2 r p x) r.stage2.start base)) xs (done (reaches l)) → Ends2 r xs l
+  ends_behind : (b : Bool) (base : ℕ) (xs : List Item) (l : Leaf2)
+      → IsOn r (cond b (done (stops (fault2 (asked2 r p x) AddressSize most_left))) (walk2_from (asked2 r p x) r.stage2.start base)) xs (done (reaches l))
+      → Ends2 r xs l
   ends_behind true base xs l h = absurd (ends_stop _ xs l h)
   ends_behind false base xs l h = ends_from r.stage2.start base xs l h
 
@@ -109,7 +119,8 @@ module _ (r : Regime) (p : Bool) (x : ℕ) where
   ends_chain (i ∷ xs) l h = ends_more i xs l (ends_behind (is_too_large r.stage2 i.value) i.value xs l h.1)
 
 -- equal entries are of equal place, level and value
-pub entries_same : (xs ys : List Item) (i j : Item) → last_entry xs ≡ Some (entry_of i) → last_entry ys ≡ Some (entry_of j) → last_entry xs ≡ last_entry ys → entry_of i ≡ entry_of j
+pub entries_same : (xs ys : List Item) (i j : Item) → last_entry xs ≡ Some (entry_of i) → last_entry ys ≡ Some (entry_of j) → last_entry xs ≡ last_entry ys
+    → entry_of i ≡ entry_of j
 entries_same xs ys i j a b e = same_Some (entry_of i) (entry_of j) (sym a ∙ e ∙ b)
 
 pub left_same : (i j : Item) (m n : ℕ) → i.level ≡ level_of m → j.level ≡ level_of n → entry_of i ≡ entry_of j → m ≡ n
@@ -148,7 +159,8 @@ if_false b o h = rw h refl
 
 none_entry1 : (xs : List Item) → AllItems2 xs → last_entry1 xs ≡ None
 none_entry1 [] s = refl
-none_entry1 (x ∷ xs) s = ap (λ o. or_else o (cond (is_stage1 x.stage) (Some (entry_of x)) None)) (none_entry1 xs s.1) ∙ if_false (is_stage1 x.stage) (Some (entry_of x)) s.0
+none_entry1 (x ∷ xs) s =
+    ap (λ o. or_else o (cond (is_stage1 x.stage) (Some (entry_of x)) None)) (none_entry1 xs s.1) ∙ if_false (is_stage1 x.stage) (Some (entry_of x)) s.0
 
 none_first : (ms : List Mark) → AllSecond ms → last_first ms ≡ None
 none_first [] s = refl
@@ -159,7 +171,8 @@ entry1_last : (front rest : List Item) (i : Item) → LastIs front i → is_stag
 entry1_last [] rest i l f s = absurd l
 entry1_last (x ∷ []) rest i l f s =
     let b : is_stage1 x.stage ≡ true = ap (λ (z : Item). is_stage1 z.stage) l ∙ f in
-    ap (λ o. or_else o (cond (is_stage1 x.stage) (Some (entry_of x)) None)) (none_entry1 rest s) ∙ ap (λ c. cond c (Some (entry_of x)) None) b ∙ ap (λ z. Some (entry_of z)) l
+    ap (λ o. or_else o (cond (is_stage1 x.stage) (Some (entry_of x)) None)) (none_entry1 rest s) ∙ ap (λ c. cond c (Some (entry_of x)) None) b
+    ∙ ap (λ z. Some (entry_of z)) l
 entry1_last (x ∷ (y ∷ ys)) rest i l f s = ap (λ o. or_else o (cond (is_stage1 x.stage) (Some (entry_of x)) None)) (entry1_last (y ∷ ys) rest i l f s)
 
 first_mark_last : (pre ms : List Mark) (m : Mark) → LastIs pre m → is_first m ≡ true → AllSecond ms → last_first (pre ++ ms) ≡ Some m
@@ -205,7 +218,9 @@ module _ (r : Regime) (e : Entry1) where
       record { place = p; last = q; fit = subst (λ z. fits r (word_need e p) z ≡ true) q h.0; mark_last = ap (mark r (word_need e p)) q }
   read_end p (j ∷ (k ∷ xs)) i h = absurd h.1
 
-  read_by_end : (b : Bool) (l : Leaf2) (xs : List Item) (i : Item) → let t = cond b (read1 e l.pa) (done (Err record { stage = S2; level = l.level; class = Permission; s1ptw = true })) in IsOn r t xs (done (Ok i)) → WordEnd r e t xs i
+  read_by_end : (b : Bool) (l : Leaf2) (xs : List Item) (i : Item) → let t =
+      cond b (read1 e l.pa) (done (Err record { stage = S2; level = l.level; class = Permission; s1ptw = true })) in
+      IsOn r t xs (done (Ok i)) → WordEnd r e t xs i
   read_by_end true l xs i h = read_end l.pa xs i h
   read_by_end false l [] i h = absurd cc
   read_by_end false l (x ∷ xs) i h = absurd h
@@ -215,7 +230,8 @@ module _ (r : Regime) (e : Entry1) where
   behind_end (stops f) (x ∷ xs) i h = absurd h
   behind_end (reaches l) xs i h = read_by_end (is_readable r.config l) l xs i h
 
-  had_end : (b : Bool) (xs : List Item) (i : Item) → let t = cond b (after (walk2 (asked2 r true e.place)) (read1_by r.config e)) (read1 e e.place) in IsOn r t xs (done (Ok i)) → WordEnd r e t xs i
+  had_end : (b : Bool) (xs : List Item) (i : Item) → let t = cond b (after (walk2 (asked2 r true e.place)) (read1_by r.config e)) (read1 e e.place) in
+      IsOn r t xs (done (Ok i)) → WordEnd r e t xs i
   had_end false xs i h = read_end e.place xs i h
   had_end true xs i h =
       let ch : Ask Need Item (End Leaf2) = walk2 (asked2 r true e.place) in
@@ -228,7 +244,9 @@ module _ (r : Regime) (e : Entry1) where
         place = w.place;
         last = subst (λ (v : List Item). LastIs v i) (sym d.is) (last_app d.front d.rest i w.last);
         fit = w.fit;
-        mark_last = subst (λ ms. LastIs ms (mark r (word_need e w.place) i)) (sym m) (last_app (marks r t d.front) (marks r (read1_by r.config e d.end) d.rest) (mark r (word_need e w.place) i) w.mark_last);
+        mark_last =
+            subst (λ ms. LastIs ms (mark r (word_need e w.place) i)) (sym m)
+            (last_app (marks r t d.front) (marks r (read1_by r.config e d.end) d.rest) (mark r (word_need e w.place) i) w.mark_last);
       }
 
   -- the last item is the word
@@ -280,18 +298,22 @@ module _ (r : Regime) (a : Access) where
     Level = after (word_of r E) Go
 
     -- the word was the leaf, or others follow
-    step_end : (i : Item) (xs : List Item) (l : Leaf1) → Turn1 r left i → IsOn r (Step i) xs (done (reaches l)) → ((xs ≡ []) × (l.class ≡ class_at1 r left i.pa i.value)) ⊎ Ends1 r (Step i) xs l
+    step_end : (i : Item) (xs : List Item) (l : Leaf1) → Turn1 r left i → IsOn r (Step i) xs (done (reaches l))
+        → ((xs ≡ []) × (l.class ≡ class_at1 r left i.pa i.value)) ⊎ Ends1 r (Step i) xs l
     step_end i xs l (goes_down next bits al d) h =
         let n : Table1 = record { address = next; bits = joined_bits t.bits bits } in
         let s : step1 Q E i.pa i.value ≡ Down n = d false a t in
-        inr (subst (λ (z : Step1 Leaf1 Table1). Ends1 r (Fine (step_then below z)) xs l) (sym s) (rec n xs l (subst (λ (z : Step1 Leaf1 Table1). IsOn r (Fine (step_then below z)) xs (done (reaches l))) s h)))
+        inr (subst (λ (z : Step1 Leaf1 Table1). Ends1 r (Fine (step_then below z)) xs l) (sym s)
+        (rec n xs l (subst (λ (z : Step1 Leaf1 Table1). IsOn r (Fine (step_then below z)) xs (done (reaches l))) s h)))
     step_end i xs l (maps f m d) h =
-        let g = leaf1_end r (leaf1_of r E i.pa f) xs l (subst (λ (z : Step1 Leaf1 Table1). IsOn r (Fine (step_then below z)) xs (done (reaches l))) (d false a t) h) in
+        let g = leaf1_end r (leaf1_of r E i.pa f) xs l
+        (subst (λ (z : Step1 Leaf1 Table1). IsOn r (Fine (step_then below z)) xs (done (reaches l))) (d false a t) h) in
         inl (g.0, ap (λ z. z.class) g.1 ∙ rw m refl)
     step_end i xs l (faults k d) h =
         absurd (stop1_end r (fault1 k left) xs l (subst (λ (z : Step1 Leaf1 Table1). IsOn r (Fine (step_then below z)) xs (done (reaches l))) (d false a t) h))
 
-    level_here : (front : List Item) (i : Item) (l : Leaf1) → IsOn r (word_of r E) front (done (Ok i)) → l.class ≡ class_at1 r left i.pa i.value → Ends1 r Level front l
+    level_here : (front : List Item) (i : Item) (l : Leaf1) → IsOn r (word_of r E) front (done (Ok i)) → l.class ≡ class_at1 r left i.pa i.value
+        → Ends1 r Level front l
     level_here front i l h c =
         let w = word_end r E front i h in
         let fw = fits_word_parts r _ i w.fit in
@@ -308,9 +330,11 @@ module _ (r : Regime) (a : Access) where
           class_is = c;
         }
 
-    level_more : (front rest : List Item) (i : Item) (l : Leaf1) → IsOn r (word_of r E) front (done (Ok i)) → Ends1 r (Step i) rest l → Ends1 r Level (front ++ rest) l
+    level_more : (front rest : List Item) (i : Item) (l : Leaf1) → IsOn r (word_of r E) front (done (Ok i)) → Ends1 r (Step i) rest l
+        → Ends1 r Level (front ++ rest) l
     level_more front rest i l h d =
-        let m : marks r Level (front ++ rest) ≡ marks r Level front ++ marks r (Step i) rest = marks_append r Level (Step i) front rest (on_after r (word_of r E) (done (Ok i)) Go front h) in
+        let m : marks r Level (front ++ rest) ≡ marks r Level front ++ marks r (Step i) rest =
+        marks_append r Level (Step i) front rest (on_after r (word_of r E) (done (Ok i)) Go front h) in
         record {
           item = d.item;
           left = d.left;
@@ -324,11 +348,14 @@ module _ (r : Regime) (a : Access) where
           class_is = d.class_is;
         }
 
-    level_by : (front rest : List Item) (i : Item) (l : Leaf1) → IsOn r (word_of r E) front (done (Ok i)) → ((rest ≡ []) × (l.class ≡ class_at1 r left i.pa i.value)) ⊎ Ends1 r (Step i) rest l → Ends1 r Level (front ++ rest) l
-    level_by front rest i l h (inl g) = subst (λ (v : List Item). Ends1 r Level v l) (sym (ap (λ v. front ++ v) g.0 ∙ append-nil front)) (level_here front i l h g.1)
+    level_by : (front rest : List Item) (i : Item) (l : Leaf1) → IsOn r (word_of r E) front (done (Ok i))
+        → ((rest ≡ []) × (l.class ≡ class_at1 r left i.pa i.value)) ⊎ Ends1 r (Step i) rest l → Ends1 r Level (front ++ rest) l
+    level_by front rest i l h (inl g) =
+        subst (λ (v : List Item). Ends1 r Level v l) (sym (ap (λ v. front ++ v) g.0 ∙ append-nil front)) (level_here front i l h g.1)
     level_by front rest i l h (inr g) = level_more front rest i l h g
 
-    level_at : (front rest : List Item) (x : Result Item Fault) (l : Leaf1) → IsOn r (word_of r E) front (done x) → IsOn r (Go x) rest (done (reaches l)) → Ends1 r Level (front ++ rest) l
+    level_at : (front rest : List Item) (x : Result Item Fault) (l : Leaf1) → IsOn r (word_of r E) front (done x) → IsOn r (Go x) rest (done (reaches l))
+        → Ends1 r Level (front ++ rest) l
     level_at front rest (Ok i) l h k = level_by front rest i l h (step_end i rest l (turn1 r left i) k)
     level_at front rest (Err f) l h k = absurd (stop1_end r f rest l k)
 
@@ -341,7 +368,8 @@ module _ (r : Regime) (a : Access) where
   ends1_from zero t xs l h = level_end (λ _. done (stops (fault1 Translation 0))) (λ n ys k g. absurd (stop1_end r _ ys k g)) 0 t xs l h
   ends1_from (suc left) t xs l h = level_end (walk1_from Q left) (ends1_from left) (suc left) t xs l h
 
-  ends1_behind : (b : Bool) (base : ℕ) (xs : List Item) (l : Leaf1) → let t = cond b (done (stops (fault1 AddressSize most_left))) (stage1_from Q r.stage1.start (root_table base)) in IsOn r t xs (done (reaches l)) → Ends1 r t xs l
+  ends1_behind : (b : Bool) (base : ℕ) (xs : List Item) (l : Leaf1) → let t =
+      cond b (done (stops (fault1 AddressSize most_left))) (stage1_from Q r.stage1.start (root_table base)) in IsOn r t xs (done (reaches l)) → Ends1 r t xs l
   ends1_behind true base xs l h = absurd (stop1_end r (fault1 AddressSize most_left) xs l h)
   ends1_behind false base xs l h = ends1_from r.stage1.start (root_table base) xs l h
 
@@ -387,7 +415,8 @@ record Keyed (r : Regime) (vm : Bool) (ms : List Mark) (xs : List Item) (l : Lan
   left2 : ℕ
   entry2_is : vm ≡ true → last_entry xs ≡ Some (entry_of item2)
   level2 : vm ≡ true → item2.level ≡ level_of left2
-  class_is : l.class ≡ cond vm (smaller (class_at1 r left1 item1.pa item1.value) (class_at2 r left2 item2.pa item2.value)) (class_at1 r left1 item1.pa item1.value)
+  class_is : l.class
+      ≡ cond vm (smaller (class_at1 r left1 item1.pa item1.value) (class_at2 r left2 item2.pa item2.value)) (class_at1 r left1 item1.pa item1.value)
 
 -- the same of what follows stage 1
 record Output (r : Regime) (vm : Bool) (rest : List Item) (d : Leaf1) (l : Landing) : Type 0 where
@@ -409,11 +438,13 @@ module _ (r : Regime) (a : Access) (d : Leaf1) where
   abbrev Second : End Leaf2 → Ask Need Item (End Landing)
   Second e = done (judged2 false a d e)
 
-  ends_walk2 : (b : Bool) (xs : List Item) (m : Leaf2) → IsOn r (cond b (done (stops (early2 r false d.out))) (chain r false d.out)) xs (done (reaches m)) → Ends2 r xs m
+  ends_walk2 : (b : Bool) (xs : List Item) (m : Leaf2) → IsOn r (cond b (done (stops (early2 r false d.out))) (chain r false d.out)) xs (done (reaches m))
+      → Ends2 r xs m
   ends_walk2 true xs m h = absurd (ends_stop r false d.out _ xs m h)
   ends_walk2 false xs m h = ends_chain r false d.out xs m h
 
-  output_end : (front rest : List Item) (e : End Leaf2) (l : Landing) → IsOn r (walk2 (asked2 r false d.out)) front (done e) → IsOn r (Second e) rest (done (reaches l)) → Output r true (front ++ rest) d l
+  output_end : (front rest : List Item) (e : End Leaf2) (l : Landing) → IsOn r (walk2 (asked2 r false d.out)) front (done e)
+      → IsOn r (Second e) rest (done (reaches l)) → Output r true (front ++ rest) d l
   output_end front rest (stops f) l h k = absurd (stop_end r f rest l k)
   output_end front rest (reaches m) l h k =
       let g = done_end r (piece d m) rest l k in
@@ -427,7 +458,8 @@ module _ (r : Regime) (a : Access) (d : Leaf1) where
       }
 
   -- i is any item
-  output : (vm : Bool) (i : Item) (rest : List Item) (l : Landing) → IsOn r (cond vm (after (walk2 (asked2 r false d.out)) Second) (done (reaches (landed d)))) rest (done (reaches l)) → Output r vm rest d l
+  output : (vm : Bool) (i : Item) (rest : List Item) (l : Landing)
+      → IsOn r (cond vm (after (walk2 (asked2 r false d.out)) Second) (done (reaches (landed d)))) rest (done (reaches l)) → Output r vm rest d l
   output true i rest l h =
       let w = on_split r (walk2 (asked2 r false d.out)) Second rest (reaches l) h in
       subst (λ (v : List Item). Output r true v d l) (sym w.is) (output_end w.front w.rest w.end l w.on_front w.more)
@@ -442,7 +474,8 @@ module _ (r : Regime) (a : Access) (on : r.config.m ≡ true) (ok : is_refused1 
   abbrev W : Ask Need Item (End Landing)
   W = walk_by (under r false a)
 
-  keyed_at : (front rest : List Item) (e : End Leaf1) (l : Landing) → IsOn r (stage1 (Q r a)) front (done e) → IsOn r (stage2_behind (Q r a) e) rest (done (reaches l)) → Keyed r r.config.vm (marks r W (front ++ rest)) (front ++ rest) l
+  keyed_at : (front rest : List Item) (e : End Leaf1) (l : Landing) → IsOn r (stage1 (Q r a)) front (done e)
+      → IsOn r (stage2_behind (Q r a) e) rest (done (reaches l)) → Keyed r r.config.vm (marks r W (front ++ rest)) (front ++ rest) l
   keyed_at front rest (stops f) l h k = absurd (stop_end r f rest l k)
   keyed_at front rest (reaches d) l h k =
       let one = ends1 r a front d on ok h in
@@ -455,9 +488,13 @@ module _ (r : Regime) (a : Access) (on : r.config.m ≡ true) (ok : is_refused1 
         item1 = one.item;
         left1 = one.left;
         mark1 = one.mark_of;
-        entry1_is = entry1_last front rest one.item one.last (ap is_stage1 one.stage) (items_second r (stage2_behind (Q r a) (reaches d)) (done (reaches l)) rest s k);
+        entry1_is =
+            entry1_last front rest one.item one.last (ap is_stage1 one.stage) (items_second r (stage2_behind (Q r a) (reaches d)) (done (reaches l)) rest s k);
         level1 = one.level;
-        first_is = ap last_first m ∙ first_mark_last (marks r (stage1 (Q r a)) front) (marks r (stage2_behind (Q r a) (reaches d)) rest) one.mark_of one.mark_last one.first (second_marks r (stage2_behind (Q r a) (reaches d)) rest s);
+        first_is =
+            ap last_first m
+            ∙ first_mark_last (marks r (stage1 (Q r a)) front) (marks r (stage2_behind (Q r a) (reaches d)) rest) one.mark_of one.mark_last one.first
+            (second_marks r (stage2_behind (Q r a) (reaches d)) rest s);
         part = one.part;
         item2 = two.item;
         left2 = two.left;
@@ -475,20 +512,26 @@ module _ (r : Regime) (ms ns : List Mark) (xs ys : List Item) (l m : Landing) wh
   first_same : (vm : Bool) (d : Keyed r vm ms xs l) (g : Keyed r vm ns ys m) → last_entry1 xs ≡ last_entry1 ys → entry_of d.item1 ≡ entry_of g.item1
   first_same vm d g h = same_Some (entry_of d.item1) (entry_of g.item1) (sym d.entry1_is ∙ h ∙ g.entry1_is)
 
-  class1_same : (vm : Bool) (d : Keyed r vm ms xs l) (g : Keyed r vm ns ys m) → last_entry1 xs ≡ last_entry1 ys → class_at1 r d.left1 d.item1.pa d.item1.value ≡ class_at1 r g.left1 g.item1.pa g.item1.value
+  class1_same : (vm : Bool) (d : Keyed r vm ms xs l) (g : Keyed r vm ns ys m) → last_entry1 xs ≡ last_entry1 ys
+      → class_at1 r d.left1 d.item1.pa d.item1.value ≡ class_at1 r g.left1 g.item1.pa g.item1.value
   class1_same vm d g h =
       let e = first_same vm d g h in
-      ap (λ z. class_at1 r z d.item1.pa d.item1.value) (left_same d.item1 g.item1 d.left1 g.left1 d.level1 g.level1 e) ∙ ap (λ (z : Entry). class_at1 r g.left1 z.0 z.2) e
+      ap (λ z. class_at1 r z d.item1.pa d.item1.value) (left_same d.item1 g.item1 d.left1 g.left1 d.level1 g.level1 e)
+      ∙ ap (λ (z : Entry). class_at1 r g.left1 z.0 z.2) e
 
-  class_same : (vm : Bool) (d : Keyed r vm ms xs l) (g : Keyed r vm ns ys m) → last_entry1 xs ≡ last_entry1 ys → last_entry xs ≡ last_entry ys → l.class ≡ m.class
+  class_same : (vm : Bool) (d : Keyed r vm ms xs l) (g : Keyed r vm ns ys m) → last_entry1 xs ≡ last_entry1 ys → last_entry xs ≡ last_entry ys
+      → l.class ≡ m.class
   class_same false d g h k = d.class_is ∙ class1_same false d g h ∙ sym g.class_is
   class_same true d g h k =
       let e : entry_of d.item2 ≡ entry_of g.item2 = entries_same xs ys d.item2 g.item2 (d.entry2_is refl) (g.entry2_is refl) k in
       let c : class_at2 r d.left2 d.item2.pa d.item2.value ≡ class_at2 r g.left2 g.item2.pa g.item2.value =
-      ap (λ z. class_at2 r z d.item2.pa d.item2.value) (left_same d.item2 g.item2 d.left2 g.left2 (d.level2 refl) (g.level2 refl) e) ∙ ap (λ (z : Entry). class_at2 r g.left2 z.0 z.2) e in
-      d.class_is ∙ ap (λ z. smaller z (class_at2 r d.left2 d.item2.pa d.item2.value)) (class1_same true d g h) ∙ ap (smaller (class_at1 r g.left1 g.item1.pa g.item1.value)) c ∙ sym g.class_is
+      ap (λ z. class_at2 r z d.item2.pa d.item2.value) (left_same d.item2 g.item2 d.left2 g.left2 (d.level2 refl) (g.level2 refl) e)
+      ∙ ap (λ (z : Entry). class_at2 r g.left2 z.0 z.2) e in
+      d.class_is ∙ ap (λ z. smaller z (class_at2 r d.left2 d.item2.pa d.item2.value)) (class1_same true d g h)
+      ∙ ap (smaller (class_at1 r g.left1 g.item1.pa g.item1.value)) c ∙ sym g.class_is
 
-  global_same : (vm : Bool) (d : Keyed r vm ms xs l) (g : Keyed r vm ns ys m) → last_entry1 xs ≡ last_entry1 ys → is_global d.mark1.part ≡ is_global g.mark1.part
+  global_same : (vm : Bool) (d : Keyed r vm ms xs l) (g : Keyed r vm ns ys m) → last_entry1 xs ≡ last_entry1 ys
+      → is_global d.mark1.part ≡ is_global g.mark1.part
   global_same vm d g h =
       let e = first_same vm d g h in
       ap is_global d.part ∙ ap (λ z. is_global (part_of r S1 z d.item1.value)) (left_same d.item1 g.item1 d.left1 g.left1 d.level1 g.level1 e)
@@ -507,8 +550,10 @@ keys_are c a xs ys l m n o on ok h k p q e f =
     let d : Keyed r c.vm ms xs l = keyed r a on ok xs l h in
     let g : Keyed r c.vm ns ys m = keyed r a on ok ys m k in
     let dn : d.mark1 ≡ n = same_Some d.mark1 n (sym d.first_is ∙ p) in
-    let go : g.mark1 ≡ o = same_Some g.mark1 o (sym g.first_is ∙ q) in
-    (class_same r ms ns xs ys l m c.vm d g e f, ap (λ (z : Mark). is_global z.part) (sym dn) ∙ global_same r ms ns xs ys l m c.vm d g e ∙ ap (λ (z : Mark). is_global z.part) go)
+    let go : g.mark1 ≡ o = same_Some g.mark1 o (sym g.first_is ∙ q) in (
+      class_same r ms ns xs ys l m c.vm d g e f,
+      ap (λ (z : Mark). is_global z.part) (sym dn) ∙ global_same r ms ns xs ys l m c.vm d g e ∙ ap (λ (z : Mark). is_global z.part) go,
+    )
 
 -- a trail that leads to a translation has an item of stage 1
 pub first_had : (c : Config) (a : Access) (xs : List Item) (l : Landing) → c.m ≡ true → is_refused1 c a ≡ false →

@@ -18,7 +18,6 @@ use Rattle.machine_spec.specs.Header.{Kind, leaf1, table1, leaf2, table2}
 use Rattle.machine_spec.specs.Moments.{bank_after}
 use Rattle.machine_spec.specs.Invalidations.{event_at, inval_at, completes, IsComplete}
 use Rattle.machine_spec.specs.Marks.{Mark, marks, tag_by}
-use Rattle.machine_spec.specs.Uses.{use_of, above_of, AllUsed}
 use Rattle.machine_spec.specs.Kept.{View, now, regs_when, base_by, tag_of, IsHeld, IsKeptItem}
 use Rattle.machine_spec.specs.Rows.{Row}
 use Rattle.machine_spec.specs.Machine.{Core}
@@ -26,13 +25,11 @@ use Rattle.machine_laws.proofs.Trees.{chain}
 use Rattle.machine_laws.proofs.Facts.{In, sided, regime_for, IsLast, IsStored, IsRowBy, IsRow, AllApart, Facts}
 use Rattle.machine_laws.proofs.Fine.{longer, issued_now}
 use Rattle.machine_laws.proofs.Logs.{event-old, event-last, inval-old, inval-last, inval-within, regs-old, memory-old, issued_at}
-
-all_map : (P Q : Mark → Option ℕ → Type 0) → ((m : Mark) (o : Option ℕ) → P m o → Q m o) → (above : Option ℕ) (ms : List Mark) → AllUsed P above ms → AllUsed Q above ms
-all_map P Q f above [] h = h
-all_map P Q f above (m ∷ ms) h = (f m (use_of above m ms) h.0, all_map P Q f (above_of above m) ms h.1)
+use Rattle.machine_laws.proofs.Uses.{used_map}
 
 -- what a row promises holds of a weaker condition too
-pub row_map : (P Q : Side → Mark → Option ℕ → Type 0) → ((s : Side) (m : Mark) (o : Option ℕ) → P s m o → Q s m o) → (r : Row) (k : Kind) → IsRowBy P r k → IsRowBy Q r k
+pub row_map : (P Q : Side → Mark → Option ℕ → Type 0) → ((s : Side) (m : Mark) (o : Option ℕ) → P s m o → Q s m o) → (r : Row) (k : Kind) → IsRowBy P r k
+    → IsRowBy Q r k
 row_map P Q f r leaf1 h = λ a s.
     let g = h a s in
     record {
@@ -40,7 +37,9 @@ row_map P Q f r leaf1 h = λ a s.
       on = g.on;
       class_is = g.class_is;
       global_is = g.global_is;
-      stored = all_map (P (side_of a.va)) (Q (side_of a.va)) (f (side_of a.va)) None (marks (regime_for r.key.config a) (walk r.key.config false a) r.trail) g.stored;
+      stored =
+          used_map (P (side_of a.va)) (Q (side_of a.va)) (f (side_of a.va)) None (marks (regime_for r.key.config a) (walk r.key.config false a) r.trail)
+          g.stored;
     }
 row_map P Q f r table1 h = (
   h.0,
@@ -57,7 +56,7 @@ row_map P Q f r table1 h = (
         first = g.first;
         word = g.word;
         not_leaf = g.not_leaf;
-        stored = all_map (P (side_of a.va)) (Q (side_of a.va)) (f (side_of a.va)) None (g.front ++ g.last ∷ []) g.stored;
+        stored = used_map (P (side_of a.va)) (Q (side_of a.va)) (f (side_of a.va)) None (g.front ++ g.last ∷ []) g.stored;
       },
 )
 row_map P Q f r leaf2 h = (
@@ -69,7 +68,7 @@ row_map P Q f r leaf2 h = (
         leaf = g.leaf;
         on = g.on;
         class_is = g.class_is;
-        stored = all_map (P s) (Q s) (f s) None (marks (regime_of r.key.config s) (chain (regime_of r.key.config s) p x) r.trail) g.stored;
+        stored = used_map (P s) (Q s) (f s) None (marks (regime_of r.key.config s) (chain (regime_of r.key.config s) p x) r.trail) g.stored;
       },
 )
 row_map P Q f r table2 h = (
@@ -82,7 +81,7 @@ row_map P Q f r table2 h = (
         go = g.go;
         words = g.words;
         on = g.on;
-        stored = all_map (P s) (Q s) (f s) None (marks (regime_of r.key.config s) (chain (regime_of r.key.config s) p x) r.trail) g.stored;
+        stored = used_map (P s) (Q s) (f s) None (marks (regime_of r.key.config s) (chain (regime_of r.key.config s) p x) r.trail) g.stored;
       },
 )
 
@@ -106,7 +105,7 @@ module _ (v : View) (s : Step) where
         word = λ b. ap (λ (w : ℕ → Option ℕ). w m.item.pa) (memory-old v.header v.log s m.item.moment h) ∙ f.word b;
       }
 
-  complete_on : (use_ : ℕ) (i : Inval) → use_ ≤ now v → IsComplete (v.log ++ s ∷ []) use_ i → IsComplete v.log use_ i
+  pub complete_on : (use_ : ℕ) (i : Inval) → use_ ≤ now v → IsComplete (v.log ++ s ∷ []) use_ i → IsComplete v.log use_ i
   complete_on use_ i h d = record {
     step = d.step;
     event = d.event;
@@ -128,7 +127,8 @@ module _ (v : View) (s : Step) where
     live = λ word k i after at reach cov done_.
         let e : i.issued ≡ k = issued_at (v.log ++ s ∷ []) k i at in
         let lt : k < length v.log = omega (arith, e, done_.later, done_.earlier) in
-        f.live word k i after (sym (inval-old v.log s k lt) ∙ at) reach (subst (λ t. covers i t ≡ true) (tag_on m (omega (arith, f.past))) cov) (complete_on use_ i h done_);
+        f.live word k i after (sym (inval-old v.log s k lt) ∙ at) reach (subst (λ t. covers i t ≡ true) (tag_on m (omega (arith, f.past))) cov)
+        (complete_on use_ i h done_);
     asid = λ n. ap asid_of (regs-old v.log s v.core m.item.moment (omega (arith, f.past))) ∙ f.asid n ∙ sym (ap asid_of (regs-old v.log s v.core use_ h));
   }
 
@@ -182,7 +182,8 @@ module _ (v : View) (s : Step) where
   mail_case : (i : Inval)
       → ((i.issued < now v) × (IsComplete v.log (now v) i → ⊥) × (completes s.event i ≡ false)) ⊎ (i.issued ≡ now v)
       → (i.issued < now (longer v s)) × (IsComplete (v.log ++ s ∷ []) (now (longer v s)) i → ⊥)
-  mail_case i (inl h) = (simp length-append (omega (arith, h.0)), λ d. unfinished_on i h.1 h.2 d.step d.event d.later d.earlier d.is d.ends (cases_lt d.step (length v.log)))
+  mail_case i (inl h) =
+      (simp length-append (omega (arith, h.0)), λ d. unfinished_on i h.1 h.2 d.step d.event d.later d.earlier d.is d.ends (cases_lt d.step (length v.log)))
   mail_case i (inr e) = (simp length-append (omega arith), λ d. let lt = d.earlier in let lt2 = simp length-append at lt in omega (arith, d.later))
 
   -- One step of a core, whatever it does, keeps the facts: each message after it is an old one that the event doesn't

@@ -54,7 +54,8 @@ pub record FirstLeaf (c : Config) (trail : List Item) (ms : List Mark) (class : 
 -- the marks are the same, or cut behind an item of stage 1 that is followed by stage 2 alone
 abbrev pub IsCut : List Mark → List Mark → Type 0
 IsCut ms cut = (ms ≡ cut)
-    ⊎ ((pre : List Mark) × (m : Mark) × (out : List Mark) × (is_first m ≡ true) × (m.base ≡ false) × AllSecond out × (ms ≡ pre ++ m ∷ out) × (cut ≡ pre ++ m ∷ []))
+    ⊎ ((pre : List Mark) × (m : Mark) × (out : List Mark) × (is_first m ≡ true) × (m.base ≡ false) × AllSecond out × (ms ≡ pre ++ m ∷ out)
+    × (cut ≡ pre ++ m ∷ []))
 
 -- what judging makes of a trail that leads to a translation
 pub record Judged (c : Config) (trail : List Item) (a : Access) : Type 0 where
@@ -72,17 +73,23 @@ pub record Laws : Type 0 where
   pub plan_is : (c : Config) (j : Bool) (a : Access) → flat (regime_for c a) (plan c j a) ≡ walk c j a
   pub sound : (c : Config) (j : Bool) (a : Access) → IsSound (regime_for c a) (plan c j a)
   -- a chain has words of stage 2 behind its base
-  pub behind_words : (r : Regime) (p : Bool) (x base : ℕ) → IsWords (Rattle.walk_spec.specs.Stage2.walk2_behind (Rattle.walk_spec.specs.Stage1.asked2 r p x) base)
+  pub behind_words : (r : Regime) (p : Bool) (x base : ℕ)
+      → IsWords (Rattle.walk_spec.specs.Stage2.walk2_behind (Rattle.walk_spec.specs.Stage1.asked2 r p x) base)
   -- and reaches a leaf by a word
-  pub chain_word : (r : Regime) (p : Bool) (x : ℕ) (i : Item) (is : List Item) (l : Leaf2) → IsOn r (chain r p x) (i ∷ is) (done (reaches l)) → LastIs IsWord (marks r (chain r p x) (i ∷ is))
+  pub chain_word : (r : Regime) (p : Bool) (x : ℕ) (i : Item) (is : List Item) (l : Leaf2) → IsOn r (chain r p x) (i ∷ is) (done (reaches l))
+      → LastIs IsWord (marks r (chain r p x) (i ∷ is))
   -- without stage 1 all is of stage 2
-  pub no_stage1 : (c : Config) (a : Access) (items : List Item) → (c.m ≡ true → is_refused1 c a ≡ true) → AllSecond (marks (regime_for c a) (walk c true a) items)
+  pub no_stage1 : (c : Config) (a : Access) (items : List Item) → (c.m ≡ true → is_refused1 c a ≡ true)
+      → AllSecond (marks (regime_for c a) (walk c true a) items)
   -- what a row promises of the other addresses of its region
-  pub chain_leaf : (c : Config) (s t : Side) (p q : Bool) (x y : ℕ) (trail : List Item) (u : Ask Need Item (End Leaf2)) (pre : List Mark) (m : Mark) (g : Bool) →
-      is_refused2 c x ≡ false → IsOn (regime_of c s) (chain (regime_of c s) p x) trail u → marks (regime_of c s) (chain (regime_of c s) p x) trail ≡ pre ++ m ∷ [] →
+  pub chain_leaf : (c : Config) (s t : Side) (p q : Bool) (x y : ℕ) (trail : List Item) (u : Ask Need Item (End Leaf2)) (pre : List Mark) (m : Mark)
+      (g : Bool) →
+      is_refused2 c x ≡ false → IsOn (regime_of c s) (chain (regime_of c s) p x) trail u
+      → marks (regime_of c s) (chain (regime_of c s) p x) trail ≡ pre ++ m ∷ [] →
       m.part ≡ leaf g true → holds m.region y ≡ true → ChainLeaf (regime_of c t) q trail (pre ++ m ∷ []) m.region.class y
   pub chain_table : (c : Config) (s t : Side) (p q : Bool) (x y : ℕ) (trail : List Item) (u : Ask Need Item (End Leaf2)) (pre : List Mark) (m : Mark) →
-      is_refused2 c x ≡ false → IsOn (regime_of c s) (chain (regime_of c s) p x) trail u → marks (regime_of c s) (chain (regime_of c s) p x) trail ≡ pre ++ m ∷ [] →
+      is_refused2 c x ≡ false → IsOn (regime_of c s) (chain (regime_of c s) p x) trail u
+      → marks (regime_of c s) (chain (regime_of c s) p x) trail ≡ pre ++ m ∷ [] →
       m.part ≡ table true → holds m.region y ≡ true → ChainTable (regime_of c t) q trail (pre ++ m ∷ []) y
   pub first_table : (c : Config) (a b : Access) (trail : List Item) (u : Ask Need Item (End Landing)) (pre : List Mark) (m : Mark) →
       c.m ≡ true → is_refused1 c b ≡ false → IsOn (regime_for c a) (walk c true a) trail u → marks (regime_for c a) (walk c true a) trail ≡ pre ++ m ∷ [] →

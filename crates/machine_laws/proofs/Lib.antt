@@ -2,6 +2,7 @@ pub mod Trees
 pub mod Facts
 pub mod Laws
 pub mod Lists
+pub mod Pairs
 pub mod Stands
 pub mod Equal
 pub mod Fine
@@ -38,3 +39,8 @@ pub mod Outlived
 pub mod NoRows
 pub mod Timeless
 pub mod Unchanged
+pub mod Gone
+pub mod LeavingRuns
+pub mod Promised
+pub mod Wrong
+pub mod WrongRuns

@@ -1,8 +1,9 @@
 -- Membership by recursion, and induction on a list's end.
-use Rattle.std.proofs.Common.{◌≡◌, Bool, true, false, cond, List, [], ◌∷◌, ◌++◌, drop, ◌⊎◌, inl, inr, refl, sym, subst, append_assoc, append-nil, Option, Some, None}
+use Rattle.std.proofs.Common.{◌≡◌, ℕ, zero, suc, Bool, true, false, cond, List, [], ◌∷◌, ◌++◌, drop, ◌⊎◌, inl, inr, refl, sym, subst, append_assoc, append-nil, Option, Some, None}
 use Rattle.std.specs.Prelude.{filter, find}
 use Rattle.std.proofs.lemmas.Option.{same_Some}
-use Rattle.machine_laws.proofs.Facts.{In}
+use Rattle.machine_spec.specs.Sets.{without}
+use Rattle.machine_laws.specs.Leaving.{In}
 
 module _ {X : Type 0} (P : List X → Type 0) (step : (xs : List X) (x : X) → P xs → P (xs ++ x ∷ [])) where
   ends : (ys xs : List X) → P ys → P (ys ++ xs)
@@ -20,7 +21,8 @@ In-filter p (y ∷ ys) x (inr i) h =
     let rest = In-filter p ys x i h in
     elim (p y) as (λ b. In x (cond b (y ∷ filter p ys) (filter p ys))) [ true ↦ inr rest | false ↦ rest ]
 
-filter_case : {X : Type 0} (p : X → Bool) (y : X) (ys : List X) (x : X) (b : Bool) → p y ≡ b → (In x (filter p ys) → In x ys × (p x ≡ true)) → In x (cond b (y ∷ filter p ys) (filter p ys)) → ((x ≡ y) ⊎ In x ys) × (p x ≡ true)
+filter_case : {X : Type 0} (p : X → Bool) (y : X) (ys : List X) (x : X) (b : Bool) → p y ≡ b → (In x (filter p ys) → In x ys × (p x ≡ true))
+    → In x (cond b (y ∷ filter p ys) (filter p ys)) → ((x ≡ y) ⊎ In x ys) × (p x ≡ true)
 filter_case p y ys x true e rest (inl h) = (inl h, subst (λ v. p v ≡ true) (sym h) e)
 filter_case p y ys x true e rest (inr h) = (inr (rest h).0, (rest h).1)
 filter_case p y ys x false e rest h = (inr (rest h).0, (rest h).1)
@@ -48,11 +50,12 @@ pub In-drop_one : {X : Type 0} (xs : List X) (x : X) → In x (drop 1 xs) → In
 In-drop_one [] x h = elim h [ ]
 In-drop_one (y ∷ ys) x h = inr h
 
-find_case : {X : Type 0} (p : X → Bool) (y : X) (ys : List X) (x : X) (b : Bool) → p y ≡ b → (find p ys ≡ Some x → In x ys × (p x ≡ true)) → cond b (Some y) (find p ys) ≡ Some x → ((x ≡ y) ⊎ In x ys) × (p x ≡ true)
+find_case : {X : Type 0} (p : X → Bool) (y : X) (ys : List X) (x : X) (b : Bool) → p y ≡ b → (find p ys ≡ Some x → In x ys × (p x ≡ true))
+    → cond b (Some y) (find p ys) ≡ Some x → ((x ≡ y) ⊎ In x ys) × (p x ≡ true)
 find_case p y ys x true e rest h = let s : y ≡ x = same_Some y x h in (inl (sym s), subst (λ v. p v ≡ true) s e)
 find_case p y ys x false e rest h = (inr (rest h).0, (rest h).1)
 
-none_some : {X P : Type 0} (x : X) → ◌≡◌ {A = Option X} None (Some x) → P
+pub none_some : {X P : Type 0} (x : X) → ◌≡◌ {A = Option X} None (Some x) → P
 none_some x h = cc
 
 pub In-find : {X : Type 0} (p : X → Bool) (xs : List X) (x : X) → find p xs ≡ Some x → In x xs × (p x ≡ true)
@@ -63,3 +66,21 @@ pub In-append : {X : Type 0} (xs ys : List X) (x : X) → In x (xs ++ ys) → In
 In-append [] ys x h = inr h
 In-append (z ∷ zs) ys x (inl e) = inl (inl e)
 In-append (z ∷ zs) ys x (inr i) = elim (In-append zs ys x i) [ inl j ↦ inl (inr j) | inr j ↦ inr j ]
+
+without_first : {X : Type 0} (p : X → Bool) (x : X) (xs : List X) (y : X) (b : Bool) → (In y (without p xs zero) → In y xs)
+    → In y (cond b xs (x ∷ without p xs zero)) → In y (x ∷ xs)
+without_first p x xs y true rec i = inr i
+without_first p x xs y false rec (inl e) = inl e
+without_first p x xs y false rec (inr i) = inr (rec i)
+
+without_later : {X : Type 0} (p : X → Bool) (x : X) (xs : List X) (y : X) (n : ℕ) (b : Bool) → (In y (without p xs n) → In y xs)
+    → (In y (without p xs (suc n)) → In y xs) → In y (cond b (x ∷ without p xs n) (x ∷ without p xs (suc n))) → In y (x ∷ xs)
+without_later p x xs y n true here rest (inl e) = inl e
+without_later p x xs y n true here rest (inr i) = inr (here i)
+without_later p x xs y n false here rest (inl e) = inl e
+without_later p x xs y n false here rest (inr i) = inr (rest i)
+
+pub In-without : {X : Type 0} (p : X → Bool) (xs : List X) (n : ℕ) (y : X) → In y (without p xs n) → In y xs
+In-without p [] n y i = i
+In-without p (x ∷ xs) zero y i = without_first p x xs y (p x) (In-without p xs zero y) i
+In-without p (x ∷ xs) (suc n) y i = without_later p x xs y n (p x) (In-without p xs n y) (In-without p xs (suc n) y) i

@@ -1,5 +1,5 @@
 -- What a log means after one more step.
-use Rattle.std.proofs.Common.{◌≡◌, ℕ, zero, suc, ◌<◌, ◌≤◌, List, [], ◌∷◌, ◌++◌, length, map, take, refl, sym, ap, ◌∙◌, Some, Option, None, arith}
+use Rattle.std.proofs.Common.{◌≡◌, ℕ, zero, suc, ◌<◌, ◌≤◌, List, [], ◌∷◌, ◌++◌, length, map, take, refl, sym, ap, ◌∙◌, Some, Option, arith}
 use Rattle.std.specs.Prelude.{slice_get}
 use Rattle.std.specs.Option.{option_and_then}
 use Rattle.std.proofs.lemmas.List.{map-append, length-map, take-append-le, take_at}
@@ -14,9 +14,7 @@ use Rattle.tlbi_ops.specs.Operands.{inval_of}
 use Rattle.machine_spec.specs.Header.{Header}
 use Rattle.machine_spec.specs.Moments.{zeros, stored, memory_after, no_bank, banked, bank_after, regs_after, regs_at}
 use Rattle.machine_spec.specs.Invalidations.{issued_by, event_at, inval_at}
-
-pub none_some : {X P : Type 0} (x : X) → ◌≡◌ {A = Option X} None (Some x) → P
-none_some x h = cc
+use Rattle.machine_laws.proofs.Lists.{none_some}
 
 pub get-old : {X : Type 0} (xs ys : List X) (k : ℕ) → k < length xs → slice_get (xs ++ ys) k ≡ slice_get xs k
 get-old [] ys k h = absurd (omega arith)

@@ -1,86 +1,27 @@
 -- What a log means behind one more step that issues no invalidation.
-use Rattle.std.proofs.Common.{◌≡◌, ℕ, zero, suc, ◌<◌, ◌≤◌, true, false, List, [], ◌∷◌, ◌++◌, length, map, take, refl, sym, ap, ◌∙◌, subst, Some, Option, None, arith}
-use Rattle.std.specs.Prelude.{slice_get}
-use Rattle.std.specs.Option.{option_and_then}
-use Rattle.std.proofs.lemmas.List.{map-append, length-map, take-append-le, length-append, take_at}
-use Rattle.std.proofs.lemmas.Option.{slice_get_within, option_and_then_some, same_Some}
+use Rattle.std.proofs.Common.{◌≡◌, ℕ, ◌<◌, ◌≤◌, true, false, List, [], ◌∷◌, ◌++◌, length, take, refl, sym, ap, ◌∙◌, subst, Some, arith}
+use Rattle.std.proofs.lemmas.List.{take-append-le, take_at}
 use Rattle.sysregs.specs.declared.regs.Regs.{Regs}
 use Rattle.sysregs.specs.declared.regs.Side.{Side}
 use Rattle.sysregs.specs.declared.regs.Config.{Config}
 use Rattle.sysregs.specs.Registers.{config_of, asid_of, vmid_of}
 use Rattle.fault_codes.specs.declared.fault.Stage.{Stage}
 use Rattle.fault_codes.specs.declared.fault.Stage.TheVariants.{S1, S2}
-use Rattle.trails.specs.declared.event.Event.{Event}
-use Rattle.trails.specs.declared.event.Event.TheVariants.{Store, Msr, Settle, Isb, Tlbi, Dsb, Deliver, Access, Prefetch}
 use Rattle.trails.specs.declared.step.Step.{Step}
 use Rattle.tlbi_ops.specs.declared.inval.Inval.{Inval}
-use Rattle.tlbi_ops.specs.Operands.{inval_of}
 use Rattle.tlbi_ops.specs.Covers.{covers, is_stage1}
 use Rattle.machine_spec.specs.Moments.{memory_after, regs_after, regs_at}
-use Rattle.machine_spec.specs.Invalidations.{issued_by, event_at, inval_at, IsComplete}
+use Rattle.machine_spec.specs.Invalidations.{inval_at}
 use Rattle.machine_spec.specs.Marks.{Mark, is_first, tag_by}
 use Rattle.machine_spec.specs.Kept.{View, now, base_by, tag_of, IsHeld, IsKeptItem}
 use Rattle.machine_laws.proofs.Facts.{sided}
 use Rattle.machine_laws.proofs.Fine.{longer, issued_now}
-
-get_old : {X : Type 0} (xs ys : List X) (k : ℕ) → k < length xs → slice_get (xs ++ ys) k ≡ slice_get xs k
-get_old [] ys k h = absurd (omega arith)
-get_old (x ∷ xs) ys zero h = refl
-get_old (x ∷ xs) ys (suc k) h = get_old xs ys k (omega arith)
-
-get_last : {X : Type 0} (xs : List X) (x : X) → slice_get (xs ++ x ∷ []) (length xs) ≡ Some x
-get_last [] x = refl
-get_last (y ∷ ys) x = get_last ys x
-
-event_old : (log : List Step) (s : Step) (k : ℕ) → k < length log → event_at (log ++ s ∷ []) k ≡ event_at log k
-event_old log s k h = rw map-append (get_old (map (λ (s : Step). s.event) log) (s.event ∷ []) k (simp length-map h))
-
-event_last : (log : List Step) (s : Step) → event_at (log ++ s ∷ []) (length log) ≡ Some s.event
-event_last log s = rw (map-append, ← length-map log (λ (s : Step). s.event)) (get_last (map (λ (s : Step). s.event) log) s.event)
-
-event_within : (log : List Step) (k : ℕ) (e : Event) → event_at log k ≡ Some e → k < length log
-event_within log k e h = simp length-map at (slice_get_within (map (λ (s : Step). s.event) log) k e h)
-
-pub regs_old : (log : List Step) (s : Step) (c k : ℕ) → k ≤ length log → regs_at (log ++ s ∷ []) c k ≡ regs_at log c k
-regs_old log s c k h = ap (regs_after c) (take-append-le k log (s ∷ []) h)
+use Rattle.machine_laws.proofs.Logs.{regs-old, inval-old, inval-last, inval-within, issued_at}
+use Rattle.machine_laws.proofs.Lasting.{at_last, complete_on}
 
 -- the moment of the step itself
 pub regs_now : (log : List Step) (s : Step) (c k : ℕ) → k ≡ length log → regs_at (log ++ s ∷ []) c k ≡ regs_after c log
 regs_now log s c k h = ap (regs_after c) (take_at log (s ∷ []) k (sym h))
-
-inval_old : (log : List Step) (s : Step) (k : ℕ) → k < length log → inval_at (log ++ s ∷ []) k ≡ inval_at log k
-inval_old log s k h =
-    ap (option_and_then (issued_by (λ c. regs_at (log ++ s ∷ []) c k) k)) (event_old log s k h)
-    ∙ ap (λ (v : List Step). option_and_then (issued_by (λ c. regs_after c v) k) (event_at log k)) (take-append-le k log (s ∷ []) (omega arith))
-
-inval_last : (log : List Step) (s : Step) → inval_at (log ++ s ∷ []) (length log) ≡ issued_by (λ c. regs_after c log) (length log) s.event
-inval_last log s =
-    ap (option_and_then (issued_by (λ c. regs_at (log ++ s ∷ []) c (length log)) (length log))) (event_last log s)
-    ∙ ap (λ (v : List Step). issued_by (λ c. regs_after c v) (length log) s.event) (take_at log (s ∷ []) (length log) refl)
-
-inval_within : (log : List Step) (k : ℕ) (i : Inval) → inval_at log k ≡ Some i → k < length log
-inval_within log k i h = option_and_then_some (issued_by (λ c. regs_at log c k) k) (event_at log k) i h (λ e at is. event_within log k e at)
-
-none_some : {X P : Type 0} (x : X) → ◌≡◌ {A = Option X} None (Some x) → P
-none_some x h = cc
-
-issued_is : (g : ℕ → Regs) (k : ℕ) (e : Event) (i : Inval) → issued_by g k e ≡ Some i → i.issued ≡ k
-unfolding issued_by inval_of
-issued_is g k (Tlbi core from op shared operand) i h = ap (λ (v : Inval). v.issued) (sym (same_Some _ i h))
-issued_is g k (Store core pa value) i h = none_some i h
-issued_is g k (Msr core reg value) i h = none_some i h
-issued_is g k (Settle core) i h = none_some i h
-issued_is g k (Isb core) i h = none_some i h
-issued_is g k (Dsb core kind) i h = none_some i h
-issued_is g k (Deliver core) i h = none_some i h
-issued_is g k (Access core a) i h = none_some i h
-issued_is g k (Prefetch core a) i h = none_some i h
-
-issued_at : (log : List Step) (k : ℕ) (i : Inval) → inval_at log k ≡ Some i → i.issued ≡ k
-issued_at log k i h = option_and_then_some (issued_by (λ c. regs_at log c k) k) (event_at log k) i h (λ e at is. issued_is (λ c. regs_at log c k) k e i is)
-
-at_last : (log : List Step) (s : Step) (k : ℕ) → length log ≤ k → k < length (log ++ s ∷ []) → k ≡ length log
-at_last log s k h j = let j2 = simp length-append at j in omega arith
 
 -- SIDES
 
@@ -104,7 +45,7 @@ module _ (v : View) (s : Step) (t : Side) where
 
   pub held_on : (cf : Config) (vm : ℕ) (m : Mark) → OfBoth v.side t m → m.item.moment ≤ now v → IsHeld v cf vm m → IsHeld Behind cf vm m
   held_on cf vm m both h f =
-      let e : regs_at (v.log ++ s ∷ []) v.core m.item.moment ≡ regs_at v.log v.core m.item.moment = regs_old v.log s v.core m.item.moment h in
+      let e : regs_at (v.log ++ s ∷ []) v.core m.item.moment ≡ regs_at v.log v.core m.item.moment = regs-old v.log s v.core m.item.moment h in
       let q : take m.item.moment (v.log ++ s ∷ []) ≡ take m.item.moment v.log = take-append-le m.item.moment v.log (s ∷ []) h in
       record {
         config_was = ap config_of e ∙ f.config_was;
@@ -113,26 +54,23 @@ module _ (v : View) (s : Step) (t : Side) where
         word = λ b. ap (λ l. memory_after v.header l m.item.pa) q ∙ f.word b;
       }
 
-  complete_on : (use_ : ℕ) (i : Inval) → use_ ≤ now v → IsComplete (v.log ++ s ∷ []) use_ i → IsComplete v.log use_ i
-  complete_on use_ i h d = record { step = d.step; event = d.event; later = d.later; earlier = d.earlier; is = sym (event_old v.log s d.step (omega (arith, d.earlier))) ∙ d.is; ends = d.ends }
-
   -- an item that is kept up to a use stays so
   pub kept_on : (cf : Config) (vm : ℕ) (m : Mark) (use_ : ℕ) → OfBoth v.side t m → use_ ≤ now v → IsKeptItem v cf vm m use_ → IsKeptItem Behind cf vm m use_
   kept_on cf vm m use_ both h f = record {
     past = f.past;
     held = held_on cf vm m both (omega (arith, f.past)) f.held;
     at_base = f.at_base;
-    asid = λ n. ap asid_of (regs_old v.log s v.core m.item.moment (omega (arith, f.past))) ∙ f.asid n ∙ sym (ap asid_of (regs_old v.log s v.core use_ h));
+    asid = λ n. ap asid_of (regs-old v.log s v.core m.item.moment (omega (arith, f.past))) ∙ f.asid n ∙ sym (ap asid_of (regs-old v.log s v.core use_ h));
     live = λ word k i past at reach cov done.
         let e : i.issued ≡ k = issued_at (v.log ++ s ∷ []) k i at in
         let lt : k < length v.log = omega (arith, e, done.later, done.earlier) in
-        let tag : tag_of Behind m ≡ tag_of v m = ap (λ g. tag_by g m) (regs_old v.log s v.core m.item.moment (omega (arith, f.past))) in
-        f.live word k i past (sym (inval_old v.log s k lt) ∙ at) reach (subst (λ x. covers i x ≡ true) tag cov) (complete_on use_ i h done);
+        let tag : tag_of Behind m ≡ tag_of v m = ap (λ g. tag_by g m) (regs-old v.log s v.core m.item.moment (omega (arith, f.past))) in
+        f.live word k i past (sym (inval-old v.log s k lt) ∙ at) reach (subst (λ x. covers i x ≡ true) tag cov) (complete_on v s use_ i h done);
   }
 
   -- behind a step that issues none, no invalidation has a number from the old length on
   pub none_since : ((i : Inval) → issued_now v s.event ≡ Some i → ⊥) → (k : ℕ) (i : Inval) → now v ≤ k → inval_at (v.log ++ s ∷ []) k ≡ Some i → ⊥
   none_since none k i past at =
-      let q : k ≡ length v.log = at_last v.log s k past (inval_within (v.log ++ s ∷ []) k i at) in
+      let q : k ≡ length v.log = at_last v.log s k past (inval-within (v.log ++ s ∷ []) k i at) in
       let at2 : inval_at (v.log ++ s ∷ []) (length v.log) ≡ Some i = subst (λ x. inval_at (v.log ++ s ∷ []) x ≡ Some i) q at in
-      none i (sym (inval_last v.log s) ∙ at2)
+      none i (sym (inval-last v.log s) ∙ at2)

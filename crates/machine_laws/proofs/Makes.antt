@@ -16,7 +16,6 @@ use Rattle.walk_spec.specs.BothStages.{Landing, walk}
 use Rattle.machine_spec.specs.Header.{Kind, leaf1, table1, leaf2, table2, keeps_rows}
 use Rattle.machine_spec.specs.Moments.{regs_after}
 use Rattle.machine_spec.specs.Marks.{Mark, marks}
-use Rattle.machine_spec.specs.Uses.{use_of, above_of, AllUsed}
 use Rattle.machine_spec.specs.Kept.{View, now}
 use Rattle.machine_spec.specs.Rows.{Row, holds}
 use Rattle.machine_spec.specs.Made.{Maker, rows_of, combined_rows, rows_made}
@@ -30,19 +29,19 @@ use Rattle.machine_laws.proofs.Lists.{In-append}
 use Rattle.machine_laws.proofs.Fine.{config_at, here, UsedBy, ServedOk, longer, issued_now, MadeOk, MakesWell}
 use Rattle.machine_laws.proofs.Making.{rows_of_words}
 use Rattle.machine_laws.proofs.Combined.{combined_row, end_class, renumbered, numbered_cases, made_one}
-use Rattle.machine_laws.proofs.Added.{IsKeyed, In-all_added, apart_added, within_touched, apart_touched, other_asid, made_same}
+use Rattle.machine_laws.proofs.Added.{IsKeyed, apart_added, within_touched, apart_touched, other_asid, made_same}
+use Rattle.machine_laws.proofs.Uses.{used_map}
+use Rattle.machine_laws.proofs.Sets.{all_added}
 
 -- NUMBERS
 
-used_map : (P Q : Mark → Option ℕ → Type 0) → ((m : Mark) (o : Option ℕ) → P m o → Q m o) → (above : Option ℕ) (ms : List Mark) → AllUsed P above ms → AllUsed Q above ms
-used_map P Q f above [] h = h
-used_map P Q f above (m ∷ ms) h = (f m (use_of above m ms) h.0, used_map P Q f (above_of above m) ms h.1)
-
-stored_numbered : (v : View) (inbox : List Inval) (r : Row) (d : Made) (m : Mark) (o : Option ℕ) → IsStored v inbox r m o → IsStored v inbox (renumbered r d) m o
+stored_numbered : (v : View) (inbox : List Inval) (r : Row) (d : Made) (m : Mark) (o : Option ℕ) → IsStored v inbox r m o
+    → IsStored v inbox (renumbered r d) m o
 stored_numbered v inbox r d m None f = record { before = f.before; held = f.held; word = f.word; tag_is = f.tag_is; pending = f.pending; asid = f.asid }
 stored_numbered v inbox r d m (Some u) f = f
 
-numbered_by : (P Q : Side → Mark → Option ℕ → Type 0) → ((s : Side) (m : Mark) (o : Option ℕ) → P s m o → Q s m o) → (r : Row) (d : Made) (k : Kind) → IsRowBy P r k → IsRowBy Q (renumbered r d) k
+numbered_by : (P Q : Side → Mark → Option ℕ → Type 0) → ((s : Side) (m : Mark) (o : Option ℕ) → P s m o → Q s m o) → (r : Row) (d : Made) (k : Kind)
+    → IsRowBy P r k → IsRowBy Q (renumbered r d) k
 numbered_by P Q f r d leaf1 h = λ a s.
     let g = h a (record { held = s.held; on = s.on; accepted = s.accepted }) in
     record {
@@ -50,7 +49,9 @@ numbered_by P Q f r d leaf1 h = λ a s.
       on = g.on;
       class_is = g.class_is;
       global_is = g.global_is;
-      stored = used_map (P (side_of a.va)) (Q (side_of a.va)) (f (side_of a.va)) None (marks (regime_for r.key.config a) (walk r.key.config false a) r.trail) g.stored;
+      stored =
+          used_map (P (side_of a.va)) (Q (side_of a.va)) (f (side_of a.va)) None (marks (regime_for r.key.config a) (walk r.key.config false a) r.trail)
+          g.stored;
     }
 numbered_by P Q f r d table1 h = (
   h.0,
@@ -75,26 +76,39 @@ numbered_by P Q f r d leaf2 h = (
   h.1,
   λ s p x i.
       let g = h.2 s p x i in
-      record { leaf = g.leaf; on = g.on; class_is = g.class_is; stored = used_map (P s) (Q s) (f s) None (marks (regime_of r.key.config s) (chain (regime_of r.key.config s) p x) r.trail) g.stored },
+      record {
+        leaf = g.leaf;
+        on = g.on;
+        class_is = g.class_is;
+        stored = used_map (P s) (Q s) (f s) None (marks (regime_of r.key.config s) (chain (regime_of r.key.config s) p x) r.trail) g.stored;
+      },
 )
 numbered_by P Q f r d table2 h = (
   h.0,
   h.1,
   λ s p x i.
       let g = h.2 s p x i in
-      record { need = g.need; go = g.go; words = g.words; on = g.on; stored = used_map (P s) (Q s) (f s) None (marks (regime_of r.key.config s) (chain (regime_of r.key.config s) p x) r.trail) g.stored },
+      record {
+        need = g.need;
+        go = g.go;
+        words = g.words;
+        on = g.on;
+        stored = used_map (P s) (Q s) (f s) None (marks (regime_of r.key.config s) (chain (regime_of r.key.config s) p x) r.trail) g.stored;
+      },
 )
 
 -- a row's fact doesn't look at its number
 row_numbered : (v : View) (inbox : List Inval) (r : Row) (d : Made) → IsRow v inbox r → IsRow v inbox (renumbered r d)
-row_numbered v inbox r d h = numbered_by (λ s. IsStored (sided v s) inbox r) (λ s. IsStored (sided v s) inbox (renumbered r d)) (λ s. stored_numbered (sided v s) inbox r d) r d r.kind h
+row_numbered v inbox r d h =
+    numbered_by (λ s. IsStored (sided v s) inbox r) (λ s. IsStored (sided v s) inbox (renumbered r d)) (λ s. stored_numbered (sided v s) inbox r d) r d r.kind h
 
 keyed_of : (v : View) (inbox : List Inval) (r : Row) → IsRow v inbox r → IsKeyed r
 keyed_of v inbox r h e = let q = subst (IsRowBy (λ s. IsStored (sided v s) inbox r) r) e h in (q.0, q.1)
 
 -- THE ROWS OF A STEP
 
-module _ (laws : Laws) (v : View) (w : Core) (a : Access) (s : Step) (r : Reply) (side : v.side ≡ side_of a.va) (none : (i : Inval) → issued_now v s.event ≡ Some i → ⊥) (f : Facts v w)
+module _ (laws : Laws) (v : View) (w : Core) (a : Access) (s : Step) (r : Reply) (side : v.side ≡ side_of a.va)
+    (none : (i : Inval) → issued_now v s.event ≡ Some i → ⊥) (f : Facts v w)
     (ok : ServedOk v w.cache.rows a r) where
   abbrev maker : Maker
   maker = record { regs = regs_after v.core v.log; step = now v }
@@ -108,7 +122,8 @@ module _ (laws : Laws) (v : View) (w : Core) (a : Access) (s : Step) (r : Reply)
   abbrev news : Fed Need (End Landing) → List Row
   news end = rows_made maker (untagged a.va) r.items met end
 
-  before_numbers : (end : Fed Need (End Landing)) → UsedBy v a r (came end) → (z : Row) → In z (rows_of maker [] [] met) ⊎ In z (combined_rows maker (untagged a.va) r.items met end) → Then z
+  before_numbers : (end : Fed Need (End Landing)) → UsedBy v a r (came end) → (z : Row)
+      → In z (rows_of maker [] [] met) ⊎ In z (combined_rows maker (untagged a.va) r.items met end) → Then z
   before_numbers (ended e) u z (inl i) = rows_of_words laws v s none w.inbox a side r.items (done e) u.on u.used z i
   before_numbers (ended e) u z (inr i) = combined_row laws v s none w.inbox a side r.items e u.on u.used z i
   before_numbers (lacks n) u z (inl i) = rows_of_words laws v s none w.inbox a side r.items (ask n u.0) u.1.on u.1.used z i
@@ -125,7 +140,8 @@ module _ (laws : Laws) (v : View) (w : Core) (a : Access) (s : Step) (r : Reply)
   alone end y i ly x ix =
       let d = made_one maker (untagged a.va) r.items met end y i ly in
       let n : ℕ = end_class end in
-      let held : holds y.region (untagged a.va) ≡ true = subst (λ (z : Region). holds z (untagged a.va) ≡ true) (sym d.region_is) (eq-eqb (untagged a.va / 2 ^ n) (untagged a.va / 2 ^ n) refl) in
+      let held : holds y.region (untagged a.va) ≡ true =
+      subst (λ (z : Region). holds z (untagged a.va) ≡ true) (sym d.region_is) (eq-eqb (untagged a.va / 2 ^ n) (untagged a.va / 2 ^ n) refl) in
       other_asid (regs_after v.core v.log) (untagged a.va) x y (ok.alone d.mark_of d.last_is d.read x ix) d.key_is held
 
   filled_well : (b : Bool) (end : Fed Need (End Landing)) → UsedBy v a r (came end) →
@@ -134,13 +150,17 @@ module _ (laws : Laws) (v : View) (w : Core) (a : Access) (s : Step) (r : Reply)
   filled_well true end u =
       let served = within_touched w.cache.rows f.apart v.header.policy r.by ok.live in
       record {
-        rows = λ x i. elim (In-all_added v.header v.core (news end) (record w.cache { rows = touched v.header.policy w.cache.rows r.by }) x i) [
+        rows = λ x i. elim (all_added v.header v.core (news end) (record w.cache { rows = touched v.header.policy w.cache.rows r.by }) x i) [
           | inl m ↦ inl (served x m)
           | inr m ↦ inr (have_facts end u x m)
         ];
-        apart = apart_added v.header v.core w.cache.rows (news end) (λ x i. keyed_of v w.inbox x (f.rows x i)) (λ x i. keyed_of (longer v s) w.inbox x (have_facts end u x i)) (alone end)
-            (λ x y ix iy lx ly. made_same maker (end_class end) (untagged a.va) met y x (ly ∙ sym lx) (made_one maker (untagged a.va) r.items met end y iy ly) (made_one maker (untagged a.va) r.items met end x ix lx))
-            (news end) (record w.cache { rows = touched v.header.policy w.cache.rows r.by }) (λ x i. i) (λ x i. inl (served x i)) (apart_touched w.cache.rows f.apart v.header.policy r.by ok.live);
+        apart = apart_added v.header v.core w.cache.rows (news end) (λ x i. keyed_of v w.inbox x (f.rows x i))
+            (λ x i. keyed_of (longer v s) w.inbox x (have_facts end u x i)) (alone end)
+            (λ x y ix iy lx ly.
+            made_same maker (end_class end) (untagged a.va) met y x (ly ∙ sym lx) (made_one maker (untagged a.va) r.items met end y iy ly)
+            (made_one maker (untagged a.va) r.items met end x ix lx))
+            (news end) (record w.cache { rows = touched v.header.policy w.cache.rows r.by }) (λ x i. i) (λ x i. inl (served x i))
+            (apart_touched w.cache.rows f.apart v.header.policy r.by ok.live);
       }
 
 pub makes_well : Laws → MakesWell

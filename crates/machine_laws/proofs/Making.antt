@@ -51,7 +51,7 @@ use Rattle.machine_laws.proofs.Trees.{IsOn, is_need1, needs_base, chain, Plan, f
 use Rattle.machine_laws.proofs.Facts.{In, sided, regime_for, IsStored, IsRow}
 use Rattle.machine_laws.proofs.Laws.{Laws}
 use Rattle.machine_laws.proofs.Lists.{In-append}
-use Rattle.machine_laws.proofs.Stands.{on_append, marks_append, mark_first, mark_base, mark_item, words_second, second_marks}
+use Rattle.machine_laws.proofs.Stands.{on_append, marks_append, mark_first, mark_base, mark_item, words_second, second_marks, marks_nil}
 use Rattle.machine_laws.proofs.Fine.{Good, config_at, here, longer, issued_now}
 use Rattle.machine_laws.proofs.Fronts.{front_first, front_second, used_drop}
 use Rattle.machine_laws.proofs.Longer.{regs_now, OfBoth, both_second, both_same, held_on, kept_on, none_since}
@@ -73,10 +73,6 @@ leaf_word r (word w) i g b h = refl
 
 second_asid : (m : Mark) → is_first m ≡ false → has_asid m ≡ true → {P : Type 0} → P
 second_asid m f h = absurd (both_ways (has_asid m) (rw f refl) h)
-
-marks_nil : {B : Type 0} (r : Regime) (t : Ask Need Item B) → marks r t [] ≡ []
-marks_nil r (done a) = refl
-marks_nil r (ask n k) = refl
 
 -- ONE HALF OF THE ADDRESSES
 
@@ -104,7 +100,8 @@ module _ (P : Need → Type 0) where
   asks_if true t u h g = h
   asks_if false t u h g = g
 
-  asks_go : {X A : Type 0} (stop : X → A) (next : Item → Ask Need Item A) (found : Result Item X) → ((i : Item) → Asks P (next i)) → Asks P (go_on stop next found)
+  asks_go : {X A : Type 0} (stop : X → A) (next : Item → Ask Need Item A) (found : Result Item X) → ((i : Item) → Asks P (next i))
+      → Asks P (go_on stop next found)
   asks_go stop next (Ok i) h = h i
   asks_go stop next (Err x) h = tt
 
@@ -122,15 +119,18 @@ module _ (q : Asked) where
   for_read_by : (left : ℕ) (t : Table1) (e : End Leaf2) → left ≤ q.regime.stage1.start → Asks For (read1_by q.regime.config (entry1 q left t) e)
   for_read_by left t (stops f) l = tt
   for_read_by left t (reaches m) l =
-      asks_if For (is_readable q.regime.config m) (read1 (entry1 q left t) m.pa) (done (Err record { stage = S2; level = m.level; class = Permission; s1ptw = true })) (for_read left t m.pa l) tt
+      asks_if For (is_readable q.regime.config m) (read1 (entry1 q left t) m.pa)
+      (done (Err record { stage = S2; level = m.level; class = Permission; s1ptw = true })) (for_read left t m.pa l) tt
 
   for_word : (left : ℕ) (t : Table1) → left ≤ q.regime.stage1.start → Asks For (word_of q.regime (entry1 q left t))
   for_word left t l =
       let e = entry1 q left t in
       asks_if For q.regime.config.vm (after (walk2 (asked2 q.regime true e.place)) (read1_by q.regime.config e)) (read1 e e.place)
-      (asks_after For (walk2 (asked2 q.regime true e.place)) (read1_by q.regime.config e) (for_walk2 true e.place) (λ d. for_read_by left t d l)) (for_read left t e.place l)
+      (asks_after For (walk2 (asked2 q.regime true e.place)) (read1_by q.regime.config e) (for_walk2 true e.place) (λ d. for_read_by left t d l))
+      (for_read left t e.place l)
 
-  for_step : (below : Table1 → Ask Entry1 Item (End Leaf1)) (s : TableStep Leaf1 Table1) → ((t : Table1) → Asks For (finer stops (word_of q.regime) (below t))) → Asks For (finer stops (word_of q.regime) (step_then below s))
+  for_step : (below : Table1 → Ask Entry1 Item (End Leaf1)) (s : TableStep Leaf1 Table1)
+      → ((t : Table1) → Asks For (finer stops (word_of q.regime) (below t))) → Asks For (finer stops (word_of q.regime) (step_then below s))
   for_step below (Down t) h = h t
   for_step below (Reached l) h = tt
   for_step below (Stopped f) h = tt
@@ -138,22 +138,28 @@ module _ (q : Asked) where
   for_from : (left : ℕ) (t : Table1) → left ≤ q.regime.stage1.start → Asks For (stage1_from q left t)
   for_from zero t l =
       let below : Table1 → Ask Entry1 Item (End Leaf1) = λ t. done (stops (fault1 Translation 0)) in
-      asks_after For (word_of q.regime (entry1 q 0 t)) (go_on stops (λ i. finer stops (word_of q.regime) (step_then below (step1 q (entry1 q 0 t) i.pa i.value)))) (for_word 0 t l)
-      (λ d. asks_go For stops (λ i. finer stops (word_of q.regime) (step_then below (step1 q (entry1 q 0 t) i.pa i.value))) d (λ i. for_step below (step1 q (entry1 q 0 t) i.pa i.value) (λ t. tt)))
+      asks_after For (word_of q.regime (entry1 q 0 t))
+      (go_on stops (λ i. finer stops (word_of q.regime) (step_then below (step1 q (entry1 q 0 t) i.pa i.value)))) (for_word 0 t l)
+      (λ d. asks_go For stops (λ i. finer stops (word_of q.regime) (step_then below (step1 q (entry1 q 0 t) i.pa i.value))) d
+      (λ i. for_step below (step1 q (entry1 q 0 t) i.pa i.value) (λ t. tt)))
   for_from (suc left) t l =
-      asks_after For (word_of q.regime (entry1 q (suc left) t)) (go_on stops (λ i. finer stops (word_of q.regime) (step_then (walk1_from q left) (step1 q (entry1 q (suc left) t) i.pa i.value)))) (for_word (suc left) t l)
+      asks_after For (word_of q.regime (entry1 q (suc left) t))
+      (go_on stops (λ i. finer stops (word_of q.regime) (step_then (walk1_from q left) (step1 q (entry1 q (suc left) t) i.pa i.value))))
+      (for_word (suc left) t l)
       (λ d. asks_go For stops (λ i. finer stops (word_of q.regime) (step_then (walk1_from q left) (step1 q (entry1 q (suc left) t) i.pa i.value))) d
       (λ i. for_step (walk1_from q left) (step1 q (entry1 q (suc left) t) i.pa i.value) (λ t. for_from left t (omega (arith, l)))))
 
   for_behind : (base : ℕ) → Asks For (stage1_behind q base)
   for_behind base =
-      asks_if For (is_too_large q.regime.stage1 base) (done (stops (fault1 AddressSize most_left))) (stage1_from q q.regime.stage1.start record { address = base; bits = no_bits })
+      asks_if For (is_too_large q.regime.stage1 base) (done (stops (fault1 AddressSize most_left)))
+      (stage1_from q q.regime.stage1.start record { address = base; bits = no_bits })
       tt (for_from q.regime.stage1.start record { address = base; bits = no_bits } (omega arith))
 
   for_stage1 : Asks For (stage1 q)
   for_stage1 =
       asks_if For q.regime.config.m (stage1_on q) (stage1_off q)
-      (asks_if For (is_refused1 q.regime.config q.access) (done (stops (fault1 Translation most_left))) (ask base1 (λ i. stage1_behind q i.value)) tt (tt, λ i. for_behind i.value)) tt
+      (asks_if For (is_refused1 q.regime.config q.access) (done (stops (fault1 Translation most_left))) (ask base1 (λ i. stage1_behind q i.value)) tt
+      (tt, λ i. for_behind i.value)) tt
 
   for_output : (e : End Leaf1) → Asks For (stage2_behind q e)
   for_output (stops f) = tt
@@ -166,9 +172,11 @@ module _ (q : Asked) where
 
 -- a table of stage 1 has a small region around the address
 abbrev IsNearTable : Regime → ℕ → Mark → Type 0
-IsNearTable r x m = is_first m ≡ true → (b : Bool) → m.part ≡ table b → (m.region.class ≤ class_of r.stage1.granule r.stage1.start) × (m.region.start ≡ x / 2 ^ m.region.class)
+IsNearTable r x m =
+    is_first m ≡ true → (b : Bool) → m.part ≡ table b → (m.region.class ≤ class_of r.stage1.granule r.stage1.start) × (m.region.start ≡ x / 2 ^ m.region.class)
 
-table_class : (r : Regime) (kind : Kind1) (left pa : ℕ) (b : Bool) → part1 r kind ≡ table b → left ≤ r.stage1.start → class_by (mapping1 kind) r.stage1 left pa ≤ class_of r.stage1.granule r.stage1.start
+table_class : (r : Regime) (kind : Kind1) (left pa : ℕ) (b : Bool) → part1 r kind ≡ table b → left ≤ r.stage1.start
+    → class_by (mapping1 kind) r.stage1 left pa ≤ class_of r.stage1.granule r.stage1.start
 table_class r Invalid left pa b h l = absurd cc
 table_class r (Table address bits) left pa b h l = class_up r.stage1.granule left r.stage1.start l
 table_class r (Leaf out attr_index bits sh af global contiguous) left pa b h l = absurd cc
@@ -198,12 +206,15 @@ near_last r x [] m h = h.0
 near_last r x (y ∷ pre) m h = near_last r x pre m h.1
 
 -- the last mark of a walk's trail, where it is a table of stage 1
-near_table : (c : Config) (a : Access) (trail : List Item) (pre : List Mark) (m : Mark) → marks (regime_for c a) (walk c true a) trail ≡ pre ++ m ∷ [] → IsNearTable (regime_for c a) (untagged a.va) m
+near_table : (c : Config) (a : Access) (trail : List Item) (pre : List Mark) (m : Mark) → marks (regime_for c a) (walk c true a) trail ≡ pre ++ m ∷ []
+    → IsNearTable (regime_for c a) (untagged a.va) m
 near_table c a trail pre m e =
-    near_last (regime_for c a) (untagged a.va) pre m (subst (AllNear (regime_for c a) (untagged a.va)) e (near_marks (regime_for c a) (untagged a.va) (walk c true a) trail (for_walk (asked c true a))))
+    near_last (regime_for c a) (untagged a.va) pre m
+    (subst (AllNear (regime_for c a) (untagged a.va)) e (near_marks (regime_for c a) (untagged a.va) (walk c true a) trail (for_walk (asked c true a))))
 
 -- so two accesses that meet the same table are of one half
-table_side : (c : Config) (a b : Access) (trail : List Item) (pre : List Mark) (m : Mark) → is_refused1 c b ≡ false → marks (regime_for c a) (walk c true a) trail ≡ pre ++ m ∷ []
+table_side : (c : Config) (a b : Access) (trail : List Item) (pre : List Mark) (m : Mark) → is_refused1 c b ≡ false
+    → marks (regime_for c a) (walk c true a) trail ≡ pre ++ m ∷ []
     → marks (regime_for c b) (walk c true b) trail ≡ pre ++ m ∷ [] → is_first m ≡ true → m.part ≡ table true → side_of b.va ≡ side_of a.va
 table_side c a b trail pre m ref is same first part =
     let p = near_table c a trail pre m is first true part in
@@ -229,7 +240,8 @@ IsOneOf k m whole part st p r =
     ((st ≡ S1) × (p ≡ table true) × (r ≡ row_of k m table1 whole))
     ⊎ (((st ≡ S2) × (p ≡ table true) × (r ≡ row_of k m table2 part)) ⊎ ((st ≡ S2) × ((g : Bool) × (p ≡ leaf g true)) × (r ≡ row_of k m leaf2 part)))
 
-row_cases : (k : Maker) (m : Mark) (whole part : List Item) (st : Stage) (p : Part) (r : Row) → In r (rows_by k m whole part st p) → IsOneOf k m whole part st p r
+row_cases : (k : Maker) (m : Mark) (whole part : List Item) (st : Stage) (p : Part) (r : Row) → In r (rows_by k m whole part st p)
+    → IsOneOf k m whole part st p r
 row_cases k m whole part S1 nothing r h = absurd h
 row_cases k m whole part S1 (table b) r h = let o = only_case b (row_of k m table1 whole) r h in inl (refl, ap table o.0, o.1)
 row_cases k m whole part S1 (leaf g b) r h = absurd h
@@ -245,7 +257,8 @@ at_case : (b : Bool) (rs : List Row) (r : Row) → In r (cond b rs []) → (b �
 at_case true rs r h = (refl, h)
 at_case false rs r h = absurd h
 
-pub at_cases : (k : Maker) (m : Mark) (whole part : List Item) (r : Row) → In r (row_at k m whole part) → (m.item.moment ≡ k.step) × IsOneOf k m whole part m.stage m.part r
+pub at_cases : (k : Maker) (m : Mark) (whole part : List Item) (r : Row) → In r (row_at k m whole part)
+    → (m.item.moment ≡ k.step) × IsOneOf k m whole part m.stage m.part r
 at_cases k m whole part r h =
     let o = at_case (is_read_now k m) (rows_by k m whole part m.stage m.part) r h in
     (eqb-true m.item.moment k.step o.0, row_cases k m whole part m.stage m.part r o.1)
@@ -270,14 +283,19 @@ module _ (laws : Laws) (v : View) (s : Step) (none : (i : Inval) → issued_now 
   held_at above pre m ms h = subst (λ g. IsHeld v (config_of g) (vmid_of g) m) when_now (used_drop (Good v) above pre (m ∷ ms) h).1.0.0.held
 
   -- an item whose use has been
-  pub closed : (t : Side) (r : Row) → r.key.config ≡ config_at v → r.key.vmid ≡ vmid_of regs → (m : Mark) (u : ℕ) → OfBoth v.side t m → Good v m (Some u) → Then t r m (Some u)
+  pub closed : (t : Side) (r : Row) → r.key.config ≡ config_at v → r.key.vmid ≡ vmid_of regs → (m : Mark) (u : ℕ) → OfBoth v.side t m → Good v m (Some u)
+      → Then t r m (Some u)
   closed t r ec ev m u both h =
       let f : IsKeptItem v (config_at v) (vmid_of regs) m u = subst (λ g. IsKeptItem v (config_of g) (vmid_of g) m u) when_now h.0 in
-      let q = kept_on v s t (config_at v) (vmid_of regs) m u both h.1 f in
-      (subst (λ x. IsKeptItem (sided (longer v s) t) x r.key.vmid m u) (sym ec) (subst (λ x. IsKeptItem (sided (longer v s) t) (config_at v) x m u) (sym ev) q), simp length-append (omega (arith, h.1)))
+      let q = kept_on v s t (config_at v) (vmid_of regs) m u both h.1 f in (
+        subst (λ x. IsKeptItem (sided (longer v s) t) x r.key.vmid m u) (sym ec)
+            (subst (λ x. IsKeptItem (sided (longer v s) t) (config_at v) x m u) (sym ev) q),
+        simp length-append (omega (arith, h.1)),
+      )
 
   -- an item that was read now, and whose use is to come
-  pub last : (t : Side) (r : Row) → r.key.config ≡ config_at v → r.key.vmid ≡ vmid_of regs → (m : Mark) → OfBoth v.side t m → m.item.moment ≡ now v → m.base ≡ false → tag_by regs m ≡ r.tag
+  pub last : (t : Side) (r : Row) → r.key.config ≡ config_at v → r.key.vmid ≡ vmid_of regs → (m : Mark) → OfBoth v.side t m → m.item.moment ≡ now v
+      → m.base ≡ false → tag_by regs m ≡ r.tag
       → (has_asid m ≡ true → (asid_of regs ≡ r.key.asid) × (r.global ≡ false)) → HeldNow m → Then t r m None
   last t r ec ev m both at b tag asid held =
       let e = regs_now v.log s v.core m.item.moment at in
@@ -303,8 +321,10 @@ module _ (laws : Laws) (v : View) (s : Step) (none : (i : Inval) → issued_now 
     abbrev R : Regime
     R = regime_for (config_at v) a
 
-    table1_row : (tr : List Item) (u : Ask Need Item (End Landing)) (ws : List Mark) (m : Mark) (rest : List Mark) → IsOn R (here v a) tr u → marks R (here v a) tr ≡ ws ++ m ∷ []
-        → m.item.moment ≡ now v → is_first m ≡ true → m.part ≡ table true → m.base ≡ false → HeldNow m → AllUsed (Good v) None (ws ++ m ∷ rest) → IsRow (longer v s) inbox (row_with (key_of regs) m table1 tr)
+    table1_row : (tr : List Item) (u : Ask Need Item (End Landing)) (ws : List Mark) (m : Mark) (rest : List Mark) → IsOn R (here v a) tr u
+        → marks R (here v a) tr ≡ ws ++ m ∷ []
+        → m.item.moment ≡ now v → is_first m ≡ true → m.part ≡ table true → m.base ≡ false → HeldNow m → AllUsed (Good v) None (ws ++ m ∷ rest)
+        → IsRow (longer v s) inbox (row_with (key_of regs) m table1 tr)
     table1_row tr u ws m rest on is at first part base held used =
         let r : Row = row_with (key_of regs) m table1 tr in (
           refl,
@@ -322,37 +342,52 @@ module _ (laws : Laws) (v : View) (s : Step) (none : (i : Inval) → issued_now 
                 first = first;
                 word = base;
                 not_leaf = ap is_leaf part;
-                stored = front_first (Good v) (Then (side_of b.va) r) (λ x u. closed (side_of b.va) r refl refl x u (both_same v.side (side_of b.va) x e)) None ws m rest first
+                stored =
+                    front_first (Good v) (Then (side_of b.va) r) (λ x u. closed (side_of b.va) r refl refl x u (both_same v.side (side_of b.va) x e)) None ws
+                    m rest first
                     (last (side_of b.va) r refl refl m (both_same v.side (side_of b.va) m e) at base refl (λ n. (refl, refl)) held) used;
               },
         )
 
-    module _ (p : Bool) (x : ℕ) (ref : is_refused2 (config_at v) x ≡ false) (part : List Item) (u : Ask Need Item (End Leaf2)) (pm : List Mark) (m : Mark) (rest : List Mark) (above : Option ℕ)
+    module _ (p : Bool) (x : ℕ) (ref : is_refused2 (config_at v) x ≡ false) (part : List Item) (u : Ask Need Item (End Leaf2)) (pm : List Mark) (m : Mark)
+        (rest : List Mark) (above : Option ℕ)
         (on : IsOn R (chain R p x) part u) (is : marks R (chain R p x) part ≡ pm ++ m ∷ []) (sec : AllSecond pm)
-        (at : m.item.moment ≡ now v) (first : is_first m ≡ false) (base : m.base ≡ false) (held : HeldNow m) (used : AllUsed (Good v) above (pm ++ m ∷ rest)) where
-      stored2 : (kind : Kind) (t : Side) → AllUsed (Then t (row_with key2 m kind part)) None (pm ++ m ∷ [])
-      stored2 kind t =
-          let r : Row = row_with key2 m kind part in
-          front_second (Good v) (Then t r) (λ x u f. closed t r refl refl x u (both_second v.side t x f)) above pm m rest sec first
-          (last t r refl refl m (both_second v.side t m first) at base refl (λ n. second_asid m first n) held) used
+        (at : m.item.moment ≡ now v) (first : is_first m ≡ false) (base : m.base ≡ false) (held : HeldNow m) (used : AllUsed (Good v) above (pm ++ m ∷ rest))
+      where
+        stored2 : (kind : Kind) (t : Side) → AllUsed (Then t (row_with key2 m kind part)) None (pm ++ m ∷ [])
+        stored2 kind t =
+            let r : Row = row_with key2 m kind part in
+            front_second (Good v) (Then t r) (λ x u f. closed t r refl refl x u (both_second v.side t x f)) above pm m rest sec first
+            (last t r refl refl m (both_second v.side t m first) at base refl (λ n. second_asid m first n) held) used
 
-      leaf2_row : (g : Bool) → m.part ≡ leaf g true → IsRow (longer v s) inbox (row_with key2 m leaf2 part)
-      leaf2_row g lf = (
-        refl,
-        refl,
-        λ t q y holds.
-            let l = laws.chain_leaf (config_at v) (side_of a.va) t p q x y part u pm m g ref on is lf holds in
-            record { leaf = l.leaf_at; on = l.on; class_is = l.class_is; stored = subst (AllUsed (Then t (row_with key2 m leaf2 part)) None) (sym l.same) (stored2 leaf2 t) },
-      )
+        leaf2_row : (g : Bool) → m.part ≡ leaf g true → IsRow (longer v s) inbox (row_with key2 m leaf2 part)
+        leaf2_row g lf = (
+          refl,
+          refl,
+          λ t q y holds.
+              let l = laws.chain_leaf (config_at v) (side_of a.va) t p q x y part u pm m g ref on is lf holds in
+              record {
+                leaf = l.leaf_at;
+                on = l.on;
+                class_is = l.class_is;
+                stored = subst (AllUsed (Then t (row_with key2 m leaf2 part)) None) (sym l.same) (stored2 leaf2 t);
+              },
+        )
 
-      table2_row : m.part ≡ table true → IsRow (longer v s) inbox (row_with key2 m table2 part)
-      table2_row tab = (
-        refl,
-        refl,
-        λ t q y holds.
-            let l = laws.chain_table (config_at v) (side_of a.va) t p q x y part u pm m ref on is tab holds in
-            record { need = l.need; go = l.go; words = l.words; on = l.on; stored = subst (AllUsed (Then t (row_with key2 m table2 part)) None) (sym l.same) (stored2 table2 t) },
-      )
+        table2_row : m.part ≡ table true → IsRow (longer v s) inbox (row_with key2 m table2 part)
+        table2_row tab = (
+          refl,
+          refl,
+          λ t q y holds.
+              let l = laws.chain_table (config_at v) (side_of a.va) t p q x y part u pm m ref on is tab holds in
+              record {
+                need = l.need;
+                go = l.go;
+                words = l.words;
+                on = l.on;
+                stored = subst (AllUsed (Then t (row_with key2 m table2 part)) None) (sym l.same) (stored2 table2 t);
+              },
+        )
 
     -- THE ROWS OF A TRAIL
 
@@ -369,35 +404,47 @@ module _ (laws : Laws) (v : View) (s : Step) (none : (i : Inval) → issued_now 
     Uses1 whole t xs = AllUsed (Good v) None (marks R (here v a) whole ++ marks R t xs)
 
     -- one more item of the whole trail
-    uses_on : (whole : List Item) (n : Need) (k : Item → Walk) (y : Item) (ys : List Item) → IsOn R (here v a) whole (ask n k) → Uses1 whole (ask n k) (y ∷ ys) → Uses1 (whole ++ y ∷ []) (k y) ys
+    uses_on : (whole : List Item) (n : Need) (k : Item → Walk) (y : Item) (ys : List Item) → IsOn R (here v a) whole (ask n k)
+        → Uses1 whole (ask n k) (y ∷ ys) → Uses1 (whole ++ y ∷ []) (k y) ys
     uses_on whole n k y ys on h =
-        let e = ap (λ x. x ++ marks R (k y) ys) (marks_append R (here v a) (ask n k) whole (y ∷ []) on) ∙ append_assoc (marks R (here v a) whole) (mark R n y ∷ marks R (k y) []) (marks R (k y) ys)
+        let e = ap (λ x. x ++ marks R (k y) ys) (marks_append R (here v a) (ask n k) whole (y ∷ []) on)
+        ∙ append_assoc (marks R (here v a) whole) (mark R n y ∷ marks R (k y) []) (marks R (k y) ys)
         ∙ ap (λ x. marks R (here v a) whole ++ mark R n y ∷ (x ++ marks R (k y) ys)) (marks_nil R (k y)) in
         subst (AllUsed (Good v) None) (sym e) h
 
     stage_first : (m : Mark) (b : Bool) (st : Stage) → m.stage ≡ st → is_first m ≡ b → is_stage1 st ≡ b
     stage_first m b st e f = sym (ap is_stage1 e) ∙ f
 
-    first_item : (whole part : List Item) (n : Need) (k : Item → Walk) (y : Item) (ys : List Item) → is_need1 n ≡ true → IsOn R (here v a) whole (ask n k) → fits R n y ≡ true → Uses1 whole (ask n k) (y ∷ ys)
+    first_item : (whole part : List Item) (n : Need) (k : Item → Walk) (y : Item) (ys : List Item) → is_need1 n ≡ true → IsOn R (here v a) whole (ask n k)
+        → fits R n y ≡ true → Uses1 whole (ask n k) (y ∷ ys)
         → All (row_at maker (mark R n y) (whole ++ y ∷ []) part)
     first_item whole part n k y ys need1 on fit used r h =
         let m : Mark = mark R n y in
         let c = at_cases maker m (whole ++ y ∷ []) part r h in
         let f : is_first m ≡ true = mark_first R n y ∙ need1 in
-        let is : marks R (here v a) (whole ++ y ∷ []) ≡ marks R (here v a) whole ++ m ∷ [] = marks_append R (here v a) (ask n k) whole (y ∷ []) on ∙ ap (λ x. marks R (here v a) whole ++ m ∷ x) (marks_nil R (k y)) in
+        let is : marks R (here v a) (whole ++ y ∷ []) ≡ marks R (here v a) whole ++ m ∷ [] =
+        marks_append R (here v a) (ask n k) whole (y ∷ []) on ∙ ap (λ x. marks R (here v a) whole ++ m ∷ x) (marks_nil R (k y)) in
         elim c.1 [
           | inl p ↦
               subst (IsRow (longer v s) inbox) (sym (p.2 ∙ ap (λ x. row_with x m table1 (whole ++ y ∷ [])) (ap (key_for regs) p.0)))
-              (table1_row (whole ++ y ∷ []) (k y) (marks R (here v a) whole) m (marks R (k y) ys) (on_append R (here v a) (ask n k) (k y) whole (y ∷ []) on (fit, refl)) is
+              (table1_row (whole ++ y ∷ []) (k y) (marks R (here v a) whole) m (marks R (k y) ys)
+              (on_append R (here v a) (ask n k) (k y) whole (y ∷ []) on (fit, refl)) is
               c.0 f p.1 (table_word R n y true p.1) (held_at None (marks R (here v a) whole) m (marks R (k y) ys) used) used)
-          | inr p ↦ elim p [ inl e ↦ absurd (both_ways false refl (stage_first m true S2 e.0 f)) | inr e ↦ absurd (both_ways false refl (stage_first m true S2 e.0 f)) ]
+          | inr p ↦
+              elim p [
+                | inl e ↦ absurd (both_ways false refl (stage_first m true S2 e.0 f))
+                | inr e ↦
+                    absurd (both_ways false refl (stage_first m true S2 e.0 f))
+              ]
         ]
 
     chain_second : (p : Bool) (x : ℕ) (part : List Item) → AllSecond (marks R (chain R p x) part)
     chain_second p x part = second_marks R (chain R p x) part (refl, λ i. words_second (walk2_behind (asked2 R p x) i.value) (laws.behind_words R p x i.value))
 
-    second_item : (p : Bool) (x : ℕ) → is_refused2 (config_at v) x ≡ false → (whole part : List Item) (n : Need) (k : Item → Ask Need Item (End Leaf2)) (y : Item) (rest : List Mark) (above : Option ℕ)
-        → is_need1 n ≡ false → IsOn R (chain R p x) part (ask n k) → fits R n y ≡ true → AllUsed (Good v) above (marks R (chain R p x) part ++ mark R n y ∷ rest)
+    second_item : (p : Bool) (x : ℕ) → is_refused2 (config_at v) x ≡ false
+        → (whole part : List Item) (n : Need) (k : Item → Ask Need Item (End Leaf2)) (y : Item) (rest : List Mark) (above : Option ℕ)
+        → is_need1 n ≡ false → IsOn R (chain R p x) part (ask n k) → fits R n y ≡ true
+        → AllUsed (Good v) above (marks R (chain R p x) part ++ mark R n y ∷ rest)
         → All (row_at maker (mark R n y) whole (part ++ y ∷ []))
     second_item p x ref whole part n k y rest above need1 on fit used r h =
         let m : Mark = mark R n y in
@@ -405,7 +452,8 @@ module _ (laws : Laws) (v : View) (s : Step) (none : (i : Inval) → issued_now 
         let c = at_cases maker m whole (part ++ y ∷ []) r h in
         let f : is_first m ≡ false = mark_first R n y ∙ need1 in
         let on2 : IsOn R (chain R p x) (part ++ y ∷ []) (k y) = on_append R (chain R p x) (ask n k) (k y) part (y ∷ []) on (fit, refl) in
-        let is : marks R (chain R p x) (part ++ y ∷ []) ≡ pm ++ m ∷ [] = marks_append R (chain R p x) (ask n k) part (y ∷ []) on ∙ ap (λ z. pm ++ m ∷ z) (marks_nil R (k y)) in
+        let is : marks R (chain R p x) (part ++ y ∷ []) ≡ pm ++ m ∷ [] =
+        marks_append R (chain R p x) (ask n k) part (y ∷ []) on ∙ ap (λ z. pm ++ m ∷ z) (marks_nil R (k y)) in
         let held : HeldNow m = held_at above pm m rest used in
         elim c.1 [
           | inl e ↦ absurd (both_ways true (stage_first m false S1 e.0 f) refl)
@@ -413,41 +461,51 @@ module _ (laws : Laws) (v : View) (s : Step) (none : (i : Inval) → issued_now 
             | inl e ↦ subst (IsRow (longer v s) inbox) (sym (e.2 ∙ ap (λ z. row_with z m table2 (part ++ y ∷ [])) (ap (key_for regs) e.0)))
                 (table2_row p x ref (part ++ y ∷ []) (k y) pm m rest above on2 is (chain_second p x part) c.0 f (table_word R n y true e.1) held used e.1)
             | inr e ↦ subst (IsRow (longer v s) inbox) (sym (e.2 ∙ ap (λ z. row_with z m leaf2 (part ++ y ∷ [])) (ap (key_for regs) e.0)))
-                (leaf2_row p x ref (part ++ y ∷ []) (k y) pm m rest above on2 is (chain_second p x part) c.0 f (leaf_word R n y e.1.0 true e.1.1) held used e.1.0 e.1.1)
+                (leaf2_row p x ref (part ++ y ∷ []) (k y) pm m rest above on2 is (chain_second p x part) c.0 f (leaf_word R n y e.1.0 true e.1.1) held used
+                e.1.0 e.1.1)
           ]
         ]
 
     abbrev with_by : Bool → Bool → List Item → Item → List Item
     with_by first base part i = cond first [] (cond base (i ∷ []) (part ++ i ∷ []))
 
-    with_is : (n : Need) (y : Item) (first base : Bool) (part : List Item) → is_need1 n ≡ first → needs_base n ≡ base → chain_with part (mark R n y) ≡ with_by first base part y
+    with_is : (n : Need) (y : Item) (first base : Bool) (part : List Item) → is_need1 n ≡ first → needs_base n ≡ base
+        → chain_with part (mark R n y) ≡ with_by first base part y
     with_is n y first base part f b =
-        ap (λ z. with_by z (mark R n y).base part (mark R n y).item) (mark_first R n y ∙ f) ∙ ap (λ z. with_by first z part (mark R n y).item) (mark_base R n y ∙ b) ∙ ap (with_by first base part) (mark_item R n y)
+        ap (λ z. with_by z (mark R n y).base part (mark R n y).item) (mark_first R n y ∙ f)
+        ∙ ap (λ z. with_by first z part (mark R n y).item) (mark_base R n y ∙ b) ∙ ap (with_by first base part) (mark_item R n y)
 
     -- the rows of a list that begins with this item
     rows_more : (n : Need) (y : Item) (first base : Bool) (whole part : List Item) (rest : List Mark) → is_need1 n ≡ first → needs_base n ≡ base
-        → All (row_at maker (mark R n y) (whole ++ y ∷ []) (with_by first base part y)) → All (rows_of maker (whole ++ y ∷ []) (with_by first base part y) rest) → All (rows_of maker whole part (mark R n y ∷ rest))
+        → All (row_at maker (mark R n y) (whole ++ y ∷ []) (with_by first base part y))
+        → All (rows_of maker (whole ++ y ∷ []) (with_by first base part y) rest) → All (rows_of maker whole part (mark R n y ∷ rest))
     rows_more n y first base whole part rest f b one more =
         let m : Mark = mark R n y in
-        subst (λ i. All (row_at maker m (whole ++ i ∷ []) (chain_with part m) ++ rows_of maker (whole ++ i ∷ []) (chain_with part m) rest)) (sym (mark_item R n y))
+        subst (λ i. All (row_at maker m (whole ++ i ∷ []) (chain_with part m) ++ rows_of maker (whole ++ i ∷ []) (chain_with part m) rest))
+        (sym (mark_item R n y))
         (subst (λ q. All (row_at maker m (whole ++ y ∷ []) q ++ rows_of maker (whole ++ y ∷ []) q rest)) (sym (with_is n y first base part f b))
         (all_append (row_at maker m (whole ++ y ∷ []) (with_by first base part y)) (rows_of maker (whole ++ y ∷ []) (with_by first base part y) rest) one more))
 
     module _ (p : Bool) (x : ℕ) (ref : is_refused2 (config_at v) x ≡ false) (go : End Leaf2 → Walk) (w : Walk)
-        (later : (e : End Leaf2) (whole part xs : List Item) → IsOn R (here v a) whole (go e) → IsOn R (go e) xs w → Uses1 whole (go e) xs → All (rows_of maker whole part (marks R (go e) xs))) where
-      rows_chain : (u : Ask Need Item (End Leaf2)) (whole part xs : List Item) (above : Option ℕ) → IsWords u → IsOn R (chain R p x) part u → IsOn R (here v a) whole (after u go) → IsOn R (after u go) xs w
-          → Uses1 whole (after u go) xs → AllUsed (Good v) above (marks R (chain R p x) part ++ marks R (after u go) xs) → All (rows_of maker whole part (marks R (after u go) xs))
+        (later : (e : End Leaf2) (whole part xs : List Item) → IsOn R (here v a) whole (go e) → IsOn R (go e) xs w → Uses1 whole (go e) xs
+        → All (rows_of maker whole part (marks R (go e) xs))) where
+      rows_chain : (u : Ask Need Item (End Leaf2)) (whole part xs : List Item) (above : Option ℕ) → IsWords u → IsOn R (chain R p x) part u
+          → IsOn R (here v a) whole (after u go) → IsOn R (after u go) xs w
+          → Uses1 whole (after u go) xs → AllUsed (Good v) above (marks R (chain R p x) part ++ marks R (after u go) xs)
+          → All (rows_of maker whole part (marks R (after u go) xs))
       rows_chain (done e) whole part xs above words q on h u1 u2 = later e whole part xs on h u1
       rows_chain (ask n k) whole part [] above words q on h u1 u2 = λ r i. absurd i
       rows_chain (ask n k) whole part (y ∷ ys) above words q on h u1 u2 =
           let pm : List Mark = marks R (chain R p x) part in
           let rest : List Mark = marks R (after (k y) go) ys in
           let eq : marks R (chain R p x) (part ++ y ∷ []) ++ rest ≡ pm ++ mark R n y ∷ rest =
-          ap (λ z. z ++ rest) (marks_append R (chain R p x) (ask n k) part (y ∷ []) q ∙ ap (λ z. pm ++ mark R n y ∷ z) (marks_nil R (k y))) ∙ append_assoc pm (mark R n y ∷ []) rest in
+          ap (λ z. z ++ rest) (marks_append R (chain R p x) (ask n k) part (y ∷ []) q ∙ ap (λ z. pm ++ mark R n y ∷ z) (marks_nil R (k y)))
+          ∙ append_assoc pm (mark R n y ∷ []) rest in
           rows_more n y false false whole part rest words.0 words.1
           (second_item p x ref (whole ++ y ∷ []) part n k y rest above words.0 q h.0 u2)
           (rows_chain (k y) (whole ++ y ∷ []) (part ++ y ∷ []) ys above (words.2 y) (on_append R (chain R p x) (ask n k) (k y) part (y ∷ []) q (h.0, refl))
-          (on_append R (here v a) (after (ask n k) go) (after (k y) go) whole (y ∷ []) on (h.0, refl)) h.1 (uses_on whole n (λ i. after (k i) go) y ys on u1) (subst (AllUsed (Good v) above) (sym eq) u2))
+          (on_append R (here v a) (after (ask n k) go) (after (k y) go) whole (y ∷ []) on (h.0, refl)) h.1 (uses_on whole n (λ i. after (k i) go) y ys on u1)
+          (subst (AllUsed (Good v) above) (sym eq) u2))
 
     -- a base gives no row
     none_at : (whole part : List Item) (n : Need) (y : Item) → needs_base n ≡ true → All (row_at maker (mark R n y) whole part)
@@ -460,9 +518,12 @@ module _ (laws : Laws) (v : View) (s : Step) (none : (i : Inval) → issued_now 
         ]
 
     abbrev RowsOf : Plan → Type 0
-    RowsOf p = (whole part xs : List Item) (w : Walk) → IsOn R (here v a) whole (flat R p) → IsOn R (flat R p) xs w → Uses1 whole (flat R p) xs → All (rows_of maker whole part (marks R (flat R p) xs))
+    RowsOf p =
+        (whole part xs : List Item) (w : Walk) → IsOn R (here v a) whole (flat R p) → IsOn R (flat R p) xs w → Uses1 whole (flat R p) xs
+        → All (rows_of maker whole part (marks R (flat R p) xs))
 
-    own_item : (whole part : List Item) (n : Need) (k : Item → Walk) (y : Item) (ys : List Item) (b : Bool) → is_need1 n ≡ true → needs_base n ≡ b → IsOn R (here v a) whole (ask n k) → fits R n y ≡ true
+    own_item : (whole part : List Item) (n : Need) (k : Item → Walk) (y : Item) (ys : List Item) (b : Bool) → is_need1 n ≡ true → needs_base n ≡ b
+        → IsOn R (here v a) whole (ask n k) → fits R n y ≡ true
         → Uses1 whole (ask n k) (y ∷ ys) → All (row_at maker (mark R n y) (whole ++ y ∷ []) (with_by true b part y))
     own_item whole part n k y ys b need1 base on fit used = first_item whole [] n k y ys need1 on fit used
 
@@ -471,9 +532,11 @@ module _ (laws : Laws) (v : View) (s : Step) (none : (i : Inval) → issued_now 
     rows_own n k need1 rec whole part (y ∷ ys) w on h u =
         rows_more n y true (needs_base n) whole part (marks R (flat R (k y)) ys) need1 refl
         (own_item whole part n (λ i. flat R (k i)) y ys (needs_base n) need1 refl on h.0 u)
-        (rec y (whole ++ y ∷ []) [] ys w (on_append R (here v a) (flat R (own n k)) (flat R (k y)) whole (y ∷ []) on (h.0, refl)) h.1 (uses_on whole n (λ i. flat R (k i)) y ys on u))
+        (rec y (whole ++ y ∷ []) [] ys w (on_append R (here v a) (flat R (own n k)) (flat R (k y)) whole (y ∷ []) on (h.0, refl)) h.1
+        (uses_on whole n (λ i. flat R (k i)) y ys on u))
 
-    rows_rest : (q : Result Need (End Landing)) (k : Item → Plan) → ((n : Need) → q ≡ Ok n → is_need1 n ≡ true) → ((i : Item) → RowsOf (k i)) → (whole part xs : List Item) (w : Walk)
+    rows_rest : (q : Result Need (End Landing)) (k : Item → Plan) → ((n : Need) → q ≡ Ok n → is_need1 n ≡ true) → ((i : Item) → RowsOf (k i))
+        → (whole part xs : List Item) (w : Walk)
         → IsOn R (here v a) whole (joined q (λ i. flat R (k i))) → IsOn R (joined q (λ i. flat R (k i))) xs w → Uses1 whole (joined q (λ i. flat R (k i))) xs
         → All (rows_of maker whole part (marks R (joined q (λ i. flat R (k i))) xs))
     rows_rest (Err e) k okay rec whole part xs w on h u = λ r i. absurd i
@@ -500,10 +563,13 @@ module _ (laws : Laws) (v : View) (s : Step) (none : (i : Inval) → issued_now 
         (uses_on whole (base2 x) (λ i. after (begun i) go) y ys on u) (subst (AllUsed (Good v) d.0) (sym eq) d.1))
 
     -- the rows of all words of a walk
-    pub rows_of_words : (trail : List Item) (u : Walk) → IsOn R (here v a) trail u → AllUsed (Good v) None (marks R (here v a) trail) → (r : Row) → In r (rows_of maker [] [] (marks R (here v a) trail)) → IsRow (longer v s) inbox r
+    pub rows_of_words : (trail : List Item) (u : Walk) → IsOn R (here v a) trail u → AllUsed (Good v) None (marks R (here v a) trail) → (r : Row)
+        → In r (rows_of maker [] [] (marks R (here v a) trail)) → IsRow (longer v s) inbox r
     rows_of_words trail u on used =
         let p : Plan = laws.plan (config_at v) true a in
         let e : flat R p ≡ here v a = laws.plan_is (config_at v) true a in
-        let go : IsOn R (flat R p) trail u → AllUsed (Good v) None (marks R (flat R p) trail) → All (rows_of maker [] [] (marks R (flat R p) trail)) = λ on2 used2.
-        rows_plan p (laws.sound (config_at v) true a) [] [] trail u e on2 (subst (λ z. AllUsed (Good v) None (z ++ marks R (flat R p) trail)) (sym (marks_nil R (here v a))) used2) in
+        let go : IsOn R (flat R p) trail u → AllUsed (Good v) None (marks R (flat R p) trail) → All (rows_of maker [] [] (marks R (flat R p) trail)) =
+        λ on2 used2.
+        rows_plan p (laws.sound (config_at v) true a) [] [] trail u e on2
+        (subst (λ z. AllUsed (Good v) None (z ++ marks R (flat R p) trail)) (sym (marks_nil R (here v a))) used2) in
         subst (λ t. IsOn R t trail u → AllUsed (Good v) None (marks R t trail) → All (rows_of maker [] [] (marks R t trail))) e go on used

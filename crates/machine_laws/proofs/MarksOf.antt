@@ -16,10 +16,11 @@ use Rattle.walk_laws.proofs.Places.{SameRegion, first_of_and, second_of_and}
 use Rattle.walk_laws.proofs.Tables2.{level_of_one}
 use Rattle.machine_spec.specs.Marks.{Mark, mark, marks, part_of}
 use Rattle.machine_laws.proofs.Trees.{IsOn}
+use Rattle.machine_laws.proofs.Stands.{marks_nil}
 
 -- ITEMS THAT FIT
 
-level_is : (a b : ℤ) → level_eq a b ≡ true → a ≡ b
+pub level_is : (a b : ℤ) → level_eq a b ≡ true → a ≡ b
 level_is (pos m) (pos n) h = ap (λ z. pos z) (eqb-true m n h)
 level_is (pos m) (negsuc n) h = absurd cc
 level_is (negsuc m) (pos n) h = absurd cc
@@ -81,9 +82,11 @@ mark_of_word : (r : Regime) (w : WordNeed) (i : Item) → mark r (word w) i ≡ 
 unfolding mark mark_with
 mark_of_word r w i = refl
 
-mark_words : (r : Regime) (w v : WordNeed) (i : Item) → (w.stage ≡ v.stage) × (w.left ≡ v.left) → region_of r w i ≡ region_of r v i → mark r (word w) i ≡ mark r (word v) i
+mark_words : (r : Regime) (w v : WordNeed) (i : Item) → (w.stage ≡ v.stage) × (w.left ≡ v.left) → region_of r w i ≡ region_of r v i
+    → mark r (word w) i ≡ mark r (word v) i
 mark_words r w v i e g =
-    mark_of_word r w i ∙ ap (λ s. mark_with r i s w.left (region_of r w i)) e.0 ∙ ap (λ n. mark_with r i v.stage n (region_of r w i)) e.1 ∙ ap (mark_with r i v.stage v.left) g ∙ sym (mark_of_word r v i)
+    mark_of_word r w i ∙ ap (λ s. mark_with r i s w.left (region_of r w i)) e.0 ∙ ap (λ n. mark_with r i v.stage n (region_of r w i)) e.1
+    ∙ ap (mark_with r i v.stage v.left) g ∙ sym (mark_of_word r v i)
 
 -- an item of one region for two needs that it fits has one mark
 pub same_mark : (r : Regime) (m n : Need) (i : Item) → fits r m i ≡ true → fits r n i ≡ true → SameRegion r m n i → mark r m i ≡ mark r n i
@@ -116,10 +119,6 @@ module _ {A : Type 0} (r : Regime) where
   on_stands (done a) u (x ∷ xs) h = absurd h
   on_stands (ask n k) u (x ∷ xs) h = rw h.0 (on_stands (k x) u xs h.1)
 
-pub marks_nil : {C : Type 0} (r : Regime) (t : Ask Need Item C) → marks r t [] ≡ []
-marks_nil r (done a) = refl
-marks_nil r (ask n k) = refl
-
 module _ {A B : Type 0} (r : Regime) where
   -- the other of two walks in step stands on the items too
   pub step_on_other : (t u : Ask Need Item A) (t' u' : Ask Need Item B) (xs : List Item) → InStep (fits r) (SameRegion r) t t' xs u u' → IsOn r t' xs u'
@@ -129,7 +128,8 @@ module _ {A B : Type 0} (r : Regime) where
   step_on_other (done a) u t' u' (x ∷ xs) h = absurd h
 
   -- and meets the same marks
-  pub step_marks : (t u : Ask Need Item A) (t' u' : Ask Need Item B) (xs : List Item) → InStep (fits r) (SameRegion r) t t' xs u u' → marks r t xs ≡ marks r t' xs
+  pub step_marks : (t u : Ask Need Item A) (t' u' : Ask Need Item B) (xs : List Item) → InStep (fits r) (SameRegion r) t t' xs u u'
+      → marks r t xs ≡ marks r t' xs
   step_marks t u t' u' [] h = marks_nil r t ∙ sym (marks_nil r t')
   step_marks (ask n k) u (ask n' k') u' (x ∷ xs) h =
       ap (λ m. m ∷ marks r (k x) xs) (same_mark r n n' x h.0 h.1 h.2) ∙ ap (λ ms. mark r n' x ∷ ms) (step_marks (k x) u (k' x) u' xs h.3)

@@ -38,8 +38,8 @@ use Rattle.machine_spec.specs.Machine.{opened, after_event, world_after, answer_
 use Rattle.machine_laws.specs.Headline.{core_named, AreOfCores, IsFreshNow, IsFreshFor, RunsWithoutRowsAreFresh}
 use Rattle.machine_laws.proofs.Facts.{view_of, AllFacts}
 use Rattle.machine_laws.proofs.Fine.{place_of, ServesWell, MakesWell}
-use Rattle.machine_laws.proofs.Lists.{from_end}
-use Rattle.machine_laws.proofs.Logs.{none_some, get-old, get-last}
+use Rattle.machine_laws.proofs.Lists.{from_end, none_some}
+use Rattle.machine_laws.proofs.Logs.{get-old, get-last}
 use Rattle.machine_laws.proofs.Events.{each_at, place_is}
 use Rattle.machine_laws.proofs.Theorem.{world_on, run_on, facts_of_run}
 
@@ -284,5 +284,5 @@ module _ (serves : ServesWell) (makes : MakesWell) (h : Header) (none : h.size �
           )
 
 -- where every run has the facts of the machine
-pub runs_without_rows_are_fresh : ServesWell → MakesWell → RunsWithoutRowsAreFresh
-runs_without_rows_are_fresh serves makes h events own none = (fresh_run serves makes h none events own).1
+pub fresh_without_rows : ServesWell → MakesWell → RunsWithoutRowsAreFresh
+fresh_without_rows serves makes h events own none = (fresh_run serves makes h none events own).1

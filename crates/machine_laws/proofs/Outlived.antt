@@ -1,7 +1,7 @@
 -- Behind a broadcast VMALLS12E1 and the barrier of its issuer no core has a row of its VMID that was made before it.
 use Rattle.std.proofs.Common.{◌≡◌, ℕ, ◌+◌, ◌<◌, ◌⊎◌, Bool, true, false, not, cond, List, [], ◌∷◌, ◌++◌, length, inl, inr, refl, sym, ap, ◌∙◌, subst, arith, Option, Some, None}
 use Rattle.std.specs.Prelude.{filter, fold, nat_lt, All, ◌==◌, ◌&&◌}
-use Rattle.std.proofs.lemmas.Bool.{both_ways, cases_Bool, eq-eqb, not-true}
+use Rattle.std.proofs.lemmas.Bool.{both_ways, cases_Bool, eq-eqb}
 use Rattle.std.proofs.lemmas.List.{length-replicate, get_or-replicate}
 use Rattle.std.proofs.lemmas.List.Sums.{fold_push, fold-append}
 use Rattle.sysregs.specs.declared.regs.Regs.{Regs}
@@ -29,13 +29,12 @@ use Rattle.machine_spec.specs.Invalidations.{issued_by, completes}
 use Rattle.machine_spec.specs.Marks.{Part, nothing, table, leaf, Mark, marks, is_leaf1 as is_mark_leaf1}
 use Rattle.machine_spec.specs.Rows.{Row}
 use Rattle.machine_spec.specs.Made.{Maker, key_of, key_for, only_if, row_of, rows_by, is_read_now, chain_with, rows_of, last_first, leaf_row, leaf_rows, combined_rows, numbered, rows_made}
-use Rattle.machine_spec.specs.Sets.{Cache}
 use Rattle.machine_spec.specs.Served.{Place, Reply, Stop, came, clash, served}
-use Rattle.machine_spec.specs.Machine.{Core, World, no_core, killed, delivered_by, delivered, most_held, posted, mailed, mailed_by, finished, Seat, made_by, visited_by, seat_of, core_of, regs_in, accessed, acted, moved, after_event, opened, world_after}
+use Rattle.machine_spec.specs.Machine.{Core, World, no_core, delivered_by, delivered, most_held, posted, mailed, mailed_by, finished, Seat, made_by, visited_by, seat_of, core_of, regs_in, accessed, acted, moved, after_event, opened, world_after}
 use Rattle.machine_laws.specs.Rules.{NoRowOutlivesItsVmid}
 use Rattle.machine_laws.proofs.Facts.{In}
 use Rattle.machine_laws.proofs.Lists.{In-filter, In-from_filter, In-left, In-last, In-append}
-use Rattle.machine_laws.proofs.Events.{each_at, each_length}
+use Rattle.machine_laws.proofs.Events.{each_at, each_length, covered_not, rows_left}
 use Rattle.machine_laws.proofs.Sets.{In-filled}
 use Rattle.machine_laws.proofs.Quiet.{barrier_empties_inboxes}
 use Rattle.machine_laws.proofs.Own.{is_own, served_own, all_of_in, in_of_all}
@@ -72,7 +71,7 @@ module _ (k : Maker) where
   read_new m whole chain true x i = by_new m whole chain m.stage m.part x i
   read_new m whole chain false x i = absurd i
 
-  rows_new : (ms : List Mark) (whole chain : List Item) (x : Row) → In x (rows_of k whole chain ms) → IsNew k.step x
+  pub rows_new : (ms : List Mark) (whole chain : List Item) (x : Row) → In x (rows_of k whole chain ms) → IsNew k.step x
   rows_new [] whole chain x i = absurd i
   rows_new (m ∷ ms) whole chain x i =
       let whole2 : List Item = whole ++ m.item ∷ [] in
@@ -92,7 +91,7 @@ module _ (k : Maker) where
   leaf_new class address trail None x i = absurd i
   leaf_new class address trail (Some m) x i = leaf_if class address m trail (is_mark_leaf1 m && is_read_now k m) x i
 
-  combined_new : (address : ℕ) (trail : List Item) (ms : List Mark) (end : Fed Need (End Landing)) (x : Row)
+  pub combined_new : (address : ℕ) (trail : List Item) (ms : List Mark) (end : Fed Need (End Landing)) (x : Row)
       → In x (combined_rows k address trail ms end) → IsNew k.step x
   combined_new address trail ms (ended (stops f)) x i = absurd i
   combined_new address trail ms (ended (reaches l)) x i = leaf_new l.class address trail (last_first ms) x i
@@ -141,9 +140,6 @@ Comes n v u r = (In r v.cache.rows × ((i : Inval) → In i v.inbox → covers i
 abbrev AllCome : ℕ → Core → Core → Type 0
 AllCome n v u = (r : Row) → In r u.cache.rows → Comes n v u r
 
-covered_not : (b : Bool) → not b ≡ true → b ≡ true → ⊥
-covered_not b h k = both_ways b (not-true b h) k
-
 same_come : (n : ℕ) (v : Core) → AllCome n v v
 same_come n v r i = inl (i, λ j m cov. m)
 
@@ -178,13 +174,6 @@ issued_come n c v None = same_come n v
 issued_come n c v (Some i) = issued_if n v i (reaches_core i c)
 
 -- a barrier
-rows_left : (is : List Inval) (l : Cache) (r : Row) → In r (fold killed l is).rows → In r l.rows × ((i : Inval) → In i is → covers i r.tag ≡ true → ⊥)
-rows_left [] l r h = (h, λ i m cov. m)
-rows_left (j ∷ js) l r h =
-    let p = rows_left js (killed l j) r h in
-    let q = In-from_filter (λ (x : Row). not (covers j x.tag)) l.rows r p.0 in
-    (q.0, λ i m cov. elim m [ inl e ↦ covered_not (covers j r.tag) q.1 (subst (λ x. covers x r.tag ≡ true) e cov) | inr k ↦ p.1 i k cov ])
-
 finished_come : (n : ℕ) (v : Core) (e : Event) → AllCome n v (finished v e)
 finished_come n v e r h =
     let p = rows_left (filter (completes e) v.inbox) v.cache r h in
@@ -262,7 +251,7 @@ record IsBehind (h : Header) (w : World) (step vmid : ℕ) (i : Inval) : Type 0 
       → In i (core_of w c).inbox ⊎ (step < r.made.step)
 
 module _ (h : Header) where
-  moved_at : (w : World) → length w.cores ≡ h.cores → (e : Event) (c : ℕ) → c < h.cores
+  pub moved_at : (w : World) → length w.cores ≡ h.cores → (e : Event) (c : ℕ) → c < h.cores
       → core_of (after_event h w e) c ≡ moved h w e c (core_of w c)
   moved_at w count e c lt = each_at (moved h w e) w.cores c no_core (omega (arith, count))
 

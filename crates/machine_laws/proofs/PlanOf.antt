@@ -46,7 +46,8 @@ word_behind c e (reaches l) = read_next (is_readable c l) e l
 
 -- the plan of a question of stage 1: at once, or behind stage 2 of its place
 abbrev pub entry_plan : Regime → (vm refused : Bool) → Entry1 → (Fault → Plan) → (Item → Plan) → Plan
-entry_plan r vm refused e stop k = cond vm (cond refused (stop (early2 r true e.place)) (via true e.place (word_behind r.config e) k)) (own (word_need e e.place) k)
+entry_plan r vm refused e stop k =
+    cond vm (cond refused (stop (early2 r true e.place)) (via true e.place (word_behind r.config e) k)) (own (word_need e e.place) k)
 
 -- the plan of stage 1 from its entries, where out says what follows on its end
 abbrev pub plan_of : Regime → (End Leaf1 → Plan) → Ask Entry1 Item (End Leaf1) → Plan
@@ -56,7 +57,8 @@ plan_of r out (ask e k) = entry_plan r r.config.vm (is_refused2 r.config e.place
 -- the plan of stage 2 behind the end of stage 1
 abbrev pub output_plan : Asked → (vm refused : Bool) → Leaf1 → Plan
 output_plan q vm refused l =
-    cond vm (cond refused (fin (stops (early2 q.regime false l.out))) (via false l.out (λ e. Err (judged2 q.judged q.access l e)) (λ i. fin (reaches (landed l)))))
+    cond vm (cond refused (fin (stops (early2 q.regime false l.out)))
+    (via false l.out (λ e. Err (judged2 q.judged q.access l e)) (λ i. fin (reaches (landed l)))))
     (fin (reaches (landed l)))
 
 abbrev pub out_of : Asked → End Leaf1 → Plan
@@ -100,7 +102,8 @@ module _ (r : Regime) (out : End Leaf1 → Plan) (plain : (f : Fault) → out (s
   abbrev Finer : Ask Entry1 Item (End Leaf1) → Ask Need Item (End Leaf1)
   Finer t = finer stops (word_of r) t
 
-  read_step : (b : Bool) (e : Entry1) (l : Leaf2) (k : Item → Ask Entry1 Item (End Leaf1)) (p : Item → Plan) → ((i : Item) → flat r (p i) ≡ after (Finer (k i)) Ends)
+  read_step : (b : Bool) (e : Entry1) (l : Leaf2) (k : Item → Ask Entry1 Item (End Leaf1)) (p : Item → Plan)
+      → ((i : Item) → flat r (p i) ≡ after (Finer (k i)) Ends)
       → joined (read_next b e l) (λ i. flat r (p i)) ≡ after (after (cond b (read1 e l.pa) (done (Err (read_fault l)))) (go_on stops (λ i. Finer (k i)))) Ends
   read_step true e l k p h = ap (ask (word_need e l.pa)) (fun_ext h)
   read_step false e l k p h = sym (ap (flat r) (plain (read_fault l)))
@@ -112,12 +115,14 @@ module _ (r : Regime) (out : End Leaf1 → Plan) (plain : (f : Fault) → out (s
 
   by_case : (b d : Bool) (e : Entry1) (k : Item → Ask Entry1 Item (End Leaf1)) (p : Item → Plan) → ((i : Item) → flat r (p i) ≡ after (Finer (k i)) Ends)
       → flat r (entry_plan r b d e (λ f. out (stops f)) p)
-      ≡ after (after (cond b (after (cond d (done (stops (early2 r true e.place))) (chain r true e.place)) (read1_by r.config e)) (read1 e e.place)) (go_on stops (λ i. Finer (k i)))) Ends
+      ≡ after (after (cond b (after (cond d (done (stops (early2 r true e.place))) (chain r true e.place)) (read1_by r.config e)) (read1 e e.place))
+      (go_on stops (λ i. Finer (k i)))) Ends
   by_case true true e k p h = refl
   by_case true false e k p h =
       let g : Result Item Fault → Ask Need Item (End Leaf1) = go_on stops (λ i. Finer (k i)) in
       ap (after (chain r true e.place)) (fun_ext (λ d. word_step e d k p h))
-      ∙ sym (ap (λ v. after v Ends) (after_after (chain r true e.place) (read1_by r.config e) g) ∙ after_after (chain r true e.place) (λ d. after (read1_by r.config e d) g) Ends)
+      ∙ sym (ap (λ v. after v Ends) (after_after (chain r true e.place) (read1_by r.config e) g)
+      ∙ after_after (chain r true e.place) (λ d. after (read1_by r.config e d) g) Ends)
   by_case false d e k p h = ap (ask (word_need e e.place)) (fun_ext h)
 
   -- stage 1 with the stage 2 of each word is the tree of the plan of its entries
@@ -127,7 +132,8 @@ module _ (r : Regime) (out : End Leaf1 → Plan) (plain : (f : Fault) → out (s
 
 module _ (q : Asked) where
   output_is : (b d : Bool) (l : Leaf1) → flat q.regime (output_plan q b d l)
-      ≡ cond b (after (cond d (done (stops (early2 q.regime false l.out))) (chain q.regime false l.out)) (λ e. done (judged2 q.judged q.access l e))) (done (reaches (landed l)))
+      ≡ cond b (after (cond d (done (stops (early2 q.regime false l.out))) (chain q.regime false l.out)) (λ e. done (judged2 q.judged q.access l e)))
+      (done (reaches (landed l)))
   output_is true true l = refl
   output_is true false l = refl
   output_is false d l = refl
@@ -142,7 +148,8 @@ module _ (q : Asked) where
       finer_plan q.regime (out_of q) (λ f. refl) (walk1_from q left t) ∙ ap (after (finer stops (word_of q.regime) (walk1_from q left t))) (fun_ext out_is)
 
   behind_is : (b : Bool) (base : ℕ) → flat q.regime (behind_plan q b base)
-      ≡ after (cond b (done (stops (fault1 AddressSize most_left))) (finer stops (word_of q.regime) (walk1_from q q.regime.stage1.start (root_table base)))) (stage2_behind q)
+      ≡ after (cond b (done (stops (fault1 AddressSize most_left))) (finer stops (word_of q.regime) (walk1_from q q.regime.stage1.start (root_table base))))
+      (stage2_behind q)
   behind_is true base = refl
   behind_is false base = from_is q.regime.stage1.start (root_table base)
 

@@ -41,15 +41,16 @@ use Rattle.machine_spec.specs.Rows.{holds}
 use Rattle.machine_laws.proofs.Trees.{IsOn, chain, Plan, fin, own, via, joined, flat, rest_by, IsSound, AllSecond}
 use Rattle.machine_laws.proofs.Facts.{regime_for}
 use Rattle.machine_laws.proofs.Laws.{FirstTable}
-use Rattle.machine_laws.proofs.Stands.{marks_append, joined_is, via_on, via_marks, second_marks}
+use Rattle.machine_laws.proofs.Stands.{marks_append, joined_is, via_on, via_marks, second_marks, marks_nil}
 use Rattle.machine_laws.proofs.PlanOf.{word_need, read_next, word_behind, entry_plan, plan_of, output_plan, out_of, from_plan, root_table, behind_plan, off_end, whole_plan, plan_for, plan_is_walk}
 use Rattle.machine_laws.proofs.Sounds.{sound_plan, chain_second}
-use Rattle.machine_laws.proofs.MarksOf.{FitsWord, fits_word_parts, marks_nil, takes_on, on_takes, on_stands, step_on_other, step_marks}
+use Rattle.machine_laws.proofs.MarksOf.{FitsWord, fits_word_parts, takes_on, on_takes, on_stands, step_on_other, step_marks}
 use Rattle.machine_laws.proofs.Regions2.{mark_full, mark_at_full, mark_base1_part, mark_base2_part, last_tail, table_real, holds_same}
 
 -- TABLES OF STAGE 1
 
-no_table_where : {S : Type 0} (k : S → Kind1) (none pointer mapping : S) (b0 b1 b2 b3 : Bool) (next : ℕ) (bits : TableBits) → b2 ≡ true → k (cond b0 (cond b1 (cond b2 mapping pointer) (cond b3 mapping none)) none) ≡ TableOf1 next bits
+no_table_where : {S : Type 0} (k : S → Kind1) (none pointer mapping : S) (b0 b1 b2 b3 : Bool) (next : ℕ) (bits : TableBits) → b2 ≡ true
+    → k (cond b0 (cond b1 (cond b2 mapping pointer) (cond b3 mapping none)) none) ≡ TableOf1 next bits
     → k none ≡ Invalid → (k mapping ≡ TableOf1 next bits → ⊥) → ⊥
 no_table_where k none pointer mapping false b1 b2 b3 next bits q e n m = absurd cc
 no_table_where k none pointer mapping true true true b3 next bits q e n m = m e
@@ -60,7 +61,8 @@ no_table_where k none pointer mapping true false b2 false next bits q e n m = ab
 no_table_by : (c : Config) (s : Side) (left w next : ℕ) (bits : TableBits) → eqb left 0 ≡ true → means1_of c s left w ≡ TableOf1 next bits → ⊥
 unfolding means1_of
 no_table_by c s left w next bits z h =
-    no_table_where (kind1_of (granule_of (tg_of c s)) (hpd_of c s) left w) _ _ _ (bit w 0) (bit w 1) (eqb left 0) (has_block (granule_of (tg_of c s)) left) next bits z h refl (λ k. cc)
+    no_table_where (kind1_of (granule_of (tg_of c s)) (hpd_of c s) left w) _ _ _ (bit w 0) (bit w 1) (eqb left 0) (has_block (granule_of (tg_of c s)) left)
+    next bits z h refl (λ k. cc)
 
 -- the last level has no tables
 pub no_table1 : (c : Config) (s : Side) (w next : ℕ) (bits : TableBits) → means1_of c s 0 w ≡ TableOf1 next bits → ⊥
@@ -69,10 +71,13 @@ no_table1 c s w next bits h = no_table_by c s 0 w next bits refl h
 module _ (r : Regime) (left value : ℕ) where
   abbrev pub TableLeads1 : Type 0
   TableLeads1 = (next : ℕ) × (bits : TableBits) × (means1_of r.config r.side left value ≡ TableOf1 next bits)
-      × ((j : Bool) (a : Access) (t : Table1) (pa : ℕ) → step1 (under r j a) (entry1 (under r j a) left t) pa value ≡ Down record { address = next; bits = joined_bits t.bits bits })
+      × ((j : Bool) (a : Access) (t : Table1) (pa : ℕ)
+      → step1 (under r j a) (entry1 (under r j a) left t) pa value ≡ Down record { address = next; bits = joined_bits t.bits bits })
 
-  table_leads : (next : ℕ) (bits : TableBits) (big : Bool) → means1_of r.config r.side left value ≡ TableOf1 next bits → is_too_large r.stage1 next ≡ big → table (not big) ≡ table true
-      → (j : Bool) (a : Access) (t : Table1) (pa : ℕ) → step1 (under r j a) (entry1 (under r j a) left t) pa value ≡ Down record { address = next; bits = joined_bits t.bits bits }
+  table_leads : (next : ℕ) (bits : TableBits) (big : Bool) → means1_of r.config r.side left value ≡ TableOf1 next bits → is_too_large r.stage1 next ≡ big
+      → table (not big) ≡ table true
+      → (j : Bool) (a : Access) (t : Table1) (pa : ℕ)
+      → step1 (under r j a) (entry1 (under r j a) left t) pa value ≡ Down record { address = next; bits = joined_bits t.bits bits }
   unfolding step1
   table_leads next bits true e b h j a t pa = absurd cc
   table_leads next bits false e b h j a t pa = rw (e, b) refl
@@ -112,7 +117,8 @@ module _ (r : Regime) (x : ℕ) where
   told_next e (stops f) k h = tt
   told_next e (reaches l) k h = told_read (is_readable r.config l) e l k h
 
-  told_entry : (b d : Bool) (e : Entry1) (k : Item → Plan) → ((p : ℕ) → Tells (word_need e p) k) → ((i : Item) → IsTold (k i)) → IsTold (entry_plan r b d e (λ f. fin (stops f)) k)
+  told_entry : (b d : Bool) (e : Entry1) (k : Item → Plan) → ((p : ℕ) → Tells (word_need e p) k) → ((i : Item) → IsTold (k i))
+      → IsTold (entry_plan r b d e (λ f. fin (stops f)) k)
   told_entry true true e k h s = tt
   told_entry true false e k h s = ((λ d. told_next e d k h), s)
   told_entry false d e k h s = (h e.place, s)
@@ -142,12 +148,14 @@ module _ (r : Regime) (j : Bool) (a : Access) where
   abbrev Onward : (Table1 → Ask Entry1 Item (End Leaf1)) → ℕ → Table1 → Item → Plan
   Onward below left t i = plan_of r (out_of Q) (step_then below (step1 Q (entry1 Q left t) i.pa i.value))
 
-  told_step : (below : Table1 → Ask Entry1 Item (End Leaf1)) → ((t : Table1) → IsTold r (untagged a.va) (plan_of r (out_of Q) (below t))) → (s : Step Leaf1 Table1) → IsTold r (untagged a.va) (plan_of r (out_of Q) (step_then below s))
+  told_step : (below : Table1 → Ask Entry1 Item (End Leaf1)) → ((t : Table1) → IsTold r (untagged a.va) (plan_of r (out_of Q) (below t)))
+      → (s : Step Leaf1 Table1) → IsTold r (untagged a.va) (plan_of r (out_of Q) (step_then below s))
   told_step below h (Down t) = h t
   told_step below h (Reached l) = told_out (reaches l)
   told_step below h (Stopped f) = tt
 
-  opens_zero : (t : Table1) (i : Item) (below : Table1 → Ask Entry1 Item (End Leaf1)) → part_of r S1 0 i.value ≡ table true → Opens (flat r (Onward below 0 t i))
+  opens_zero : (t : Table1) (i : Item) (below : Table1 → Ask Entry1 Item (End Leaf1)) → part_of r S1 0 i.value ≡ table true
+      → Opens (flat r (Onward below 0 t i))
   opens_zero t i below h = let d = table_leads1 r 0 i.value h in absurd (no_table1 r.config r.side i.value d.0 d.1 d.2)
 
   opens_suc : (left : ℕ) (t : Table1) (i : Item) → part_of r S1 (suc left) i.value ≡ table true → Opens (flat r (Onward (walk1_from Q left) (suc left) t i))
@@ -157,10 +165,12 @@ module _ (r : Regime) (j : Bool) (a : Access) where
 
   told_from : (left : ℕ) (t : Table1) → IsTold r (untagged a.va) (from_plan Q left t)
   told_from zero t =
-      told_entry r (untagged a.va) r.config.vm (is_refused2 r.config (entry1 Q 0 t).place) (entry1 Q 0 t) (Onward _ 0 t) (λ p. (refl, refl, λ i h. opens_zero t i _ h))
+      told_entry r (untagged a.va) r.config.vm (is_refused2 r.config (entry1 Q 0 t).place) (entry1 Q 0 t) (Onward _ 0 t)
+      (λ p. (refl, refl, λ i h. opens_zero t i _ h))
       (λ i. told_step _ (λ t. tt) (step1 Q (entry1 Q 0 t) i.pa i.value))
   told_from (suc left) t =
-      told_entry r (untagged a.va) r.config.vm (is_refused2 r.config (entry1 Q (suc left) t).place) (entry1 Q (suc left) t) (Onward (walk1_from Q left) (suc left) t) (λ p. (refl, refl, λ i h. opens_suc left t i h))
+      told_entry r (untagged a.va) r.config.vm (is_refused2 r.config (entry1 Q (suc left) t).place) (entry1 Q (suc left) t)
+      (Onward (walk1_from Q left) (suc left) t) (λ p. (refl, refl, λ i h. opens_suc left t i h))
       (λ i. told_step (walk1_from Q left) (told_from left) (step1 Q (entry1 Q (suc left) t) i.pa i.value))
 
   told_behind : (b : Bool) (base : ℕ) → IsTold r (untagged a.va) (behind_plan Q b base)
@@ -214,9 +224,20 @@ module _ (r : Regime) (x : ℕ) (u : Ask Need Item (End Landing)) (m : Mark) (fi
 
   further : (front : List Item) (y : Item) (ys : List Item) → FirstLast (y ∷ ys) → FirstLast (front ++ y ∷ ys)
   further front y ys d =
-      record { need = d.need; item = d.item; go = d.go; last = last_fwd front y ys d.item d.last; fit = d.fit; is = d.is; left = d.left; sound = d.sound; told = d.told }
+      record {
+        need = d.need;
+        item = d.item;
+        go = d.go;
+        last = last_fwd front y ys d.item d.last;
+        fit = d.fit;
+        is = d.is;
+        left = d.left;
+        sound = d.sound;
+        told = d.told;
+      }
 
-  rest_last : (g : Result Need (End Landing)) (k : Item → Plan) → TellsNext r x g k → ((i : Item) → IsSound r (k i)) → ((i : Item) → Finds (k i)) → (front rest : List Item) (pre : List Mark) → AllSecond pre
+  rest_last : (g : Result Need (End Landing)) (k : Item → Plan) → TellsNext r x g k → ((i : Item) → IsSound r (k i)) → ((i : Item) → Finds (k i))
+      → (front rest : List Item) (pre : List Mark) → AllSecond pre
       → IsOn r (flat r (rest_by g k)) rest u → LastIs (pre ++ marks r (flat r (rest_by g k)) rest) m → FirstLast (front ++ rest)
   rest_last (Err e) k t s rec front [] pre a h l = absurd (second_last pre m a (subst (λ ms. LastIs ms m) (append-nil pre) l) first)
   rest_last (Err e) k t s rec front (y ∷ ys) pre a h l = absurd h
@@ -230,23 +251,32 @@ module _ (r : Regime) (x : ℕ) (u : Ask Need Item (End Landing)) (m : Mark) (fi
   chain_marks : (p : Bool) (y : ℕ) (items : List Item) → AllSecond (marks r (chain r p y) items)
   chain_marks p y items = second_marks r (chain r p y) items (chain_second r p y)
 
-  via_in : (p : Bool) (y : ℕ) (next : End Leaf2 → Result Need (End Landing)) (k : Item → Plan) (items : List Item) (v : Ask Need Item (End Leaf2)) → IsOn r (chain r p y) items v
+  via_in : (p : Bool) (y : ℕ) (next : End Leaf2 → Result Need (End Landing)) (k : Item → Plan) (items : List Item) (v : Ask Need Item (End Leaf2))
+      → IsOn r (chain r p y) items v
       → LastIs (marks r (flat r (via p y next k)) items) m → ⊥
-  via_in p y next k items v h l = second_last (marks r (chain r p y) items) m (chain_marks p y items) (subst (λ ms. LastIs ms m) (via_marks r p y next k items v h) l) first
+  via_in p y next k items v h l =
+      second_last (marks r (chain r p y) items) m (chain_marks p y items) (subst (λ ms. LastIs ms m) (via_marks r p y next k items v h) l) first
 
-  via_out : (p : Bool) (y : ℕ) (next : End Leaf2 → Result Need (End Landing)) (k : Item → Plan) → ((e : End Leaf2) → TellsNext r x (next e) k) → ((i : Item) → IsSound r (k i)) → ((i : Item) → Finds (k i))
-      → (front rest : List Item) (d : End Leaf2) → IsOn r (chain r p y) front (done d) → IsOn r (Next next k d) rest u → LastIs (marks r (flat r (via p y next k)) (front ++ rest)) m → FirstLast (front ++ rest)
+  via_out : (p : Bool) (y : ℕ) (next : End Leaf2 → Result Need (End Landing)) (k : Item → Plan) → ((e : End Leaf2) → TellsNext r x (next e) k)
+      → ((i : Item) → IsSound r (k i)) → ((i : Item) → Finds (k i))
+      → (front rest : List Item) (d : End Leaf2) → IsOn r (chain r p y) front (done d) → IsOn r (Next next k d) rest u
+      → LastIs (marks r (flat r (via p y next k)) (front ++ rest)) m → FirstLast (front ++ rest)
   via_out p y next k t s rec front rest d on more l =
       let w : Ask Need Item (End Landing) = flat r (rest_by (next d) k) in
       let e : marks r (flat r (via p y next k)) (front ++ rest) ≡ marks r (chain r p y) front ++ marks r w rest =
-      marks_append r (flat r (via p y next k)) w front rest (via_on r p y next k front d on) ∙ ap (λ v. v ++ marks r w rest) (via_marks r p y next k front (done d) on) in
-      rest_last (next d) k (t d) s rec front rest (marks r (chain r p y) front) (chain_marks p y front) (subst (λ v. IsOn r v rest u) (joined_is r (next d) k) more) (subst (λ ms. LastIs ms m) e l)
+      marks_append r (flat r (via p y next k)) w front rest (via_on r p y next k front d on)
+      ∙ ap (λ v. v ++ marks r w rest) (via_marks r p y next k front (done d) on) in
+      rest_last (next d) k (t d) s rec front rest (marks r (chain r p y) front) (chain_marks p y front)
+      (subst (λ v. IsOn r v rest u) (joined_is r (next d) k) more) (subst (λ ms. LastIs ms m) e l)
 
-  via_last : (p : Bool) (y : ℕ) (next : End Leaf2 → Result Need (End Landing)) (k : Item → Plan) → ((e : End Leaf2) → TellsNext r x (next e) k) → ((i : Item) → IsSound r (k i)) → ((i : Item) → Finds (k i)) → Finds (via p y next k)
+  via_last : (p : Bool) (y : ℕ) (next : End Leaf2 → Result Need (End Landing)) (k : Item → Plan) → ((e : End Leaf2) → TellsNext r x (next e) k)
+      → ((i : Item) → IsSound r (k i)) → ((i : Item) → Finds (k i)) → Finds (via p y next k)
   via_last p y next k t s rec items h l =
       elim (takes_after (fits r) (chain r p y) (Next next k) items u (takes_on r (flat r (via p y next k)) u items h)) as (λ _. FirstLast items) [
         | inl w ↦ absurd (via_in p y next k items (ask w.0 w.1) (on_takes r (chain r p y) (ask w.0 w.1) items w.2) l)
-        | inr w ↦ subst FirstLast (sym w.3) (via_out p y next k t s rec w.1 w.2 w.0 (on_takes r (chain r p y) (done w.0) w.1 w.4) (on_takes r (Next next k w.0) u w.2 w.5)
+        | inr w ↦
+            subst FirstLast (sym w.3)
+            (via_out p y next k t s rec w.1 w.2 w.0 (on_takes r (chain r p y) (done w.0) w.1 w.4) (on_takes r (Next next k w.0) u w.2 w.5)
             (subst (λ v. LastIs (marks r (flat r (via p y next k)) v) m) w.3 l))
       ]
 
@@ -258,12 +288,14 @@ module _ (r : Regime) (x : ℕ) (u : Ask Need Item (End Landing)) (m : Mark) (fi
   first_last (via p y next k) s t items h l = via_last p y next k t.0 s.3 (λ i. first_last (k i) (s.3 i) (t.1 i)) items h l
 
 -- of a walk
-pub walk_last : (c : Config) (j : Bool) (a : Access) (trail : List Item) (u : Ask Need Item (End Landing)) (m : Mark) → IsOn (regime_for c a) (walk c j a) trail u → LastIs (marks (regime_for c a) (walk c j a) trail) m
+pub walk_last : (c : Config) (j : Bool) (a : Access) (trail : List Item) (u : Ask Need Item (End Landing)) (m : Mark)
+    → IsOn (regime_for c a) (walk c j a) trail u → LastIs (marks (regime_for c a) (walk c j a) trail) m
     → (first : is_first m ≡ true) → FirstLast (regime_for c a) (untagged a.va) u m first trail
 walk_last c j a trail u m h l first =
     let r : Regime = regime_for c a in
     let e : walk c j a ≡ flat r (plan_for c j a) = sym (plan_is_walk c j a) in
-    first_last r (untagged a.va) u m first (plan_for c j a) (sound_plan c j a) (told_plan c j a) trail (subst (λ t. IsOn r t trail u) e h) (subst (λ t. LastIs (marks r t trail) m) e l)
+    first_last r (untagged a.va) u m first (plan_for c j a) (sound_plan c j a) (told_plan c j a) trail (subst (λ t. IsOn r t trail u) e h)
+    (subst (λ t. LastIs (marks r t trail) m) e l)
 
 -- A TABLE OF STAGE 1
 
@@ -279,7 +311,8 @@ record TableLast (r : Regime) (x : ℕ) (u : Ask Need Item (End Landing)) (trail
   region_is : m.region ≡ record { class = class_of r.stage1.granule left; start = x / 2 ^ class_of r.stage1.granule left }
   opens : Opens u
 
-table_last_by : (r : Regime) (x : ℕ) (u : Ask Need Item (End Landing)) (trail : List Item) (m : Mark) (n : Need) (k : Item → Plan) (i : Item) → m.part ≡ table true → LastIs trail i → fits r n i ≡ true → m ≡ mark r n i → u ≡ flat r (k i)
+table_last_by : (r : Regime) (x : ℕ) (u : Ask Need Item (End Landing)) (trail : List Item) (m : Mark) (n : Need) (k : Item → Plan) (i : Item)
+    → m.part ≡ table true → LastIs trail i → fits r n i ≡ true → m ≡ mark r n i → u ≡ flat r (k i)
     → Tells r x n k → TableLast r x u trail m
 table_last_by r x u trail m base1 k i part l f e d t = absurd (table_real m.part part (ap (λ n. n.part) e ∙ mark_base1_part r i))
 table_last_by r x u trail m (base2 y) k i part l f e d t = absurd (table_real m.part part (ap (λ n. n.part) e ∙ mark_base2_part r y i))
@@ -307,7 +340,8 @@ abbrev StandsBy : (c : Config) (b : Access) (trail : List Item) (ms : List Mark)
 StandsBy c b trail ms v s =
     IsOn (regime_of c s) (walk_by (under (regime_of c s) true b)) trail v × (marks (regime_of c s) (walk_by (under (regime_of c s) true b)) trail ≡ ms)
 
-first_table_by : (c : Config) (b : Access) (trail : List Item) (v : Ask Need Item (End Landing)) (pre : List Mark) (m : Mark) → is_first m ≡ true → Opens v → StandsBy c b trail (pre ++ m ∷ []) v (side_of b.va) → FirstTable c trail (pre ++ m ∷ []) b
+first_table_by : (c : Config) (b : Access) (trail : List Item) (v : Ask Need Item (End Landing)) (pre : List Mark) (m : Mark) → is_first m ≡ true → Opens v
+    → StandsBy c b trail (pre ++ m ∷ []) v (side_of b.va) → FirstTable c trail (pre ++ m ∷ []) b
 first_table_by c b trail v pre m first o h =
     let d = walk_last c true b trail v m h.0 (subst (λ ms. LastIs ms m) (sym h.1) (last_here pre m)) first in
     record {
@@ -327,14 +361,18 @@ first_table_is c a b trail u pre m on ok h e first part hold =
     let d = walk_last c true a trail u m h (subst (λ ms. LastIs ms m) (sym e) (last_here pre m)) first in
     let t = table_last_by r (untagged a.va) u trail m d.need d.go d.item part d.last d.fit d.is d.left d.told in
     let fw = t.fit.1 in
-    let opened : IsOpen (Rattle.walk_spec.specs.Ask.on (fits r) (walk_by (under r true a)) trail) = subst IsOpen (sym (on_stands r (walk c true a) u trail h)) (is_open (fits r) u t.opens) in
+    let opened : IsOpen (Rattle.walk_spec.specs.Ask.on (fits r) (walk_by (under r true a)) trail) =
+    subst IsOpen (sym (on_stands r (walk c true a) u trail h)) (is_open (fits r) u t.opens) in
     let k : ℕ = class_of r.stage1.granule t.left in
     let same : untagged a.va / 2 ^ k ≡ untagged b.va / 2 ^ k =
-    holds_same record { class = k; start = untagged a.va / 2 ^ k } (untagged a.va) (untagged b.va) refl (subst (λ (g : Region). holds g (untagged b.va) ≡ true) t.region_is hold) in
-    let w = tables1_in_step r true a b trail t.item t.left t.next t.bits (of_fields c (side_of a.va)) refl t.last (fw.stage ∙ t.fit.2) fw.what (fw.level ∙ ap level_of t.fit.3) t.means opened in
+    holds_same record { class = k; start = untagged a.va / 2 ^ k } (untagged a.va) (untagged b.va) refl
+    (subst (λ (g : Region). holds g (untagged b.va) ≡ true) t.region_is hold) in
+    let w = tables1_in_step r true a b trail t.item t.left t.next t.bits (of_fields c (side_of a.va)) refl t.last (fw.stage ∙ t.fit.2) fw.what
+    (fw.level ∙ ap level_of t.fit.3) t.means opened in
     let most = w.most in
     let st = w.shift same ok in
     let sides : side_of a.va ≡ side_of b.va = same_side a.va b.va k (omega (arith, most)) same in
     let on_b : IsOn r (walk_by (under r true b)) trail st.1 = step_on_other r (walk_by (under r true a)) st.0 (walk_by (under r true b)) st.1 trail st.2 in
-    let ms : marks r (walk_by (under r true b)) trail ≡ pre ++ m ∷ [] = sym (step_marks r (walk_by (under r true a)) st.0 (walk_by (under r true b)) st.1 trail st.2) ∙ e in
+    let ms : marks r (walk_by (under r true b)) trail ≡ pre ++ m ∷ [] =
+    sym (step_marks r (walk_by (under r true a)) st.0 (walk_by (under r true b)) st.1 trail st.2) ∙ e in
     first_table_by c b trail st.1 pre m first st.4 (subst (StandsBy c b trail (pre ++ m ∷ []) st.1) sides (on_b, ms))

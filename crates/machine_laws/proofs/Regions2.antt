@@ -34,9 +34,9 @@ use Rattle.machine_spec.specs.Marks.{Part, nothing, table, leaf, Mark, mark, mar
 use Rattle.machine_spec.specs.Rows.{holds}
 use Rattle.machine_laws.proofs.Trees.{IsOn, chain, IsWords}
 use Rattle.machine_laws.proofs.Laws.{ChainLeaf, ChainTable}
-use Rattle.machine_laws.proofs.Stands.{words_on}
+use Rattle.machine_laws.proofs.Stands.{words_on, marks_nil}
 use Rattle.machine_laws.proofs.Sounds.{words_behind}
-use Rattle.machine_laws.proofs.MarksOf.{fits_word_parts, marks_nil, takes_on, step_on_other, step_marks}
+use Rattle.machine_laws.proofs.MarksOf.{fits_word_parts, takes_on, step_on_other, step_marks}
 use Rattle.machine_laws.proofs.Sides.{Twin, TwinOn, twin_on, twin_chain}
 
 -- THE LAST MARK
@@ -50,11 +50,13 @@ pub record LastMet (r : Regime) (P : Need → Type 0) (xs : List Item) (m : Mark
   pub is : m ≡ mark r need item
   pub told : P need
 
-pub last_tail : {A : Type 0} (r : Regime) (t u : Ask Need Item A) (n m : Mark) (y : Item) (ys : List Item) → IsOn r t (y ∷ ys) u → LastIs (n ∷ marks r t (y ∷ ys)) m → LastIs (marks r t (y ∷ ys)) m
+pub last_tail : {A : Type 0} (r : Regime) (t u : Ask Need Item A) (n m : Mark) (y : Item) (ys : List Item) → IsOn r t (y ∷ ys) u
+    → LastIs (n ∷ marks r t (y ∷ ys)) m → LastIs (marks r t (y ∷ ys)) m
 last_tail r (done a) u n m y ys h l = absurd h
 last_tail r (ask o k) u n m y ys h l = l
 
-pub last_met : {A : Type 0} (r : Regime) (P : Need → Type 0) (t u : Ask Need Item A) (xs : List Item) (m : Mark) → Asks P t → IsOn r t xs u → LastIs (marks r t xs) m → LastMet r P xs m
+pub last_met : {A : Type 0} (r : Regime) (P : Need → Type 0) (t u : Ask Need Item A) (xs : List Item) (m : Mark) → Asks P t → IsOn r t xs u
+    → LastIs (marks r t xs) m → LastMet r P xs m
 last_met r P t u [] m p h l = absurd (rw (marks_nil r t) at l)
 last_met r P (done a) u (x ∷ xs) m p h l = absurd h
 last_met r P (ask n k) u (x ∷ []) m p h l =
@@ -82,9 +84,11 @@ pub mark_is_full : (r : Regime) (w : WordNeed) (i : Item) → mark r (word w) i 
 unfolding mark
 mark_is_full r w i = refl
 
-pub mark_at_full : (r : Regime) (w : WordNeed) (i j : Item) (s : Stage) (left x : ℕ) → w.stage ≡ s → w.left ≡ left → w.address ≡ x → i ≡ j → mark r (word w) i ≡ mark_full r s left x j
+pub mark_at_full : (r : Regime) (w : WordNeed) (i j : Item) (s : Stage) (left x : ℕ) → w.stage ≡ s → w.left ≡ left → w.address ≡ x → i ≡ j
+    → mark r (word w) i ≡ mark_full r s left x j
 mark_at_full r w i j s left x e l a h =
-    mark_is_full r w i ∙ ap (λ z. mark_full r z w.left w.address i) e ∙ ap (λ z. mark_full r s z w.address i) l ∙ ap (λ z. mark_full r s left z i) a ∙ ap (mark_full r s left x) h
+    mark_is_full r w i ∙ ap (λ z. mark_full r z w.left w.address i) e ∙ ap (λ z. mark_full r s z w.address i) l ∙ ap (λ z. mark_full r s left z i) a
+    ∙ ap (mark_full r s left x) h
 
 pub mark_base1_part : (r : Regime) (i : Item) → (mark r base1 i).part ≡ nothing
 unfolding mark
@@ -131,8 +135,10 @@ module _ (r : Regime) (left pa value : ℕ) where
   abbrev Leads : Asked2 → Kind2 → Type 0
   Leads q kind = (l : Leaf2) × (step2 q left pa value ≡ Reached l) × (l.class ≡ class_by (mapping2 kind) r.stage2 left pa)
 
-  leaf_leads : (p : Bool) (x : ℕ) (out mem_attr xn sh : ℕ) (read write af dbm contiguous big on g : Bool) → let kind : Kind2 = LeafOf2 out mem_attr read write xn sh af dbm contiguous in
-      means2_of r.config left value ≡ kind → is_too_large r.stage2 out ≡ big → (af || r.config.ha2) ≡ on → leaf false (not big && on) ≡ leaf g true → Leads (asked2 r p x) kind
+  leaf_leads : (p : Bool) (x : ℕ) (out mem_attr xn sh : ℕ) (read write af dbm contiguous big on g : Bool) → let kind : Kind2 =
+      LeafOf2 out mem_attr read write xn sh af dbm contiguous in
+      means2_of r.config left value ≡ kind → is_too_large r.stage2 out ≡ big → (af || r.config.ha2) ≡ on → leaf false (not big && on) ≡ leaf g true
+      → Leads (asked2 r p x) kind
   unfolding step2
   leaf_leads p x out mem_attr xn sh read write af dbm contiguous true on g e b o h = absurd cc
   leaf_leads p x out mem_attr xn sh read write af dbm contiguous false false g e b o h = absurd cc
@@ -149,10 +155,12 @@ module _ (r : Regime) (left pa value : ℕ) where
       leaf_leads p x out mem_attr xn sh read write af dbm contiguous (is_too_large r.stage2 out) (af || r.config.ha2) g e refl refl h
 
   -- a leaf
-  pub leaf_leads2 : (p : Bool) (x : ℕ) (g : Bool) → part_of r S2 left value ≡ leaf g true → (l : Leaf2) × (step2 (asked2 r p x) left pa value ≡ Reached l) × (l.class ≡ class_by (mapping_of r S2 left value) r.stage2 left pa)
+  pub leaf_leads2 : (p : Bool) (x : ℕ) (g : Bool) → part_of r S2 left value ≡ leaf g true
+      → (l : Leaf2) × (step2 (asked2 r p x) left pa value ≡ Reached l) × (l.class ≡ class_by (mapping_of r S2 left value) r.stage2 left pa)
   leaf_leads2 p x g h = leads_by p x g (means2_of r.config left value) refl h
 
-  table_leads : (next : ℕ) (big : Bool) → means2_of r.config left value ≡ Table2 next → is_too_large r.stage2 next ≡ big → table (not big) ≡ table true → (p : Bool) (x : ℕ) → step2 (asked2 r p x) left pa value ≡ Down next
+  table_leads : (next : ℕ) (big : Bool) → means2_of r.config left value ≡ Table2 next → is_too_large r.stage2 next ≡ big → table (not big) ≡ table true
+      → (p : Bool) (x : ℕ) → step2 (asked2 r p x) left pa value ≡ Down next
   unfolding step2
   table_leads next true e b h p x = absurd cc
   table_leads next false e b h p x = rw (e, b) refl
@@ -169,7 +177,8 @@ module _ (r : Regime) (left pa value : ℕ) where
   pub table_leads2 : part_of r S2 left value ≡ table true → TableLeads
   table_leads2 h = table_by (means2_of r.config left value) refl h
 
-no_table_where : {S : Type 0} (k : S → Kind2) (none pointer mapping : S) (b0 b1 b2 b3 : Bool) (next : ℕ) → b2 ≡ true → k (cond b0 (cond b1 (cond b2 mapping pointer) (cond b3 mapping none)) none) ≡ Table2 next → k none ≡ Invalid2 → (k mapping ≡ Table2 next → ⊥) → ⊥
+no_table_where : {S : Type 0} (k : S → Kind2) (none pointer mapping : S) (b0 b1 b2 b3 : Bool) (next : ℕ) → b2 ≡ true
+    → k (cond b0 (cond b1 (cond b2 mapping pointer) (cond b3 mapping none)) none) ≡ Table2 next → k none ≡ Invalid2 → (k mapping ≡ Table2 next → ⊥) → ⊥
 no_table_where k none pointer mapping false b1 b2 b3 next q e n m = absurd cc
 no_table_where k none pointer mapping true true true b3 next q e n m = m e
 no_table_where k none pointer mapping true true false b3 next q e n m = absurd cc
@@ -211,7 +220,8 @@ module _ (c : Config) (s : Side) (p : Bool) (x y : ℕ) (ok : is_refused2 c x �
         let fw = fits_word_parts R w i f in
         let st = stepped2 R p x y (of_fields c s) trail u (chain_takes trail u h) (inr (i, l, (tt, fw.what))) in
         let q : i ≡ st.item = st.is_last i l fw.what in
-        let n : w.left ≡ st.left = level_of_one w.left st.left (sym fw.level ∙ ap (λ z. z.level) q ∙ fit_level R S2 st.left st.fit.0 p x st.fit.1 st.item st.fit.2) in
+        let n : w.left ≡ st.left =
+        level_of_one w.left st.left (sym fw.level ∙ ap (λ z. z.level) q ∙ fit_level R S2 st.left st.fit.0 p x st.fit.1 st.item st.fit.2) in
         record { at = st; is = e ∙ mark_at_full R w i st.item S2 st.left x t.0 n t.1 q }
 
     word_last : (pre : List Mark) → marks R (chain R p x) trail ≡ pre ++ m ∷ [] → WordLast R p x y trail u m
@@ -227,7 +237,8 @@ module _ (c : Config) (s : Side) (p : Bool) (x y : ℕ) (ok : is_refused2 c x �
       accepted : is_refused2 c y ≡ false
       accepted = range2 R x y (class2 R w.at.left w.at.item) (of_fields c s) w.at.most same_at ok
 
-      other_chain : (v : Ask Need Item (End Leaf2)) → InStep (fits R) (SameRegion R) (walk2 (asked2 R p x)) (walk2 (asked2 R p y)) trail u v → IsOn R (chain R p y) trail v × (marks R (chain R p x) trail ≡ marks R (chain R p y) trail)
+      other_chain : (v : Ask Need Item (End Leaf2)) → InStep (fits R) (SameRegion R) (walk2 (asked2 R p x)) (walk2 (asked2 R p y)) trail u v
+          → IsOn R (chain R p y) trail v × (marks R (chain R p x) trail ≡ marks R (chain R p y) trail)
       other_chain v i =
           let ey : walk2 (asked2 R p y) ≡ chain R p y = walk2_is R p y accepted in
           let ex : walk2 (asked2 R p x) ≡ chain R p x = walk2_is R p x ok in (
@@ -246,14 +257,17 @@ part_real g p e h = let q : leaf g true ≡ nothing = sym e ∙ h in cc
 pub table_real : (p : Part) → p ≡ table true → p ≡ nothing → ⊥
 table_real p e h = let q : table true ≡ nothing = sym e ∙ h in cc
 
-leaf_found : (r r' : Regime) (q : Bool) (y : ℕ) (trail : List Item) (ms : List Mark) (class : ℕ) (l : Leaf2) (t : Ask Need Item (End Leaf2)) → TwinOn r r' t (chain r' q y) (done (reaches l)) trail → l.class ≡ class → marks r t trail ≡ ms
+leaf_found : (r r' : Regime) (q : Bool) (y : ℕ) (trail : List Item) (ms : List Mark) (class : ℕ) (l : Leaf2) (t : Ask Need Item (End Leaf2))
+    → TwinOn r r' t (chain r' q y) (done (reaches l)) trail → l.class ≡ class → marks r t trail ≡ ms
     → ChainLeaf r' q trail ms class y
 leaf_found r r' q y trail ms class l t w c e =
     record { leaf_at = l; on = subst (IsOn r' (chain r' q y) trail) (leaf_twin r r' l w.left w.twin) w.on; class_is = c; same = w.same ∙ e }
 
 -- a leaf of stage 2 serves each IPA of its region
-pub chain_leaf_is : (c : Config) (s t : Side) (p q : Bool) (x y : ℕ) (trail : List Item) (u : Ask Need Item (End Leaf2)) (pre : List Mark) (m : Mark) (g : Bool) →
-    is_refused2 c x ≡ false → IsOn (regime_of c s) (chain (regime_of c s) p x) trail u → marks (regime_of c s) (chain (regime_of c s) p x) trail ≡ pre ++ m ∷ [] →
+pub chain_leaf_is : (c : Config) (s t : Side) (p q : Bool) (x y : ℕ) (trail : List Item) (u : Ask Need Item (End Leaf2)) (pre : List Mark) (m : Mark)
+    (g : Bool) →
+    is_refused2 c x ≡ false → IsOn (regime_of c s) (chain (regime_of c s) p x) trail u
+    → marks (regime_of c s) (chain (regime_of c s) p x) trail ≡ pre ++ m ∷ [] →
     m.part ≡ leaf g true → holds m.region y ≡ true → ChainLeaf (regime_of c t) q trail (pre ++ m ∷ []) m.region.class y
 chain_leaf_is c s t p q x y trail u pre m g ok h e part hold =
     let r : Regime = regime_of c s in
@@ -262,9 +276,11 @@ chain_leaf_is c s t p q x y trail u pre m g ok h e part hold =
     let d = leaf_leads2 r w.at.left w.at.item.pa w.at.item.value p x g (sym (ap (λ (z : Mark). z.part) w.is) ∙ part) in
     let end : u ≡ done (reaches d.0) = w.at.left_as ∙ ap (step_then (beneath (down2 r p x) w.at.left)) d.1 in
     let rc = reached2 r p x y (of_fields c s) trail d.0 (subst (Takes (fits r) (walk2 (asked2 r p x)) trail) end (chain_takes c s p x y ok trail u h)) in
-    let same : x / 2 ^ d.0.class ≡ y / 2 ^ d.0.class = subst (λ k. x / 2 ^ k ≡ y / 2 ^ k) (sym d.2) (same_at c s p x y ok trail u m h (part_real g m.part part) w hold) in
+    let same : x / 2 ^ d.0.class ≡ y / 2 ^ d.0.class =
+    subst (λ k. x / 2 ^ k ≡ y / 2 ^ k) (sym d.2) (same_at c s p x y ok trail u m h (part_real g m.part part) w hold) in
     let i : InStep (fits r) (SameRegion r) (walk2 (asked2 r p x)) (walk2 (asked2 r p y)) trail u (done (reaches (moved2 d.0 y))) =
-    subst (λ z. InStep (fits r) (SameRegion r) (walk2 (asked2 r p x)) (walk2 (asked2 r p y)) trail z (done (reaches (moved2 d.0 y)))) (sym end) (rc.shift same) in
+    subst (λ z. InStep (fits r) (SameRegion r) (walk2 (asked2 r p x)) (walk2 (asked2 r p y)) trail z (done (reaches (moved2 d.0 y)))) (sym end)
+    (rc.shift same) in
     let o = other_chain c s p x y ok trail u m h (part_real g m.part part) w hold (done (reaches (moved2 d.0 y))) i in
     let tw = twin_on r r' (chain r p y) (chain r' q y) (done (reaches (moved2 d.0 y))) trail (twin_chain c s t p q y) o.0 in
     leaf_found r r' q y trail (pre ++ m ∷ []) m.region.class (moved2 d.0 y) (chain r p y) tw (d.2 ∙ sym (ap (λ (z : Mark). z.region.class) w.is)) (sym o.1 ∙ e)
@@ -275,40 +291,52 @@ from_asks_word : (q : Asked2) (left n : ℕ) → (need : Need) × (go : Item →
 from_asks_word q zero n = (_, _, refl)
 from_asks_word q (suc left) n = (_, _, refl)
 
-beneath_asks : (r : Regime) (p : Bool) (x left n : ℕ) → (left ≡ 0 → ⊥) → (need : Need) × (go : Item → Ask Need Item (End Leaf2)) × (beneath (down2 r p x) left n ≡ ask need go)
+beneath_asks : (r : Regime) (p : Bool) (x left n : ℕ) → (left ≡ 0 → ⊥)
+    → (need : Need) × (go : Item → Ask Need Item (End Leaf2)) × (beneath (down2 r p x) left n ≡ ask need go)
 beneath_asks r p x zero n h = absurd (h refl)
 beneath_asks r p x (suc left) n h = let d = from_asks_word (asked2 r p x) left n in (d.0, d.1, sym (walk2_levels r p x left n) ∙ d.2)
 
 abbrev Asking : Regime → Bool → ℕ → List Item → Ask Need Item (End Leaf2) → Type 0
 Asking r q y trail u = (need : Need) × (go : Item → Ask Need Item (End Leaf2)) × IsWords (ask need go) × (u ≡ ask need go)
 
-ask_twin : (r r' : Regime) (n : Need) (k : Item → Ask Need Item (End Leaf2)) (u : Ask Need Item (End Leaf2)) → Twin r r' (ask n k) u → (need : Need) × (go : Item → Ask Need Item (End Leaf2)) × (u ≡ ask need go)
+ask_twin : (r r' : Regime) (n : Need) (k : Item → Ask Need Item (End Leaf2)) (u : Ask Need Item (End Leaf2)) → Twin r r' (ask n k) u
+    → (need : Need) × (go : Item → Ask Need Item (End Leaf2)) × (u ≡ ask need go)
 ask_twin r r' n k (done e) h = absurd h
 ask_twin r r' n k (ask m l) h = (m, l, refl)
 
 chain_words : (r : Regime) (p : Bool) (x : ℕ) (i : Item) (trail : List Item) (u : Ask Need Item (End Leaf2)) → IsOn r (chain r p x) (i ∷ trail) u → IsWords u
 chain_words r p x i trail u h = words_on r (walk2_behind (asked2 r p x) i.value) u trail (words_behind (asked2 r p x) i.value) h.1
 
-chain_table_by : (r r' : Regime) (q : Bool) (y : ℕ) (trail : List Item) (ms : List Mark) (i : Item) (n : Need) (k : Item → Ask Need Item (End Leaf2)) (t : Ask Need Item (End Leaf2)) → LastIs trail i
+chain_table_by : (r r' : Regime) (q : Bool) (y : ℕ) (trail : List Item) (ms : List Mark) (i : Item) (n : Need) (k : Item → Ask Need Item (End Leaf2))
+    (t : Ask Need Item (End Leaf2)) → LastIs trail i
     → TwinOn r r' t (chain r' q y) (ask n k) trail → marks r t trail ≡ ms → ChainTable r' q trail ms y
 chain_table_by r r' q y [] ms i n k t l w e = absurd l
 chain_table_by r r' q y (x ∷ trail) ms i n k t l w e =
     let d = ask_twin r r' n k w.left w.twin in
-    record { need = d.0; go = d.1; words = subst IsWords d.2 (chain_words r' q y x trail w.left w.on); on = subst (IsOn r' (chain r' q y) (x ∷ trail)) d.2 w.on; same = w.same ∙ e }
+    record {
+      need = d.0;
+      go = d.1;
+      words = subst IsWords d.2 (chain_words r' q y x trail w.left w.on);
+      on = subst (IsOn r' (chain r' q y) (x ∷ trail)) d.2 w.on;
+      same = w.same ∙ e;
+    }
 
 not_zero : (c : Config) (left value next : ℕ) → means2_of c left value ≡ Table2 next → left ≡ 0 → ⊥
 not_zero c left value next h e = no_table2 c value next (subst (λ k. means2_of c k value ≡ Table2 next) e h)
 
-step_to : (r : Regime) (p : Bool) (x y : ℕ) (trail : List Item) (u v w : Ask Need Item (End Leaf2)) → v ≡ w → InStep (fits r) (SameRegion r) (walk2 (asked2 r p x)) (walk2 (asked2 r p y)) trail u v
+step_to : (r : Regime) (p : Bool) (x y : ℕ) (trail : List Item) (u v w : Ask Need Item (End Leaf2)) → v ≡ w
+    → InStep (fits r) (SameRegion r) (walk2 (asked2 r p x)) (walk2 (asked2 r p y)) trail u v
     → InStep (fits r) (SameRegion r) (walk2 (asked2 r p x)) (walk2 (asked2 r p y)) trail u w
 step_to r p x y trail u v w e h = subst (InStep (fits r) (SameRegion r) (walk2 (asked2 r p x)) (walk2 (asked2 r p y)) trail u) e h
 
-table_end : (r : Regime) (p : Bool) (x y left : ℕ) (i : Item) (next : ℕ) (n : Need) (k : Item → Ask Need Item (End Leaf2)) → step2 (asked2 r p y) left i.pa i.value ≡ Down next → beneath (down2 r p y) left next ≡ ask n k → behind2 r p x y y left i ≡ ask n k
+table_end : (r : Regime) (p : Bool) (x y left : ℕ) (i : Item) (next : ℕ) (n : Need) (k : Item → Ask Need Item (End Leaf2))
+    → step2 (asked2 r p y) left i.pa i.value ≡ Down next → beneath (down2 r p y) left next ≡ ask n k → behind2 r p x y y left i ≡ ask n k
 table_end r p x y left i next n k h e = ap (step_then (beneath (down2 r p y) left)) h ∙ e
 
 -- a table of stage 2 serves each IPA of its region
 pub chain_table_is : (c : Config) (s t : Side) (p q : Bool) (x y : ℕ) (trail : List Item) (u : Ask Need Item (End Leaf2)) (pre : List Mark) (m : Mark) →
-    is_refused2 c x ≡ false → IsOn (regime_of c s) (chain (regime_of c s) p x) trail u → marks (regime_of c s) (chain (regime_of c s) p x) trail ≡ pre ++ m ∷ [] →
+    is_refused2 c x ≡ false → IsOn (regime_of c s) (chain (regime_of c s) p x) trail u
+    → marks (regime_of c s) (chain (regime_of c s) p x) trail ≡ pre ++ m ∷ [] →
     m.part ≡ table true → holds m.region y ≡ true → ChainTable (regime_of c t) q trail (pre ++ m ∷ []) y
 chain_table_is c s t p q x y trail u pre m ok h e part hold =
     let r : Regime = regime_of c s in

@@ -1,8 +1,7 @@
 -- What memory and registers give fits what is needed and is kept; and what is served behind items that are kept is kept with them.
-use Rattle.std.proofs.Common.{◌≡◌, ℕ, ◌*◌, ◌/◌, ◌%◌, ◌^◌, ◌<◌, ◌≤◌, Bool, true, false, List, [], ◌∷◌, ◌++◌, length, take, map, refl, sym, ap, ◌∙◌, subst, append_assoc, append-nil, Option, Some, None, arith}
+use Rattle.std.proofs.Common.{◌≡◌, ℕ, ◌*◌, ◌/◌, ◌%◌, ◌^◌, ◌<◌, ◌≤◌, Bool, true, false, List, [], ◌∷◌, ◌++◌, length, take, refl, sym, ap, ◌∙◌, subst, append_assoc, append-nil, Option, Some, None, arith}
 use Rattle.std.specs.Prelude.{ℤ, pos, negsuc, Result, Ok, Err}
-use Rattle.std.proofs.lemmas.List.{take_all, length-map}
-use Rattle.std.proofs.lemmas.Option.{slice_get_within, option_and_then_some}
+use Rattle.std.proofs.lemmas.List.{take_all}
 use Rattle.std.proofs.lemmas.Bool.{eq-eqb, lt-ltb}
 use Rattle.std.proofs.Math.Nat.{div-mul-le_self, mul-mod_right}
 use Rattle.geometry.specs.Tables.{table_size, level_of}
@@ -18,13 +17,10 @@ use Rattle.table_reads.specs.Numbers.{sizes1, sizes2}
 use Rattle.table_reads.specs.Places.{aligned_base}
 use Rattle.table_reads.specs.Items.{base_item}
 use Rattle.trails.specs.declared.item.Item.{Item}
-use Rattle.trails.specs.declared.step.Step.{Step}
-use Rattle.tlbi_ops.specs.declared.inval.Inval.{Inval}
 use Rattle.walk_spec.specs.Ask.{Ask, done, ask}
 use Rattle.walk_spec.specs.Needs.{Regime, regime_of, Need, base1, base2, word, WordNeed, stage_eq, level_eq, fits, fits_base as fits_base_by, needed_item}
 use Rattle.walk_spec.specs.Fresh.{start_base1, start_base2}
-use Rattle.machine_spec.specs.Moments.{regs_at, regs_after, memory_after}
-use Rattle.machine_spec.specs.Invalidations.{issued_by, event_at, inval_at}
+use Rattle.machine_spec.specs.Moments.{regs_after, memory_after}
 use Rattle.machine_spec.specs.Marks.{Mark, mark}
 use Rattle.machine_spec.specs.Kept.{View, now, regs_when, base_by}
 use Rattle.walk_spec.specs.Ask.{ended, lacks}
@@ -38,8 +34,9 @@ use Rattle.machine_spec.specs.Allowed.{IsNowOf}
 use Rattle.machine_spec.specs.Served.{Supplied, Stop, came, clash, Reply, pushed, serve}
 use Rattle.machine_laws.proofs.Trees.{IsOn, is_need1, needs_base, chain, Plan, fin, own, via, flat, rest_by, IsSound, IsSecond, AllSecond, IsWord}
 use Rattle.machine_laws.proofs.Fine.{Good, IsNow, LastOk, Kept1, FineOf}
-use Rattle.machine_laws.proofs.Stands.{on_append, marks_append, via_on, via_marks, mark_first, mark_base, second_marks}
+use Rattle.machine_laws.proofs.Stands.{on_append, marks_append, via_on, via_marks, mark_first, mark_base, second_marks, flat_fin}
 use Rattle.machine_laws.proofs.Uses.{use_first, use_second, above_first, above_second, above_leaf, first_none, open_at, chain_append, first_here, last_more, last_append}
+use Rattle.machine_laws.proofs.Logs.{inval-within}
 
 -- WHAT IS GIVEN FITS
 
@@ -76,24 +73,22 @@ ttbr_below : (regs : Regs) (s : Side) → ttbr_base regs s < 2 ^ 52
 ttbr_below regs Low = base_below (granule_of (config_of regs).tg0) (config_of regs).ips regs.ttbr0_el1
 ttbr_below regs High = base_below (granule_of (config_of regs).tg1) (config_of regs).ips regs.ttbr1_el1
 
-pub fits_base1 : (regs : Regs) (s : Side) (k : ℕ) → fits (regime_of (config_of regs) s) base1 (base_item k S1 (sizes1 (config_of regs) s) (start_base1 regs s)) ≡ true
+pub fits_base1 : (regs : Regs) (s : Side) (k : ℕ)
+    → fits (regime_of (config_of regs) s) base1 (base_item k S1 (sizes1 (config_of regs) s) (start_base1 regs s)) ≡ true
 unfolding fits
 fits_base1 regs s k = fits_aligned (sizes1 (config_of regs) s) S1 k (ttbr_base regs s) (ttbr_below regs s)
 
-pub fits_base2 : (regs : Regs) (s : Side) (x k : ℕ) → fits (regime_of (config_of regs) s) (base2 x) (base_item k S2 (sizes2 (config_of regs)) (start_base2 regs)) ≡ true
+pub fits_base2 : (regs : Regs) (s : Side) (x k : ℕ)
+    → fits (regime_of (config_of regs) s) (base2 x) (base_item k S2 (sizes2 (config_of regs)) (start_base2 regs)) ≡ true
 unfolding fits
-fits_base2 regs s x k = fits_aligned (sizes2 (config_of regs)) S2 k (vttbr_base regs) (base_below (granule_of (config_of regs).tg2) (config_of regs).ps regs.vttbr_el2)
+fits_base2 regs s x k =
+    fits_aligned (sizes2 (config_of regs)) S2 k (vttbr_base regs) (base_below (granule_of (config_of regs).tg2) (config_of regs).ps regs.vttbr_el2)
 
 pub fits_needed : (r : Regime) (w : WordNeed) (k value : ℕ) → fits r (word w) (needed_item k w value) ≡ true
 unfolding fits
 fits_needed r w k value = rw (stage_self w.stage, level_self (level_of w.left), eq-eqb w.place w.place refl) refl
 
 -- WHAT IS READ NOW IS KEPT
-
-inval_within : (log : List Step) (k : ℕ) (i : Inval) → inval_at log k ≡ Some i → k < length log
-inval_within log k i h =
-    option_and_then_some (issued_by (λ c. regs_at log c k) k) (event_at log k) i h
-    (λ e at is. simp length-map at (slice_get_within (map (λ s. s.event) log) k e at))
 
 module _ (v : View) where
   pub opened : (m : Mark) (u : ℕ) → u ≡ now v → Good v m None → Good v m (Some u)
@@ -125,7 +120,7 @@ module _ (v : View) where
           };
           at_base = λ b. f.now_is;
           asid = λ h. ap (λ n. asid_of (regs_when v n)) f.now_is;
-          live = λ w k i past at reach cov is. let lt = inval_within v.log k i at in omega (arith, lt, past, f.now_is);
+          live = λ w k i past at reach cov is. let lt = inval-within v.log k i at in omega (arith, lt, past, f.now_is);
         },
         omega arith,
       )
@@ -141,7 +136,8 @@ module _ (v : View) where
   pub fresh_used : (above : Option ℕ) (ms : List Mark) → IsNow (now v) above → AllSecond ms → AllFresh ms → AllUsed (Good v) above ms
   fresh_used above [] h s f = tt
   fresh_used above (m ∷ ms) h s f = (
-    subst (Good v m) (sym (use_second above m ms s.0)) (open_at (Good v) (now v) opened m (next_second above ms) (fresh_next above ms h f.1) (fresh_good m f.0)),
+    subst (Good v m) (sym (use_second above m ms s.0))
+        (open_at (Good v) (now v) opened m (next_second above ms) (fresh_next above ms h f.1) (fresh_good m f.0)),
     subst (λ o. AllUsed (Good v) o ms) (sym (above_second above m s.0)) (fresh_used above ms h s.1 f.1),
   )
 
@@ -156,15 +152,11 @@ module _ (v : View) where
 abbrev pub prepend : List Item → Reply → Reply
 prepend items reply = record { items = items ++ reply.items; stop = reply.stop; by = reply.by }
 
-pub serve_queue : (r : Regime) (sup : Need → Supplied) (q : List Item) (t u : Ask Need Item (End Landing)) → IsOn r t q u → serve sup q t ≡ prepend q (serve sup [] u)
+pub serve_queue : (r : Regime) (sup : Need → Supplied) (q : List Item) (t u : Ask Need Item (End Landing)) → IsOn r t q u
+    → serve sup q t ≡ prepend q (serve sup [] u)
 serve_queue r sup [] t u e = ap (serve sup []) (sym e)
 serve_queue r sup (i ∷ q) (done e) u h = absurd h
 serve_queue r sup (i ∷ q) (ask n k) u h = ap (pushed i []) (serve_queue r sup q (k i) u h.1)
-
-pub flat_fin : (r : Regime) (p : Plan) (e : End Landing) → flat r p ≡ done e → p ≡ fin e
-flat_fin r (fin a) e h = cc
-flat_fin r (own n k) e h = absurd cc
-flat_fin r (via p x next k) e h = absurd cc
 
 pub last_ok_more : (k : ℕ) (e : End Landing) (pre : List Mark) (m : Mark) (ms : List Mark) → LastOk k e (m ∷ ms) → LastOk k e (pre ++ m ∷ ms)
 last_ok_more k (reaches l) pre m ms h = last_more IsWord pre m ms h
@@ -195,7 +187,8 @@ module _ (v : View) (r : Regime) where
 
   pub fine_after : (K L : List Item → Type 0) (t u : Ask Need Item (End Landing)) (pre items : List Item) (stop : Stop) → Pre K L t u pre →
       FineOf L v r u items stop → FineOf K v r t (pre ++ items) stop
-  fine_after K L t u pre items (came (ended e)) p f = (on_append r t u (done e) pre items p.on f.0, p.kept items f.1, last_after t u pre items e p.on f.0 p.last f.2)
+  fine_after K L t u pre items (came (ended e)) p f =
+      (on_append r t u (done e) pre items p.on f.0, p.kept items f.1, last_after t u pre items e p.on f.0 p.last f.2)
   fine_after K L t u pre items (came (lacks n)) p f = (f.0, f.1, f.2, on_append r t u (ask n f.1) pre items p.on f.3, p.kept items f.4, f.5)
   fine_after K L t u pre items (clash one two) p f = (
     f.0,
@@ -241,7 +234,8 @@ module _ (v : View) (r : Regime) where
           last_base = last_append (IsNowBase (now v)) (m ∷ []) (marks r (flat r (k i)) items) (λ b. f.now_is) h.last_base;
         };
         last = λ e h. subst (λ t. LastOk (now v) e (m ∷ marks r t [])) (sym h)
-            (last_one (now v) e m f.now_is (λ l is. mark_base r n i ∙ no_base n k i sound l (needs_base n) refl (flat_fin r (k i) (reaches l) (h ∙ ap (λ e. done e) is))));
+            (last_one (now v) e m f.now_is
+            (λ l is. mark_base r n i ∙ no_base n k i sound l (needs_base n) refl (flat_fin r (k i) (reaches l) (h ∙ ap (λ e. done e) is))));
       }
 
   err_of : (o : Result Need (End Landing)) (k : Item → Plan) (e : End Landing) → flat r (rest_by o k) ≡ done e → o ≡ Err e
@@ -249,7 +243,8 @@ module _ (v : View) (r : Regime) where
   err_of (Ok n) k e h = absurd cc
 
   -- behind a chain comes a question of stage 1 that is answered now, or the end
-  rest_now : (above : Option ℕ) (o : Result Need (End Landing)) (k : Item → Plan) (items : List Item) → IsNow (now v) above → ((n : Need) → o ≡ Ok n → is_need1 n ≡ true) →
+  rest_now : (above : Option ℕ) (o : Result Need (End Landing)) (k : Item → Plan) (items : List Item) → IsNow (now v) above
+      → ((n : Need) → o ≡ Ok n → is_need1 n ≡ true) →
       Kept1 v r above (flat r (rest_by o k)) items → IsNow (now v) (next_second above (marks r (flat r (rest_by o k)) items))
   rest_now above (Err e) k [] a one h = a
   rest_now above (Err e) k (i ∷ items) a one h = a
@@ -268,7 +263,8 @@ module _ (v : View) (r : Regime) where
     kept = λ items h.
         let rest : List Mark = marks r (flat r (rest_by (next e) k)) items in
         let ms : marks r (flat r (via p x next k)) (cs ++ items) ≡ marks r (chain r p x) cs ++ rest =
-        marks_append r (flat r (via p x next k)) (flat r (rest_by (next e) k)) cs items (via_on r p x next k cs e on) ∙ ap (λ l. l ++ rest) (via_marks r p x next k cs (done e) on) in
+        marks_append r (flat r (via p x next k)) (flat r (rest_by (next e) k)) cs items (via_on r p x next k cs e on)
+        ∙ ap (λ l. l ++ rest) (via_marks r p x next k cs (done e) on) in
         let s : AllSecond (marks r (chain r p x) cs) = second_marks r (chain r p x) cs second in
         record {
           used = subst (AllUsed (Good v) above) (sym ms)

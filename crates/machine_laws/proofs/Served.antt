@@ -33,16 +33,13 @@ use Rattle.machine_spec.specs.Machine.{Core}
 use Rattle.machine_laws.proofs.Trees.{IsOn, chain, Plan, fin, flat, IsWord, AllSecond}
 use Rattle.machine_laws.proofs.Facts.{In, sided, regime_for, IsStored, Suits, IsLeafRow1, IsTableRow1, IsRowBy, IsApart, AllApart, Facts}
 use Rattle.machine_laws.proofs.Laws.{Laws, Judged, IsCut}
-use Rattle.machine_laws.proofs.Lists.{In-filter}
-use Rattle.machine_laws.proofs.Stands.{on_ends, on_needs, marks_append, marks_nil}
+use Rattle.machine_laws.proofs.Lists.{In-filter, none_some}
+use Rattle.machine_laws.proofs.Stands.{on_ends, on_needs, marks_append, marks_nil, flat_fin}
 use Rattle.machine_laws.proofs.Uses.{used_map, table_append, cut_used, last_more}
 use Rattle.machine_laws.proofs.Fine.{Good, LastOk, Kept1, place_of, config_at, here, FineOf, FineBy, Begins, PlansAreFine, RightBy, UsedBy, IsAlone, ServedOk, ServesWell}
 use Rattle.machine_laws.proofs.Found.{In-matching, In-deepest, apart_matching, Match, matched1, region_same, NamesLive, serve_live, taken_none}
 use Rattle.machine_laws.proofs.Begins.{regs_now, last_word_base, Same, stored_good, begins, base_now}
-use Rattle.machine_laws.proofs.Serve.{fits_base2, fresh_good, opened, prepend, serve_queue, flat_fin, Pre, fine_after}
-
-none_some : {X P : Type 0} (x : X) → ◌≡◌ {A = Option X} None (Some x) → P
-none_some x h = cc
+use Rattle.machine_laws.proofs.Serve.{fits_base2, fresh_good, opened, prepend, serve_queue, Pre, fine_after}
 
 -- NO ROW MATCHES
 
@@ -117,11 +114,15 @@ chain_if q false t e h = refl
 stands_chain : (c : Config) (s : Rattle.sysregs.specs.declared.regs.Side.Side) (p : Bool) (x : ℕ) (items : List Item) (l : Leaf2) → is_refused2 c x ≡ false →
     IsOn (regime_of c s) (chain (regime_of c s) p x) items (done (reaches l)) → stands2 c s p x items ≡ ends (reaches l) []
 stands_chain c s p x items l ok h =
-    ap (λ t. on (fits (regime_of c s)) t items) (chain_if (asked2 (regime_of c s) p x) (is_refused2 c x) (chain (regime_of c s) p x) (stops (fault2 (asked2 (regime_of c s) p x) Rattle.fault_codes.specs.declared.fault.Class.TheVariants.Translation Rattle.geometry.specs.Tables.most_left)) ok)
+    ap (λ t. on (fits (regime_of c s)) t items)
+    (chain_if (asked2 (regime_of c s) p x) (is_refused2 c x) (chain (regime_of c s) p x)
+    (stops (fault2 (asked2 (regime_of c s) p x) Rattle.fault_codes.specs.declared.fault.Class.TheVariants.Translation
+    Rattle.geometry.specs.Tables.most_left)) ok)
     ∙ on_ends (regime_of c s) (chain (regime_of c s) p x) (reaches l) items h
 
 -- the stage of an item that is of a fault's stage
-stage_of : (s t : Rattle.fault_codes.specs.declared.fault.Stage.Stage) → is_stage1 t ≡ false → Rattle.walk_spec.specs.Needs.stage_eq s t ≡ true → is_stage1 s ≡ false
+stage_of : (s t : Rattle.fault_codes.specs.declared.fault.Stage.Stage) → is_stage1 t ≡ false → Rattle.walk_spec.specs.Needs.stage_eq s t ≡ true
+    → is_stage1 s ≡ false
 stage_of S1 S1 h e = h
 stage_of S1 S2 h e = absurd cc
 stage_of S2 S1 h e = refl
@@ -158,10 +159,12 @@ module _ (laws : Laws) (plans : PlansAreFine) (v : View) (w : Core) (a : Access)
 
   fault_read : (e : End Landing) (items : List Item) → LastOk (now v) e (now_marks items) →
       FaultIsRead (now v) (Rattle.machine_spec.specs.Allowed.marks_now case_here true items) (outcome_of e)
-  fault_read (stops g) items h = at_now (λ c. is_of_word g.class ≡ true → LastIs (IsNowOf g.stage (now v)) (marks (regime_of c (side_of a.va)) (walk c true a) items)) h
+  fault_read (stops g) items h =
+      at_now (λ c. is_of_word g.class ≡ true → LastIs (IsNowOf g.stage (now v)) (marks (regime_of c (side_of a.va)) (walk c true a) items)) h
   fault_read (reaches l) items h = tt
 
-  ended_of : (e : End Landing) (items : List Item) → IsOn rg (here v a) items (done e) → KeptHere items → LastOk (now v) e (now_marks items) → IsEnded case_here items None (outcome_of e)
+  ended_of : (e : End Landing) (items : List Item) → IsOn rg (here v a) items (done e) → KeptHere items → LastOk (now v) e (now_marks items)
+      → IsEnded case_here items None (outcome_of e)
   ended_of e items stands kept last = record {
     end = e;
     walk_ends = at_now (λ c. on (fits (regime_of c (side_of a.va))) (walk c true a) items ≡ ends e []) (on_ends rg (here v a) e items stands);
@@ -186,17 +189,21 @@ module _ (laws : Laws) (plans : PlansAreFine) (v : View) (w : Core) (a : Access)
     alone = refl;
   }
 
-  reaches_of : (p : Bool) (x : ℕ) (items : List Item) (l : Leaf2) → is_refused2 (config_at v) x ≡ false → IsOn rg (chain rg p x) items (done (reaches l)) → Reaches case_here x items
-  reaches_of p x items l ok h = (p, l, at_now (λ c. stands2 c (side_of a.va) p x items ≡ ends (reaches l) []) (stands_chain (config_at v) (side_of a.va) p x items l ok h))
+  reaches_of : (p : Bool) (x : ℕ) (items : List Item) (l : Leaf2) → is_refused2 (config_at v) x ≡ false → IsOn rg (chain rg p x) items (done (reaches l))
+      → Reaches case_here x items
+  reaches_of p x items l ok h =
+      (p, l, at_now (λ c. stands2 c (side_of a.va) p x items ≡ ends (reaches l) []) (stands_chain (config_at v) (side_of a.va) p x items l ok h))
 
   -- what was served, by its tree
   abbrev IsBoth : List Item → Stop → Type 0
-  IsBoth items stop = (by : List Row) → RightBy v a (record { items = items; stop = stop; by = by }) stop × UsedBy v a (record { items = items; stop = stop; by = by }) stop
+  IsBoth items stop =
+      (by : List Row) → RightBy v a (record { items = items; stop = stop; by = by }) stop × UsedBy v a (record { items = items; stop = stop; by = by }) stop
 
   both_of : (items : List Item) (stop : Stop) → FineOf KeptHere v rg (here v a) items stop → IsBoth items stop
   both_of items (came (ended e)) h by = (right_ended e items (ended_of e items h.0 h.1 h.2), record { on = h.0; used = h.1.0 })
   both_of items (came (lacks n)) h by = (
-    subst (λ z. IsRight case_here items None (fed_outcome (lacks z))) (sym h.2) (lacking_of h.0 h.1 items (subst (λ z. IsOn rg (here v a) items (ask z h.1)) h.2 h.3) h.4 h.5),
+    subst (λ z. IsRight case_here items None (fed_outcome (lacks z))) (sym h.2)
+        (lacking_of h.0 h.1 items (subst (λ z. IsOn rg (here v a) items (ask z h.1)) h.2 h.3) h.4 h.5),
     (h.1, record { on = h.3; used = h.4.0 }),
   )
   both_of items (clash one two) h by = (
@@ -210,7 +217,8 @@ module _ (laws : Laws) (plans : PlansAreFine) (v : View) (w : Core) (a : Access)
         two = two;
         first_is = refl;
         second_is = refl;
-        walk_needs = at_now (λ c. on (fits (regime_of c (side_of a.va))) (walk c true a) items ≡ needs (base2 h.0)) (on_needs rg (here v a) (base2 h.0) h.1 items h.2);
+        walk_needs =
+            at_now (λ c. on (fits (regime_of c (side_of a.va))) (walk c true a) items ≡ needs (base2 h.0)) (on_needs rg (here v a) (base2 h.0) h.1 items h.2);
         reaches_one = reaches_of h.3.0 h.0 one h.3.1 h.8 h.3.2;
         reaches_two = reaches_of h.4.0 h.0 two h.4.1 h.8 h.4.2;
         differ = h.5;
@@ -236,7 +244,8 @@ module _ (laws : Laws) (plans : PlansAreFine) (v : View) (w : Core) (a : Access)
   abbrev sup : Need → Supplied
   sup = supply (place_of v w.cache.rows) a
 
-  fine_plan : (p : Plan) → Rattle.machine_laws.proofs.Trees.IsSound rg p → FineBy v rg None (flat rg p) (serve sup [] (flat rg p)).items (serve sup [] (flat rg p)).stop
+  fine_plan : (p : Plan) → Rattle.machine_laws.proofs.Trees.IsSound rg p
+      → FineBy v rg None (flat rg p) (serve sup [] (flat rg p)).items (serve sup [] (flat rg p)).stop
   fine_plan p sound = plans v w.cache.rows a side chains p sound None tt
 
   weaker : (t : Ask Need Item (End Landing)) (items : List Item) (stop : Stop) → ((more : List Item) → Kept1 v rg None t more → KeptHere more) →
@@ -251,7 +260,8 @@ module _ (laws : Laws) (plans : PlansAreFine) (v : View) (w : Core) (a : Access)
   from_nothing =
       let e : flat rg (laws.plan (config_at v) true a) ≡ here v a = laws.plan_is (config_at v) true a in
       weaker (here v a) (serve sup [] (here v a)).items (serve sup [] (here v a)).stop (λ more k. (k.used, k.last_base))
-      (subst (λ t. FineBy v rg None t (serve sup [] t).items (serve sup [] t).stop) e (fine_plan (laws.plan (config_at v) true a) (laws.sound (config_at v) true a)))
+      (subst (λ t. FineBy v rg None t (serve sup [] t).items (serve sup [] t).stop) e
+      (fine_plan (laws.plan (config_at v) true a) (laws.sound (config_at v) true a)))
 
   -- BY THE ROW OF A STAGE 1 TABLE
 
@@ -283,22 +293,27 @@ module _ (laws : Laws) (plans : PlansAreFine) (v : View) (w : Core) (a : Access)
   not_second : (m : Mark) (g : Fault) → is_first m ≡ true → is_stage1 g.stage ≡ false → IsNowOf g.stage (now v) m
   not_second m g h n e = absurd (both_ways (is_first m) (stage_of m.stage g.stage n e) h)
 
-  table_last : (trail : List Item) (t : IsTableRow1 (Good v) (config_at v) trail a) (e : End Landing) → t.plan ≡ fin e → LastOk (now v) e (t.front ++ t.last ∷ [])
+  table_last : (trail : List Item) (t : IsTableRow1 (Good v) (config_at v) trail a) (e : End Landing) → t.plan ≡ fin e
+      → LastOk (now v) e (t.front ++ t.last ∷ [])
   table_last trail t (reaches l) e = last_more IsWord t.front t.last [] t.word
   table_last trail t (stops g) e = λ q. last_more (IsNowOf g.stage (now v)) t.front t.last [] (not_second t.last g t.first (t.late g e))
 
   abbrev serve_here : List Item → Reply
   serve_here items = serve sup items (here v a)
 
-  from_table : (trail : List Item) → IsTableRow1 (Good v) (config_at v) trail a → FineOf KeptHere v rg (here v a) (serve_here trail).items (serve_here trail).stop
+  from_table : (trail : List Item) → IsTableRow1 (Good v) (config_at v) trail a
+      → FineOf KeptHere v rg (here v a) (serve_here trail).items (serve_here trail).stop
   from_table trail t =
       let rest : Reply = serve sup [] (flat rg t.plan) in
       let e : serve_here trail ≡ prepend trail rest = serve_queue rg sup trail (here v a) (flat rg t.plan) t.on in
-      let eq = λ (items : List Item). marks_append rg (here v a) (flat rg t.plan) trail items t.on ∙ ap (λ ms. ms ++ marks rg (flat rg t.plan) items) t.is ∙ append_assoc t.front (t.last ∷ []) (marks rg (flat rg t.plan) items) in
+      let eq =
+      λ (items : List Item). marks_append rg (here v a) (flat rg t.plan) trail items t.on ∙ ap (λ ms. ms ++ marks rg (flat rg t.plan) items) t.is
+      ∙ append_assoc t.front (t.last ∷ []) (marks rg (flat rg t.plan) items) in
       let p : Pre v rg KeptHere (Kept1 v rg None (flat rg t.plan)) (here v a) (flat rg t.plan) trail = record {
         on = t.on;
         kept = λ items h. (
-          subst (AllUsed (Good v) None) (sym (eq items)) (table_append (Good v) (now v) (opened v) None t.front t.last (marks rg (flat rg t.plan) items) t.first t.not_leaf h.next t.stored h.used),
+          subst (AllUsed (Good v) None) (sym (eq items))
+              (table_append (Good v) (now v) (opened v) None t.front t.last (marks rg (flat rg t.plan) items) t.first t.not_leaf h.next t.stored h.used),
           subst (LastIs (IsNowBase (now v))) (sym (eq items)) (table_base (now v) t.front t.last (marks rg (flat rg t.plan) items) t.word h.last_base),
         );
         last = λ g q. subst (LastOk (now v) g) (sym t.is) (table_last trail t g (flat_fin rg t.plan g q));
@@ -335,8 +350,12 @@ module _ (laws : Laws) (plans : PlansAreFine) (v : View) (w : Core) (a : Access)
   leaf_here on ok r i =
       let m = In-matching (matches1 leaf1 (key_of (regs_after v.core v.log)) (untagged a.va)) w.cache.rows r i in
       let t = matched1 leaf1 (key_of (regs_after v.core v.log)) (untagged a.va) r m.1 in
-      let s = same_of leaf1 r t.0 in
-      (s, t.1, subst (λ c. IsLeafRow1 (IsStored (sided v (side_of a.va)) w.inbox r) c r r.trail a) s.config_same (as_kind leaf1 r t.0.kind_is m.0 a (suits_of r s t.0.held on ok)))
+      let s = same_of leaf1 r t.0 in (
+        s,
+        t.1,
+        subst (λ c. IsLeafRow1 (IsStored (sided v (side_of a.va)) w.inbox r) c r r.trail a) s.config_same
+            (as_kind leaf1 r t.0.kind_is m.0 a (suits_of r s t.0.held on ok)),
+      )
 
   cut_good : (ms cut : List Mark) → IsCut ms cut → AllUsed (Good v) None ms → AllUsed (Good v) None cut
   cut_good ms cut (inl e) h = subst (AllUsed (Good v) None) e h
@@ -354,7 +373,8 @@ module _ (laws : Laws) (plans : PlansAreFine) (v : View) (w : Core) (a : Access)
     abbrev judged_at : (r : Row) → LeafHere r → Judged (config_at v) r.trail a
     judged_at r t = laws.judged (config_at v) a r.trail t.landing enabled ok t.on
 
-    reply_is : (r : Row) (t : LeafHere r) → taken r.trail (here v a) ≡ record { items = (judged_at r t).front; stop = came (ended (judged_at r t).end); by = [] }
+    reply_is : (r : Row) (t : LeafHere r)
+        → taken r.trail (here v a) ≡ record { items = (judged_at r t).front; stop = came (ended (judged_at r t).end); by = [] }
     reply_is r t =
         let j = judged_at r t in
         ap (λ items. taken items (here v a)) j.is ∙ taken_front rg (here v a) j.end j.front j.rest j.on
@@ -364,7 +384,9 @@ module _ (laws : Laws) (plans : PlansAreFine) (v : View) (w : Core) (a : Access)
         let j = judged_at r t in
         let h = leaf_here enabled ok r i in
         let used = good_all r h.0 h.1 (marks rg (walk (config_at v) false a) r.trail) t.stored in
-        let word = cut_word (marks rg (walk (config_at v) false a) r.trail) (now_marks j.front) j.cut (laws.mapped_last (config_at v) false a r.trail t.landing t.on) in (
+        let word =
+        cut_word (marks rg (walk (config_at v) false a) r.trail) (now_marks j.front) j.cut
+        (laws.mapped_last (config_at v) false a r.trail t.landing t.on) in (
           j.on,
           (cut_good (marks rg (walk (config_at v) false a) r.trail) (now_marks j.front) j.cut used, last_word_base (now v) (now_marks j.front) word),
           fine_ok j.end (now_marks j.front) j.fine word,
@@ -382,10 +404,12 @@ module _ (laws : Laws) (plans : PlansAreFine) (v : View) (w : Core) (a : Access)
     old_front r t =
         let j = judged_at r t in
         let h = subst (λ u. AllUsed (IsStored u w.inbox r) None (marks rg (walk (config_at v) false a) r.trail)) (ap (sided v) (sym side)) t.stored in
-        old_of (now v) (marks rg (walk (config_at v) false a) r.trail) (now_marks j.front) j.cut (old_all r None (marks rg (walk (config_at v) false a) r.trail) h)
+        old_of (now v) (marks rg (walk (config_at v) false a) r.trail) (now_marks j.front) j.cut
+        (old_all r None (marks rg (walk (config_at v) false a) r.trail) h)
 
     -- two rows that match differ in their last items
-    leaves_differ : (r s : Row) → IsApart r s → In r leaves → In s leaves → last_entry1 r.trail ≡ last_entry1 s.trail → last_entry r.trail ≡ last_entry s.trail → ⊥
+    leaves_differ : (r s : Row) → IsApart r s → In r leaves → In s leaves → last_entry1 r.trail ≡ last_entry1 s.trail
+        → last_entry r.trail ≡ last_entry s.trail → ⊥
     leaves_differ r s apart ir is ef el =
         let key = key_of (regs_after v.core v.log) in
         let x = untagged a.va in
@@ -398,13 +422,17 @@ module _ (laws : Laws) (plans : PlansAreFine) (v : View) (w : Core) (a : Access)
         let k = laws.keys (config_at v) a r.trail s.trail tr.landing ts.landing nr.0 ns.0 enabled ok tr.on ts.on nr.1 ns.1 ef el in
         let class : r.region.class ≡ s.region.class = sym tr.class_is ∙ k.0 ∙ ts.class_is in
         let gl : r.global ≡ s.global = sym (tr.global_is nr.0 nr.1) ∙ k.1 ∙ ts.global_is ns.0 ns.1 in
-        let d = apart.1 pr.0.kind_is ps.0.kind_is (pr.0.config ∙ sym ps.0.config) (pr.0.vmid ∙ sym ps.0.vmid) (region_same r s x pr.0.held ps.0.held class) gl in
+        let d = apart.1 pr.0.kind_is ps.0.kind_is (pr.0.config ∙ sym ps.0.config) (pr.0.vmid ∙ sym ps.0.vmid) (region_same r s x pr.0.held ps.0.held class)
+        gl in
         d.1 (pr.1 d.0 ∙ sym (ps.1 (sym gl ∙ d.0)))
 
     lands_now : (r : Row) → In r leaves → (l : Landing) × Rattle.machine_spec.specs.Allowed.Ends case_here false r.trail (reaches l)
     lands_now r i =
-        let t = (leaf_here enabled ok r i).2 in
-        (t.landing, at_now (λ c. on (fits (regime_of c (side_of a.va))) (walk c false a) r.trail ≡ ends (reaches t.landing) []) (on_ends rg (walk (config_at v) false a) (reaches t.landing) r.trail t.on))
+        let t = (leaf_here enabled ok r i).2 in (
+          t.landing,
+          at_now (λ c. on (fits (regime_of c (side_of a.va))) (walk c false a) r.trail ≡ ends (reaches t.landing) [])
+              (on_ends rg (walk (config_at v) false a) (reaches t.landing) r.trail t.on),
+        )
 
     kept_whole : (r : Row) → In r leaves → Rattle.machine_spec.specs.Allowed.Keeps case_here false r.trail
     kept_whole r i =
@@ -412,7 +440,8 @@ module _ (laws : Laws) (plans : PlansAreFine) (v : View) (w : Core) (a : Access)
         kept_of false r.trail (good_all r h.0 h.1 (marks rg (walk (config_at v) false a) r.trail) h.2.stored)
         (last_word_base (now v) (marks rg (walk (config_at v) false a) r.trail) (laws.mapped_last (config_at v) false a r.trail h.2.landing h.2.on))
 
-    twice_right : (r s : Row) → IsApart r s → In r leaves → In s leaves → (by : List Row) → RightBy v a (record { items = []; stop = clash r.trail s.trail; by = by }) (clash r.trail s.trail)
+    twice_right : (r s : Row) → IsApart r s → In r leaves → In s leaves → (by : List Row)
+        → RightBy v a (record { items = []; stop = clash r.trail s.trail; by = by }) (clash r.trail s.trail)
     twice_right r s apart ir is by = record {
       other = s.trail;
       both = refl;
@@ -430,7 +459,8 @@ module _ (laws : Laws) (plans : PlansAreFine) (v : View) (w : Core) (a : Access)
     abbrev OkBy : Reply → Type 0
     OkBy z = RightBy v a z z.stop × UsedBy v a z z.stop × IsAlone v w.cache.rows a z
 
-    old_alone : (items : List Item) (stop : Stop) (by : List Row) → AllOld (now v) (now_marks items) → IsAlone v w.cache.rows a (record { items = items; stop = stop; by = by })
+    old_alone : (items : List Item) (stop : Stop) (by : List Row) → AllOld (now v) (now_marks items)
+        → IsAlone v w.cache.rows a (record { items = items; stop = stop; by = by })
     old_alone items stop by old m e k x i = let lt = old_last (now v) (now_marks items) m old e in absurd (omega (arith, lt, k))
 
     one_ok : (r : Row) → In r leaves → OkBy (credited r (taken r.trail (here v a)))
@@ -452,12 +482,17 @@ module _ (laws : Laws) (plans : PlansAreFine) (v : View) (w : Core) (a : Access)
         (b.0, b.1, λ m q k x i. none_matches (matches1 leaf1 (key_of (regs_after v.core v.log)) (untagged a.va)) w.cache.rows x e i)
     by_leaves (r ∷ []) e = one_ok r (subst (In r) (sym e) (inl refl))
     by_leaves (r ∷ s ∷ more) e =
-        let apart : AllApart (r ∷ s ∷ more) = subst AllApart e (apart_matching (matches1 leaf1 (key_of (regs_after v.core v.log)) (untagged a.va)) w.cache.rows f.apart) in
-        (twice_right r s (apart.0 s (inl refl)) (subst (In r) (sym e) (inl refl)) (subst (In s) (sym e) (inr (inl refl))) [], tt, nil_alone (clash r.trail s.trail) [])
+        let apart : AllApart (r ∷ s ∷ more) =
+        subst AllApart e (apart_matching (matches1 leaf1 (key_of (regs_after v.core v.log)) (untagged a.va)) w.cache.rows f.apart) in (
+          twice_right r s (apart.0 s (inl refl)) (subst (In r) (sym e) (inl refl)) (subst (In s) (sym e) (inr (inl refl))) [],
+          tt,
+          nil_alone (clash r.trail s.trail) [],
+        )
 
   -- WITHOUT STAGE 1, OR REFUSED BY IT
 
-  plain_ok : ((config_at v).m ≡ true → is_refused1 (config_at v) a ≡ true) → let z = serve_here [] in RightBy v a z z.stop × UsedBy v a z z.stop × IsAlone v w.cache.rows a z
+  plain_ok : ((config_at v).m ≡ true → is_refused1 (config_at v) a ≡ true) → let z = serve_here [] in
+      RightBy v a z z.stop × UsedBy v a z z.stop × IsAlone v w.cache.rows a z
   plain_ok off =
       let z = serve_here [] in
       let b = both_of z.items z.stop from_nothing z.by in
@@ -488,7 +523,8 @@ module _ (laws : Laws) (plans : PlansAreFine) (v : View) (w : Core) (a : Access)
   sup_live (word n) = found_live (word n) (given (regs_after v.core v.log) (side_of a.va) (memory_after v.header v.log) (now v) (word n))
   sup_live (base2 x) =
       let k = key_of (regs_after v.core v.log) in
-      chain_of_live (fresh_of (place_of v w.cache.rows) a (base2 x)) (matching (Rattle.machine_spec.specs.Rows.matches leaf2 k x) w.cache.rows) (deepest (Rattle.machine_spec.specs.Rows.matches table2 k x) w.cache.rows)
+      chain_of_live (fresh_of (place_of v w.cache.rows) a (base2 x)) (matching (Rattle.machine_spec.specs.Rows.matches leaf2 k x) w.cache.rows)
+      (deepest (Rattle.machine_spec.specs.Rows.matches table2 k x) w.cache.rows)
       (λ r i. (In-matching (Rattle.machine_spec.specs.Rows.matches leaf2 k x) w.cache.rows r i).0)
       (λ r e. (In-deepest (Rattle.machine_spec.specs.Rows.matches table2 k x) w.cache.rows r e).0)
       (found_live (base2 x) (given (regs_after v.core v.log) (side_of a.va) (memory_after v.header v.log) (now v) (base2 x)))
@@ -510,7 +546,8 @@ module _ (laws : Laws) (plans : PlansAreFine) (v : View) (w : Core) (a : Access)
   abbrev by_rows : Reply
   by_rows = combined leaves (deepest (matches1 table1 (key_of (regs_after v.core v.log)) (untagged a.va)) w.cache.rows) sup (here v a)
 
-  served_if : (m refused : Bool) → (config_at v).m ≡ m → is_refused1 (config_at v) a ≡ refused → ServedOk v w.cache.rows a (cond (m && not refused) by_rows (serve_here []))
+  served_if : (m refused : Bool) → (config_at v).m ≡ m → is_refused1 (config_at v) a ≡ refused
+      → ServedOk v w.cache.rows a (cond (m && not refused) by_rows (serve_here []))
   served_if true false e g =
       let b = by_leaves e g leaves refl in
       let k1 = matches1 leaf1 (key_of (regs_after v.core v.log)) (untagged a.va) in

@@ -11,7 +11,7 @@ use Rattle.machine_spec.specs.Rows.{Row, same_kind}
 use Rattle.machine_spec.specs.Sets.{Cache, victim, without, same_set, same_key, placed, added, is_row, to_end, touched, filled}
 use Rattle.machine_laws.specs.Rules.{SetLoses, FullSetsLoseOne}
 use Rattle.machine_laws.proofs.Facts.{In}
-use Rattle.machine_laws.proofs.Lists.{In-from_filter, In-push_cases}
+use Rattle.machine_laws.proofs.Lists.{In-from_filter, In-push_cases, In-without}
 
 -- A LIST WITHOUT ONE OF THOSE THAT PASS
 
@@ -53,7 +53,7 @@ filter-other p q apart (x ∷ xs) (suc n) = other_later p q x xs n (p x) (filter
 
 -- ONE SET
 
-kind_itself : (k : Kind) → same_kind k k ≡ true
+pub kind_itself : (k : Kind) → same_kind k k ≡ true
 kind_itself leaf1 = refl
 kind_itself table1 = refl
 kind_itself leaf2 = refl
@@ -119,24 +119,6 @@ full_sets_lose_one h c s l r = set_loses h c s l r
 
 -- WHICH ROWS A STEP LEAVES
 
-without_first : {X : Type 0} (p : X → Bool) (x : X) (xs : List X) (y : X) (b : Bool) → (In y (without p xs zero) → In y xs)
-    → In y (cond b xs (x ∷ without p xs zero)) → In y (x ∷ xs)
-without_first p x xs y true rec i = inr i
-without_first p x xs y false rec (inl e) = inl e
-without_first p x xs y false rec (inr i) = inr (rec i)
-
-without_later : {X : Type 0} (p : X → Bool) (x : X) (xs : List X) (y : X) (n : ℕ) (b : Bool) → (In y (without p xs n) → In y xs)
-    → (In y (without p xs (suc n)) → In y xs) → In y (cond b (x ∷ without p xs n) (x ∷ without p xs (suc n))) → In y (x ∷ xs)
-without_later p x xs y n true here rest (inl e) = inl e
-without_later p x xs y n true here rest (inr i) = inr (here i)
-without_later p x xs y n false here rest (inl e) = inl e
-without_later p x xs y n false here rest (inr i) = inr (rest i)
-
-pub In-without : {X : Type 0} (p : X → Bool) (xs : List X) (n : ℕ) (y : X) → In y (without p xs n) → In y xs
-In-without p [] n y i = i
-In-without p (x ∷ xs) zero y i = without_first p x xs y (p x) (In-without p xs zero y) i
-In-without p (x ∷ xs) (suc n) y i = without_later p x xs y n (p x) (In-without p xs n y) (In-without p xs (suc n) y) i
-
 module _ (h : Header) (c : ℕ) where
   placed_by : (s : Shape) (l : Cache) (r x : Row) (b : Bool) → In x (cond b (with_loss h c s l r) (with_room h c s l r)).rows → In x l.rows ⊎ (x ≡ r)
   placed_by s l r x true i =
@@ -151,10 +133,13 @@ module _ (h : Header) (c : ℕ) where
   added_by l r x true i = inl i
   added_by l r x false i = In-placed (shape_of h.size r.kind) l r x i
 
-  all_added : (made : List Row) (l : Cache) (x : Row) → In x (fold (added h c) l made).rows → In x l.rows ⊎ In x made
+  pub In-added : (l : Cache) (r x : Row) → In x (added h c l r).rows → In x l.rows ⊎ (x ≡ r)
+  In-added l r x i = added_by l r x (list_any (same_key r) l.rows) i
+
+  pub all_added : (made : List Row) (l : Cache) (x : Row) → In x (fold (added h c) l made).rows → In x l.rows ⊎ In x made
   all_added [] l x i = inl i
   all_added (r ∷ made) l x i = elim (all_added made (added h c l r) x i) [
-    | inl j ↦ elim (added_by l r x (list_any (same_key r) l.rows) j) [ inl k ↦ inl k | inr e ↦ inr (inl e) ]
+    | inl j ↦ elim (In-added l r x j) [ inl k ↦ inl k | inr e ↦ inr (inl e) ]
     | inr j ↦ inr (inr j)
   ]
 
@@ -168,7 +153,7 @@ all_to_end (r ∷ served) rows x i = elim (all_to_end served (to_end rows r) x i
   | inr j ↦ inr (inr j)
 ]
 
-In-touched : (policy : Policy) (rows served : List Row) (x : Row) → In x (touched policy rows served) → In x rows ⊎ In x served
+pub In-touched : (policy : Policy) (rows served : List Row) (x : Row) → In x (touched policy rows served) → In x rows ⊎ In x served
 In-touched Lru rows served x i = all_to_end served rows x i
 In-touched Fifo rows served x i = inl i
 In-touched (Random start) rows served x i = inl i

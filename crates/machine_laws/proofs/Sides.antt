@@ -17,7 +17,7 @@ use Rattle.walk_laws.proofs.Places.{word_at}
 use Rattle.walk_laws.proofs.Stage2.{Turn2, table, leaf, fault, turn2}
 use Rattle.machine_spec.specs.Marks.{mark, marks}
 use Rattle.machine_laws.proofs.Trees.{IsOn, chain}
-use Rattle.machine_laws.proofs.MarksOf.{marks_nil}
+use Rattle.machine_laws.proofs.Stands.{marks_nil}
 
 -- two chains under two regimes ask alike and reach one leaf
 abbrev pub Twin : (r r' : Regime) → Ask Need Item (End Leaf2) → Ask Need Item (End Leaf2) → Type 0
@@ -71,7 +71,8 @@ module _ (c : Config) (s t : Side) (p q : Bool) (x : ℕ) where
   abbrev One : Bool → Regime → (ℕ → Ask Need Item (End Leaf2)) → ℕ → Item → Ask Need Item (End Leaf2)
   One b r below left i = step_then below (step2 (asked2 r b x) left i.pa i.value)
 
-  twin_step : (below below' : ℕ → Ask Need Item (End Leaf2)) → ((n : ℕ) → Twin R R' (below n) (below' n)) → (left : ℕ) (i : Item) → Turn2 R left i → Twin R R' (One p R below left i) (One q R' below' left i)
+  twin_step : (below below' : ℕ → Ask Need Item (End Leaf2)) → ((n : ℕ) → Twin R R' (below n) (below' n)) → (left : ℕ) (i : Item) → Turn2 R left i
+      → Twin R R' (One p R below left i) (One q R' below' left i)
   twin_step below below' w left i (table next a d) = rw (d p x, d q x) (w next)
   twin_step below below' w left i (leaf f m d) = rw (d p x, d q x) refl
   twin_step below below' w left i (fault k d) = rw (d p x, d q x) tt
@@ -80,7 +81,8 @@ module _ (c : Config) (s t : Side) (p q : Bool) (x : ℕ) where
   twin_from zero n = (
     same_fits 0 (place_of R.stage2 0 n x) n,
     same_mark2 0 (place_of R.stage2 0 n x) n,
-    λ i. twin_step (λ _. done (stops (fault2 (asked2 R p x) Translation 0))) (λ _. done (stops (fault2 (asked2 R' q x) Translation 0))) (λ z. tt) 0 i (turn2 R 0 i),
+    λ i. twin_step (λ _. done (stops (fault2 (asked2 R p x) Translation 0))) (λ _. done (stops (fault2 (asked2 R' q x) Translation 0))) (λ z. tt) 0 i
+        (turn2 R 0 i),
   )
   twin_from (suc left) n = (
     same_fits (suc left) (place_of R.stage2 (suc left) n x) n,
@@ -88,7 +90,9 @@ module _ (c : Config) (s t : Side) (p q : Bool) (x : ℕ) where
     λ i. twin_step (walk2_from (asked2 R p x) left) (walk2_from (asked2 R' q x) left) (twin_from left) (suc left) i (turn2 R (suc left) i),
   )
 
-  twin_behind : (b : Bool) (base : ℕ) → Twin R R' (cond b (done (stops (fault2 (asked2 R p x) AddressSize most_left))) (walk2_from (asked2 R p x) R.stage2.start base)) (cond b (done (stops (fault2 (asked2 R' q x) AddressSize most_left))) (walk2_from (asked2 R' q x) R'.stage2.start base))
+  twin_behind : (b : Bool) (base : ℕ)
+      → Twin R R' (cond b (done (stops (fault2 (asked2 R p x) AddressSize most_left))) (walk2_from (asked2 R p x) R.stage2.start base))
+      (cond b (done (stops (fault2 (asked2 R' q x) AddressSize most_left))) (walk2_from (asked2 R' q x) R'.stage2.start base))
   twin_behind true base = tt
   twin_behind false base = twin_from R.stage2.start base
 

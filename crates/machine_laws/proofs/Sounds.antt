@@ -28,7 +28,7 @@ use Rattle.machine_spec.specs.Uses.{LastIs}
 use Rattle.machine_spec.specs.Allowed.{is_of_word}
 use Rattle.machine_laws.proofs.Trees.{IsOn, is_need1, needs_base, chain, Plan, fin, own, via, joined, flat, rest_by, IsSound, IsSecond, IsWords, AllSecond, IsWord}
 use Rattle.machine_laws.proofs.Facts.{regime_for}
-use Rattle.machine_laws.proofs.Stands.{marks_append, on_split, joined_is, via_on, via_marks, mark_base, words_second, second_marks}
+use Rattle.machine_laws.proofs.Stands.{marks_append, on_split, joined_is, via_on, via_marks, mark_base, words_second, second_marks, marks_nil, flat_fin}
 use Rattle.machine_laws.proofs.PlanOf.{early2, read_next, word_behind, entry_plan, plan_of, output_plan, out_of, from_plan, root_table, behind_plan, off_end, whole_plan, plan_for, plan_is_walk}
 
 -- SOUND
@@ -47,7 +47,8 @@ abbrev asks_base : Result Need (End Landing) → Bool
 asks_base (Ok n) = needs_base n
 asks_base (Err e) = false
 
-read_gives : (b : Bool) (e : Entry1) (l : Leaf2) → (gives_word (read_next b e l) ≡ false) × (asks_first (read_next b e l) ≡ true) × (asks_base (read_next b e l) ≡ false)
+read_gives : (b : Bool) (e : Entry1) (l : Leaf2)
+    → (gives_word (read_next b e l) ≡ false) × (asks_first (read_next b e l) ≡ true) × (asks_base (read_next b e l) ≡ false)
 read_gives true e l = (refl, refl, refl)
 read_gives false e l = (refl, refl, refl)
 
@@ -58,12 +59,14 @@ behind_gives c e (reaches l) = let g = read_gives (is_readable c l) e l in (g.1,
 pub judged_gives : (q : Asked) (l : Leaf1) (m : Leaf2) → gives_word (Err (judged2 q.judged q.access l (reaches m))) ≡ false
 judged_gives q l m = judged_case (q.judged && not (is_allowed2 m.perms q.access.el q.access.kind)) m
   where
-    judged_case : (b : Bool) (m : Leaf2) → gives_word (Err (cond b (stops record { stage = S2; level = m.level; class = Permission; s1ptw = false }) (reaches (piece l m)))) ≡ false
+    judged_case : (b : Bool) (m : Leaf2)
+        → gives_word (Err (cond b (stops record { stage = S2; level = m.level; class = Permission; s1ptw = false }) (reaches (piece l m)))) ≡ false
     judged_case true m = refl
     judged_case false m = refl
 
 sound_via : (r : Regime) (p : Bool) (x : ℕ) (next : End Leaf2 → Result Need (End Landing)) (k : Item → Plan) → is_refused2 r.config x ≡ false
-    → ((l : Leaf2) → gives_word (next (reaches l)) ≡ false) → ((e : End Leaf2) → (asks_first (next e) ≡ true) × (asks_base (next e) ≡ false)) → ((i : Item) → IsSound r (k i))
+    → ((l : Leaf2) → gives_word (next (reaches l)) ≡ false) → ((e : End Leaf2) → (asks_first (next e) ≡ true) × (asks_base (next e) ≡ false))
+    → ((i : Item) → IsSound r (k i))
     → ((f : Fault) → next (stops f) ≡ Err (stops f)) → IsSound r (via p x next k)
 sound_via r p x next k h f g s t = (
   h,
@@ -73,7 +76,8 @@ sound_via r p x next k h f g s t = (
   λ d l e. let q : Err (stops d) ≡ Err (reaches l) = sym (t d) ∙ e in absurd cc,
 )
 
-sound_entry : (r : Regime) (b d : Bool) (e : Entry1) (stop : Fault → Plan) (k : Item → Plan) → is_refused2 r.config e.place ≡ d → ((f : Fault) → IsSound r (stop f)) → ((i : Item) → IsSound r (k i)) → IsSound r (entry_plan r b d e stop k)
+sound_entry : (r : Regime) (b d : Bool) (e : Entry1) (stop : Fault → Plan) (k : Item → Plan) → is_refused2 r.config e.place ≡ d
+    → ((f : Fault) → IsSound r (stop f)) → ((i : Item) → IsSound r (k i)) → IsSound r (entry_plan r b d e stop k)
 sound_entry r true true e stop k h f s = f (early2 r true e.place)
 sound_entry r true false e stop k h f s =
     sound_via r true e.place (word_behind r.config e) k h (λ l. (read_gives (is_readable r.config l) e l).0) (behind_gives r.config e) s (λ d. refl)
@@ -82,7 +86,8 @@ sound_entry r false d e stop k h f s = (refl, (λ b i l. absurd (both_ways false
 pub sound_of : (r : Regime) (out : End Leaf1 → Plan) → ((e : End Leaf1) → IsSound r (out e)) → (t : Ask Entry1 Item (End Leaf1)) → IsSound r (plan_of r out t)
 sound_of r out h (done e) = h e
 sound_of r out h (ask e k) =
-    sound_entry r r.config.vm (is_refused2 r.config e.place) e (λ f. out (stops f)) (λ i. plan_of r out (k i)) refl (λ f. h (stops f)) (λ i. sound_of r out h (k i))
+    sound_entry r r.config.vm (is_refused2 r.config e.place) e (λ f. out (stops f)) (λ i. plan_of r out (k i)) refl (λ f. h (stops f))
+    (λ i. sound_of r out h (k i))
 
 fin_same : (e d : End Landing) → fin e ≡ fin d → e ≡ d
 fin_same e d h = cc
@@ -99,7 +104,9 @@ entry_not_there r false d e k l h = absurd cc
 module _ (q : Asked) where
   sound_output : (b d : Bool) (l : Leaf1) → is_refused2 q.regime.config l.out ≡ d → IsSound q.regime (output_plan q b d l)
   sound_output true true l h = tt
-  sound_output true false l h = sound_via q.regime false l.out (λ e. Err (judged2 q.judged q.access l e)) (λ i. fin (reaches (landed l))) h (judged_gives q l) (λ e. (refl, refl)) (λ i. tt) (λ d. refl)
+  sound_output true false l h =
+      sound_via q.regime false l.out (λ e. Err (judged2 q.judged q.access l e)) (λ i. fin (reaches (landed l))) h (judged_gives q l) (λ e. (refl, refl))
+      (λ i. tt) (λ d. refl)
   sound_output false d l h = tt
 
   pub sound_out : (e : End Leaf1) → IsSound q.regime (out_of q e)
@@ -137,14 +144,16 @@ IsTight (fin e) = Unit {0}
 IsTight (own n k) = (i : Item) → IsTight (k i)
 IsTight (via p x next k) = ((f : Fault) → next (stops f) ≡ Err (stops f)) × ((i : Item) → IsTight (k i))
 
-tight_entry : (r : Regime) (b d : Bool) (e : Entry1) (stop : Fault → Plan) (k : Item → Plan) → ((f : Fault) → IsTight (stop f)) → ((i : Item) → IsTight (k i)) → IsTight (entry_plan r b d e stop k)
+tight_entry : (r : Regime) (b d : Bool) (e : Entry1) (stop : Fault → Plan) (k : Item → Plan) → ((f : Fault) → IsTight (stop f)) → ((i : Item) → IsTight (k i))
+    → IsTight (entry_plan r b d e stop k)
 tight_entry r true true e stop k f s = f (early2 r true e.place)
 tight_entry r true false e stop k f s = ((λ d. refl), s)
 tight_entry r false d e stop k f s = s
 
 tight_of : (r : Regime) (out : End Leaf1 → Plan) → ((e : End Leaf1) → IsTight (out e)) → (t : Ask Entry1 Item (End Leaf1)) → IsTight (plan_of r out t)
 tight_of r out h (done e) = h e
-tight_of r out h (ask e k) = tight_entry r r.config.vm (is_refused2 r.config e.place) e (λ f. out (stops f)) (λ i. plan_of r out (k i)) (λ f. h (stops f)) (λ i. tight_of r out h (k i))
+tight_of r out h (ask e k) =
+    tight_entry r r.config.vm (is_refused2 r.config e.place) e (λ f. out (stops f)) (λ i. plan_of r out (k i)) (λ f. h (stops f)) (λ i. tight_of r out h (k i))
 
 module _ (q : Asked) where
   tight_output : (b d : Bool) (l : Leaf1) → IsTight (output_plan q b d l)
@@ -209,21 +218,20 @@ last_more P [] m ms h = h
 last_more P (n ∷ []) m ms h = h
 last_more P (n ∷ (o ∷ pre)) m ms h = last_more P (o ∷ pre) m ms h
 
-marks_none : {A : Type 0} (r : Regime) (t : Ask Need Item A) → marks r t [] ≡ []
-marks_none r (done a) = refl
-marks_none r (ask n k) = refl
-
-words_last : {A : Type 0} (r : Regime) (pre : List Mark) (t u : Ask Need Item A) (y : Item) (ys : List Item) → IsWords t → IsOn r t (y ∷ ys) u → LastIs IsWord (pre ++ marks r t (y ∷ ys))
+words_last : {A : Type 0} (r : Regime) (pre : List Mark) (t u : Ask Need Item A) (y : Item) (ys : List Item) → IsWords t → IsOn r t (y ∷ ys) u
+    → LastIs IsWord (pre ++ marks r t (y ∷ ys))
 words_last r pre (done a) u y ys h o = absurd o
 words_last r pre (ask n k) u y [] h o =
-    rw (marks_none r (k y)) (last_more IsWord pre (mark r n y) [] (mark_base r n y ∙ h.1))
+    rw (marks_nil r (k y)) (last_more IsWord pre (mark r n y) [] (mark_base r n y ∙ h.1))
 words_last r pre (ask n k) u y (z ∷ zs) h o =
     last_more IsWord pre (mark r n y) (marks r (k y) (z ∷ zs)) (words_last r (mark r n y ∷ []) (k y) u z zs (h.2 y) o.1)
 
 -- a chain reaches a leaf by a word
-pub chain_last : (r : Regime) (p : Bool) (x : ℕ) (i : Item) (is : List Item) (l : Leaf2) → IsOn r (chain r p x) (i ∷ is) (done (reaches l)) → LastIs IsWord (marks r (chain r p x) (i ∷ is))
+pub chain_last : (r : Regime) (p : Bool) (x : ℕ) (i : Item) (is : List Item) (l : Leaf2) → IsOn r (chain r p x) (i ∷ is) (done (reaches l))
+    → LastIs IsWord (marks r (chain r p x) (i ∷ is))
 chain_last r p x i [] l h = absurd (behind_asks (asked2 r p x) i.value l (sym h.1))
-chain_last r p x i (y ∷ is) l h = words_last r (mark r (base2 x) i ∷ []) (walk2_behind (asked2 r p x) i.value) (done (reaches l)) y is (words_behind (asked2 r p x) i.value) h.1
+chain_last r p x i (y ∷ is) l h =
+    words_last r (mark r (base2 x) i ∷ []) (walk2_behind (asked2 r p x) i.value) (done (reaches l)) y is (words_behind (asked2 r p x) i.value) h.1
 
 pub chain_second : (r : Regime) (p : Bool) (x : ℕ) → IsSecond (chain r p x)
 chain_second r p x = (refl, λ i. words_second (walk2_behind (asked2 r p x) i.value) (words_behind (asked2 r p x) i.value))
@@ -238,7 +246,8 @@ module _ (q : Asked) where
   output_second : (b d : Bool) (l : Leaf1) → IsSecond (flat q.regime (output_plan q b d l))
   output_second true true l = tt
   output_second true false l =
-      after_second (chain q.regime false l.out) (λ e. joined (Err (judged2 q.judged q.access l e)) (λ i. flat q.regime (fin (reaches (landed l))))) (chain_second q.regime false l.out) (λ e. tt)
+      after_second (chain q.regime false l.out) (λ e. joined (Err (judged2 q.judged q.access l e)) (λ i. flat q.regime (fin (reaches (landed l)))))
+      (chain_second q.regime false l.out) (λ e. tt)
   output_second false d l = tt
 
   -- behind stage 1 all questions are of stage 2
@@ -258,19 +267,16 @@ off_marks c a items h =
 
 -- THE LAST ITEM OF A TRAIL THAT LEADS TO A TRANSLATION IS A WORD
 
-flat_fin : (r : Regime) (p : Plan) (e : End Landing) → flat r p ≡ done e → p ≡ fin e
-flat_fin r (fin d) e h = cc
-flat_fin r (own n k) e h = absurd cc
-flat_fin r (via p x next k) e h = absurd cc
-
 module _ (r : Regime) (l : Landing) where
   abbrev There : Ask Need Item (End Landing)
   There = done (reaches l)
 
-  last_word_on : (t u : Ask Need Item (End Landing)) (pre is : List Item) → IsOn r t pre u → IsOn r u is There → (u ≡ There → LastIs IsWord (marks r t pre)) → LastIs IsWord (marks r u is) → LastIs IsWord (marks r t (pre ++ is))
+  last_word_on : (t u : Ask Need Item (End Landing)) (pre is : List Item) → IsOn r t pre u → IsOn r u is There → (u ≡ There → LastIs IsWord (marks r t pre))
+      → LastIs IsWord (marks r u is) → LastIs IsWord (marks r t (pre ++ is))
   last_word_on t u pre [] on h here there = rw append-nil (here (sym h))
   last_word_on t (done b) pre (x ∷ is) on h here there = absurd h
-  last_word_on t (ask n k) pre (x ∷ is) on h here there = rw (marks_append r t (ask n k) pre (x ∷ is) on) (last_more IsWord (marks r t pre) (mark r n x) (marks r (k x) is) there)
+  last_word_on t (ask n k) pre (x ∷ is) on h here there =
+      rw (marks_append r t (ask n k) pre (x ∷ is) on) (last_more IsWord (marks r t pre) (mark r n x) (marks r (k x) is) there)
 
   chain_word_last : (p : Bool) (x : ℕ) (is : List Item) (m : Leaf2) → IsOn r (chain r p x) is (done (reaches m)) → LastIs IsWord (marks r (chain r p x) is)
   chain_word_last p x [] m h = absurd cc
@@ -279,21 +285,24 @@ module _ (r : Regime) (l : Landing) where
   abbrev EndsWord : Plan → Type 0
   EndsWord p = (xs : List Item) → IsOn r (flat r p) xs There → LastIs IsWord (marks r (flat r p) xs)
 
-  not_base : (n : Need) (k : Item → Plan) (i : Item) (b : Bool) → needs_base n ≡ b → (needs_base n ≡ true → (i : Item) (l : Landing) → k i ≡ fin (reaches l) → ⊥) → k i ≡ fin (reaches l) → b ≡ false
+  not_base : (n : Need) (k : Item → Plan) (i : Item) (b : Bool) → needs_base n ≡ b
+      → (needs_base n ≡ true → (i : Item) (l : Landing) → k i ≡ fin (reaches l) → ⊥) → k i ≡ fin (reaches l) → b ≡ false
   not_base n k i true e sound h = absurd (sound e i l h)
   not_base n k i false e sound h = refl
 
-  last_own : (n : Need) (k : Item → Plan) → (needs_base n ≡ true → (i : Item) (l : Landing) → k i ≡ fin (reaches l) → ⊥) → ((i : Item) → EndsWord (k i)) → EndsWord (own n k)
+  last_own : (n : Need) (k : Item → Plan) → (needs_base n ≡ true → (i : Item) (l : Landing) → k i ≡ fin (reaches l) → ⊥) → ((i : Item) → EndsWord (k i))
+      → EndsWord (own n k)
   last_own n k sound rec [] h = absurd cc
   last_own n k sound rec (y ∷ ys) h =
       last_word_on (flat r (own n k)) (flat r (k y)) (y ∷ []) ys (h.0, refl) h.1
-      (λ e. rw (marks_none r (flat r (k y))) (mark_base r n y ∙ not_base n k y (needs_base n) refl sound (flat_fin r (k y) (reaches l) e))) (rec y ys h.1)
+      (λ e. rw (marks_nil r (flat r (k y))) (mark_base r n y ∙ not_base n k y (needs_base n) refl sound (flat_fin r (k y) (reaches l) e))) (rec y ys h.1)
 
   last_fin : (e : End Landing) (xs : List Item) → IsOn r (done e) xs There → LastIs IsWord (marks r (done e) xs)
   last_fin e [] h = tt
   last_fin e (x ∷ xs) h = absurd h
 
-  last_rest : (g : Result Need (End Landing)) (k : Item → Plan) → ((n : Need) → g ≡ Ok n → needs_base n ≡ false) → ((i : Item) → EndsWord (k i)) → EndsWord (rest_by g k)
+  last_rest : (g : Result Need (End Landing)) (k : Item → Plan) → ((n : Need) → g ≡ Ok n → needs_base n ≡ false) → ((i : Item) → EndsWord (k i))
+      → EndsWord (rest_by g k)
   last_rest (Err e) k sound rec xs h = last_fin e xs h
   last_rest (Ok n) k sound rec xs h = last_own n k (λ b. absurd (both_ways (needs_base n) (sound n refl) b)) rec xs h
 
@@ -301,25 +310,30 @@ module _ (r : Regime) (l : Landing) where
   Next next k e = joined (next e) (λ i. flat r (k i))
 
   -- a chain that stopped doesn't lead to a translation
-  stopped_not : (next : End Leaf2 → Result Need (End Landing)) (k : Item → Plan) (f : Fault) (rest : List Item) → next (stops f) ≡ Err (stops f) → IsOn r (Next next k (stops f)) rest There → ⊥
+  stopped_not : (next : End Leaf2 → Result Need (End Landing)) (k : Item → Plan) (f : Fault) (rest : List Item) → next (stops f) ≡ Err (stops f)
+      → IsOn r (Next next k (stops f)) rest There → ⊥
   stopped_not next k f rest e h = stopped_on f rest (subst (λ v. IsOn r (joined v (λ i. flat r (k i))) rest There) e h)
     where
       stopped_on : (f : Fault) (rest : List Item) → IsOn {A = End Landing} r (done (stops f)) rest There → ⊥
       stopped_on f [] h = absurd cc
       stopped_on f (x ∷ rest) h = h
 
-  via_end : (p : Bool) (x : ℕ) (next : End Leaf2 → Result Need (End Landing)) (k : Item → Plan) (front rest : List Item) (d : End Leaf2) → ((f : Fault) → next (stops f) ≡ Err (stops f))
-      → ((e : End Leaf2) → EndsWord (rest_by (next e) k)) → IsOn r (chain r p x) front (done d) → IsOn r (Next next k d) rest There → LastIs IsWord (marks r (flat r (via p x next k)) (front ++ rest))
+  via_end : (p : Bool) (x : ℕ) (next : End Leaf2 → Result Need (End Landing)) (k : Item → Plan) (front rest : List Item) (d : End Leaf2)
+      → ((f : Fault) → next (stops f) ≡ Err (stops f))
+      → ((e : End Leaf2) → EndsWord (rest_by (next e) k)) → IsOn r (chain r p x) front (done d) → IsOn r (Next next k d) rest There
+      → LastIs IsWord (marks r (flat r (via p x next k)) (front ++ rest))
   via_end p x next k front rest (stops f) tight rec on more = absurd (stopped_not next k f rest (tight f) more)
   via_end p x next k front rest (reaches m) tight rec on more =
       let t : Ask Need Item (End Landing) = flat r (via p x next k) in
       let u : Ask Need Item (End Landing) = flat r (rest_by (next (reaches m)) k) in
       let stands : IsOn r t front u = via_on r p x next k front (reaches m) on in
       let more2 : IsOn r u rest There = subst (λ v. IsOn r v rest There) (joined_is r (next (reaches m)) k) more in
-      let word : LastIs IsWord (marks r t front) = subst (LastIs IsWord) (sym (via_marks r p x next k front (done (reaches m)) on)) (chain_word_last p x front m on) in
+      let word : LastIs IsWord (marks r t front) =
+      subst (LastIs IsWord) (sym (via_marks r p x next k front (done (reaches m)) on)) (chain_word_last p x front m on) in
       last_word_on t u front rest stands more2 (λ e. word) (rec (reaches m) rest more2)
 
-  last_via : (p : Bool) (x : ℕ) (next : End Leaf2 → Result Need (End Landing)) (k : Item → Plan) → ((f : Fault) → next (stops f) ≡ Err (stops f)) → ((e : End Leaf2) → EndsWord (rest_by (next e) k)) → EndsWord (via p x next k)
+  last_via : (p : Bool) (x : ℕ) (next : End Leaf2 → Result Need (End Landing)) (k : Item → Plan) → ((f : Fault) → next (stops f) ≡ Err (stops f))
+      → ((e : End Leaf2) → EndsWord (rest_by (next e) k)) → EndsWord (via p x next k)
   last_via p x next k tight rec xs h =
       let d = on_split r (chain r p x) (Next next k) xs (reaches l) h in
       subst (λ v. LastIs IsWord (marks r (flat r (via p x next k)) v)) (sym d.is) (via_end p x next k d.front d.rest d.end tight rec d.on_front d.more)
@@ -330,8 +344,10 @@ module _ (r : Regime) (l : Landing) where
   last_plan (via p x next k) s t xs h = last_via p x next k t.0 (λ e. last_rest (next e) k (λ n q. (s.2 e n q).1) (λ i. last_plan (k i) (s.3 i) (t.1 i))) xs h
 
 -- a trail that leads to a translation ends in a word
-pub last_mapped : (c : Config) (j : Bool) (a : Access) (trail : List Item) (l : Landing) → IsOn (regime_for c a) (walk c j a) trail (done (reaches l)) → LastIs IsWord (marks (regime_for c a) (walk c j a) trail)
+pub last_mapped : (c : Config) (j : Bool) (a : Access) (trail : List Item) (l : Landing) → IsOn (regime_for c a) (walk c j a) trail (done (reaches l))
+    → LastIs IsWord (marks (regime_for c a) (walk c j a) trail)
 last_mapped c j a trail l h =
     let e = plan_is_walk c j a in
     subst (λ t. LastIs IsWord (marks (regime_for c a) t trail)) e
-    (last_plan (regime_for c a) l (plan_for c j a) (sound_plan c j a) (tight_plan c j a) trail (subst (λ t. IsOn (regime_for c a) t trail (done (reaches l))) (sym e) h))
+    (last_plan (regime_for c a) l (plan_for c j a) (sound_plan c j a) (tight_plan c j a) trail
+    (subst (λ t. IsOn (regime_for c a) t trail (done (reaches l))) (sym e) h))

@@ -8,7 +8,7 @@ use Rattle.walk_spec.specs.Needs.{Regime, Need, base1, base2, word, fits}
 use Rattle.walk_spec.specs.Steps.{End}
 use Rattle.walk_spec.specs.BothStages.{Landing}
 use Rattle.machine_spec.specs.Marks.{Mark, mark, marks, is_first}
-use Rattle.machine_laws.proofs.Trees.{IsOn, is_need1, needs_base, chain, Plan, via, joined, flat, rest_by, IsSecond, IsWords, AllSecond}
+use Rattle.machine_laws.proofs.Trees.{IsOn, is_need1, needs_base, chain, Plan, via, joined, flat, rest_by, IsSecond, IsWords, AllSecond, fin, own}
 
 module _ {A : Type 0} (r : Regime) where
   pub on_append : (t u v : Ask Need Item A) (xs ys : List Item) → IsOn r t xs u → IsOn r u ys v → IsOn r t (xs ++ ys) v
@@ -58,7 +58,8 @@ pub record Split {A B : Type 0} (r : Regime) (t : Ask Need Item A) (f : A → As
   pub on_front : IsOn r t front (done end)
   pub more : IsOn r (f end) rest (done b)
 
-pub on_split : {A B : Type 0} (r : Regime) (t : Ask Need Item A) (f : A → Ask Need Item B) (xs : List Item) (b : B) → IsOn r (after t f) xs (done b) → Split r t f xs b
+pub on_split : {A B : Type 0} (r : Regime) (t : Ask Need Item A) (f : A → Ask Need Item B) (xs : List Item) (b : B) → IsOn r (after t f) xs (done b)
+    → Split r t f xs b
 on_split r (done a) f xs b h = record { end = a; front = []; rest = xs; is = refl; on_front = refl; more = h }
 on_split r (ask n k) f [] b h = absurd cc
 on_split r (ask n k) f (x ∷ xs) b h =
@@ -72,11 +73,20 @@ module _ (r : Regime) where
   joined_is (Err e) k = refl
   joined_is (Ok n) k = refl
 
-  pub via_on : (p : Bool) (x : ℕ) (next : End Leaf2 → Result Need (End Landing)) (k : Item → Plan) (xs : List Item) (e : End Leaf2) → IsOn r (chain r p x) xs (done e) → IsOn r (flat r (via p x next k)) xs (flat r (rest_by (next e) k))
-  via_on p x next k xs e h = subst (λ v. IsOn r (flat r (via p x next k)) xs v) (joined_is (next e) k) (on_after r (chain r p x) (done e) (λ e. joined (next e) (λ i. flat r (k i))) xs h)
+  pub via_on : (p : Bool) (x : ℕ) (next : End Leaf2 → Result Need (End Landing)) (k : Item → Plan) (xs : List Item) (e : End Leaf2)
+      → IsOn r (chain r p x) xs (done e) → IsOn r (flat r (via p x next k)) xs (flat r (rest_by (next e) k))
+  via_on p x next k xs e h =
+      subst (λ v. IsOn r (flat r (via p x next k)) xs v) (joined_is (next e) k)
+      (on_after r (chain r p x) (done e) (λ e. joined (next e) (λ i. flat r (k i))) xs h)
 
-  pub via_marks : (p : Bool) (x : ℕ) (next : End Leaf2 → Result Need (End Landing)) (k : Item → Plan) (xs : List Item) (u : Ask Need Item (End Leaf2)) → IsOn r (chain r p x) xs u → marks r (flat r (via p x next k)) xs ≡ marks r (chain r p x) xs
+  pub via_marks : (p : Bool) (x : ℕ) (next : End Leaf2 → Result Need (End Landing)) (k : Item → Plan) (xs : List Item) (u : Ask Need Item (End Leaf2))
+      → IsOn r (chain r p x) xs u → marks r (flat r (via p x next k)) xs ≡ marks r (chain r p x) xs
   via_marks p x next k xs u h = marks_after r (chain r p x) u (λ e. joined (next e) (λ i. flat r (k i))) xs h
+
+pub flat_fin : (r : Regime) (p : Plan) (e : End Landing) → flat r p ≡ done e → p ≡ fin e
+flat_fin r (fin a) e h = cc
+flat_fin r (own n k) e h = absurd cc
+flat_fin r (via p x next k) e h = absurd cc
 
 -- MARKS BY NEEDS
 

@@ -30,8 +30,8 @@ use Rattle.machine_spec.specs.Machine.{Core, World, no_core, visited_by, visited
 use Rattle.machine_laws.specs.Headline.{core_named, AreOfCores, RunsAreAllowed}
 use Rattle.machine_laws.proofs.Facts.{view_of, Facts, AllFacts}
 use Rattle.machine_laws.proofs.Fine.{place_of, RightBy, ServesWell, MakesWell}
-use Rattle.machine_laws.proofs.Lists.{from_end}
-use Rattle.machine_laws.proofs.Logs.{none_some, get-old, get-last}
+use Rattle.machine_laws.proofs.Lists.{from_end, none_some}
+use Rattle.machine_laws.proofs.Logs.{get-old, get-last}
 use Rattle.machine_laws.proofs.Events.{seat_at, place_is, keeps}
 
 -- AN ANSWER

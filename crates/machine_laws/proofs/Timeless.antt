@@ -61,7 +61,8 @@ timeless_after S t f h next = alike_after Equal S t t f f h (λ a b e. subst (λ
 -- a walk that goes on by place and value of its item
 by_value : {N A : Type 0} (R : A → A → Type 0) (f : ℕ → ℕ → Ask N Item A) → ((p v : ℕ) → Alike R (f p v) (f p v)) → (i j : Item) → IsAlike i j
     → Alike R (f i.pa i.value) (f j.pa j.value)
-by_value R f h i j e = subst (λ v. Alike R (f i.pa i.value) (f j.pa v)) e.value_is (subst (λ p. Alike R (f i.pa i.value) (f p i.value)) e.pa_is (h i.pa i.value))
+by_value R f h i j e =
+    subst (λ v. Alike R (f i.pa i.value) (f j.pa v)) e.value_is (subst (λ p. Alike R (f i.pa i.value) (f p i.value)) e.pa_is (h i.pa i.value))
 
 -- what finds the item of a question: items that are alike, or the same stop
 abbrev pub Found : {X : Type 0} → Result Item X → Result Item X → Type 0
@@ -110,7 +111,8 @@ timeless2_from q (suc left) table =
 
 timeless2_behind : (q : Asked2) (base : ℕ) → IsTimeless (walk2_behind q base)
 timeless2_behind q base =
-    alike_if Equal (is_too_large q.sizes base) (done (stops (fault2 q AddressSize most_left))) (walk2_from q q.sizes.start base) refl (timeless2_from q q.sizes.start base)
+    alike_if Equal (is_too_large q.sizes base) (done (stops (fault2 q AddressSize most_left))) (walk2_from q q.sizes.start base) refl
+    (timeless2_from q q.sizes.start base)
 
 pub timeless2 : (q : Asked2) → IsTimeless (walk2 q)
 timeless2 q =
@@ -135,12 +137,14 @@ found_read e place = (refl, λ i j h. h)
 found_by : (c : Config) (e : Entry1) (end : End Leaf2) → Alike Found (read1_by c e end) (read1_by c e end)
 found_by c e (stops f) = refl
 found_by c e (reaches l) =
-    alike_if Found (is_readable c l) (read1 e l.pa) (done (Err record { stage = S2; level = l.level; class = Permission; s1ptw = true })) (found_read e l.pa) refl
+    alike_if Found (is_readable c l) (read1 e l.pa) (done (Err record { stage = S2; level = l.level; class = Permission; s1ptw = true })) (found_read e l.pa)
+    refl
 
 found_word : (r : Regime) (e : Entry1) → Alike Found (word_of r e) (word_of r e)
 found_word r e =
     alike_if Found r.config.vm (after (walk2 (asked2 r true e.place)) (read1_by r.config e)) (read1 e e.place)
-    (timeless_after Found (walk2 (asked2 r true e.place)) (read1_by r.config e) (timeless2 (asked2 r true e.place)) (found_by r.config e)) (found_read e e.place)
+    (timeless_after Found (walk2 (asked2 r true e.place)) (read1_by r.config e) (timeless2 (asked2 r true e.place)) (found_by r.config e))
+    (found_read e e.place)
 
 timeless_from : (q : Asked) (left : ℕ) (t : Table1) → IsTimeless (stage1_from q left t)
 timeless_from q left t = alike_finer stops (word_of q.regime) (found_word q.regime) (walk1_from q left t) (walk1_from q left t) (timeless1_from q left t)

@@ -1,6 +1,6 @@
 -- An allowed answer whose trail memory and registers of now would give again is that of the fresh walk.
 use Rattle.std.proofs.Common.{◌≡◌, ℕ, Bool, true, false, cond, List, [], ◌∷◌, length, refl, sym, ap, ◌∙◌, subst, Option, Some}
-use Rattle.std.specs.Prelude.{ℤ, pos, negsuc, option_map}
+use Rattle.std.specs.Prelude.{ℤ, option_map}
 use Rattle.std.proofs.lemmas.Bool.{eqb-true}
 use Rattle.geometry.specs.Tables.{level_of}
 use Rattle.sysregs.specs.declared.regs.Regs.{Regs}
@@ -20,7 +20,7 @@ use Rattle.table_reads.specs.Numbers.{sizes1, sizes2}
 use Rattle.table_reads.specs.Items.{base_item}
 use Rattle.table_reads.specs.Memory.{Memory}
 use Rattle.walk_spec.specs.Ask.{Ask, done, ask, Stands, needs, bad, ends, on, Fed, ended, lacks, Took}
-use Rattle.walk_spec.specs.Needs.{Regime, regime_of, Need, base1, base2, word, fits, fits_base, level_eq, needed_item}
+use Rattle.walk_spec.specs.Needs.{Regime, regime_of, Need, base1, base2, word, fits, fits_base, needed_item}
 use Rattle.walk_spec.specs.Steps.{End}
 use Rattle.walk_spec.specs.BothStages.{Landing, walk}
 use Rattle.walk_spec.specs.Fresh.{start_base1, start_base2, given, fed_outcome, fresh_items, fresh_outcome}
@@ -33,17 +33,11 @@ use Rattle.machine_spec.specs.Kept.{regs_when}
 use Rattle.machine_spec.specs.Allowed.{is_conflict, IsEnded, IsLacking, IsRight, case_of}
 use Rattle.machine_spec.specs.Unchanged.{IsAsNow, AreAsNow, IsUnchanged, read_at}
 use Rattle.machine_laws.specs.Headline.{UnchangedIsFresh}
-use Rattle.machine_laws.proofs.MarksOf.{fits_base1_parts, fits_base2_parts, fits_word_parts}
+use Rattle.machine_laws.proofs.MarksOf.{fits_base1_parts, fits_base2_parts, fits_word_parts, level_is}
 use Rattle.machine_laws.proofs.Begins.{regs_now}
 use Rattle.machine_laws.proofs.Timeless.{IsAlike, Alike, Equal, walk_timeless}
 
 -- WHAT IS AS NOW IS GIVEN NOW
-
-level_is : (a b : ℤ) → level_eq a b ≡ true → a ≡ b
-level_is (pos m) (pos n) h = ap (λ z. pos z) (eqb-true m n h)
-level_is (pos m) (negsuc n) h = absurd cc
-level_is (negsuc m) (pos n) h = absurd cc
-level_is (negsuc m) (negsuc n) h = ap (λ z. negsuc z) (eqb-true m n h)
 
 -- what a base that fits has besides its stage
 base_parts : (n : Sizes) (s : Stage) (i : Item) → fits_base n s i ≡ true → (i.level ≡ level_of n.start) × (i.pa ≡ i.value)
@@ -133,10 +127,12 @@ module _ (regs : Regs) (s : Side) (m : Memory) (k : ℕ) where
 
 -- items that are as now are those of the fresh walk but for moments, and so is the outcome
 again : (regs : Regs) (m : Memory) (a : Access) (k : ℕ) (xs : List Item) (e : Fed Need (End Landing)) → stands (config_of regs) true a xs ≡ stands_fed e
-    → EndsAsGiven (given regs (side_of a.va) m k) e → IsUnchanged regs m a xs → (read_at k xs ≡ fresh_items m regs a k) × (fed_outcome e ≡ fresh_outcome m regs a k)
+    → EndsAsGiven (given regs (side_of a.va) m k) e → IsUnchanged regs m a xs
+    → (read_at k xs ≡ fresh_items m regs a k) × (fed_outcome e ≡ fresh_outcome m regs a k)
 again regs m a k xs e st lacking as_now =
     let t = walk (config_of regs) true a in
-    let d = fed_took (given regs (side_of a.va) m k) t (read_at k xs) e (took_again regs (side_of a.va) m k t t xs e (walk_timeless (config_of regs) true a) st as_now) lacking in
+    let d = fed_took (given regs (side_of a.va) m k) t (read_at k xs) e
+    (took_again regs (side_of a.va) m k t t xs e (walk_timeless (config_of regs) true a) st as_now) lacking in
     (d.0, ap fed_outcome d.1)
 
 -- AN ANSWER
@@ -164,7 +160,8 @@ module _ (h : Header) (log : List Step) (c : ℕ) (a : Access) (xs : List Item) 
   lacking_fresh : (o : Outcome) → IsLacking (case_of h log c a) xs second o → IsUnchanged regs_here memory_here a xs → AsFresh o
   lacking_fresh o r as_now =
       let n : Need = word r.need in
-      let d = again regs_here memory_here a (length log) xs (lacks n) (here_is (lacks n) r.walk_needs) (ap (option_map (needed_item (length log) r.need)) r.lacking) as_now in
+      let d = again regs_here memory_here a (length log) xs (lacks n) (here_is (lacks n) r.walk_needs)
+      (ap (option_map (needed_item (length log) r.need)) r.lacking) as_now in
       (d.0, r.is ∙ d.1)
 
   right_fresh : (o : Outcome) → IsRight (case_of h log c a) xs second o → is_conflict o ≡ false → IsUnchanged regs_here memory_here a xs → AsFresh o

@@ -5,7 +5,8 @@ use Rattle.machine_spec.specs.Uses.{next_first, next_second, use_of, above_of, A
 use Rattle.machine_laws.proofs.Trees.{AllSecond}
 use Rattle.machine_laws.proofs.Fine.{IsNow}
 
-pub used_map : (P Q : Mark → Option ℕ → Type 0) → ((m : Mark) (o : Option ℕ) → P m o → Q m o) → (above : Option ℕ) (ms : List Mark) → AllUsed P above ms → AllUsed Q above ms
+pub used_map : (P Q : Mark → Option ℕ → Type 0) → ((m : Mark) (o : Option ℕ) → P m o → Q m o) → (above : Option ℕ) (ms : List Mark) → AllUsed P above ms
+    → AllUsed Q above ms
 used_map P Q f above [] h = h
 used_map P Q f above (m ∷ ms) h = (f m (use_of above m ms) h.0, used_map P Q f (above_of above m) ms h.1)
 
@@ -52,7 +53,8 @@ first_here m ms f = cond_on (is_first m) (Some m.item.moment) (next_first ms) f
 
 -- AN ITEM OF STAGE 1 THAT FOLLOWS GIVES A USE
 
-first_some : (b : Bool) (v : ℕ) (xs ys : Option ℕ) → ((u : ℕ) × (xs ≡ Some u) × (ys ≡ Some u)) → (u : ℕ) × (cond b (Some v) xs ≡ Some u) × (cond b (Some v) ys ≡ Some u)
+first_some : (b : Bool) (v : ℕ) (xs ys : Option ℕ) → ((u : ℕ) × (xs ≡ Some u) × (ys ≡ Some u))
+    → (u : ℕ) × (cond b (Some v) xs ≡ Some u) × (cond b (Some v) ys ≡ Some u)
 first_some true v xs ys h = (v, refl, refl)
 first_some false v xs ys h = h
 
@@ -67,7 +69,8 @@ next_second_some above [] m ms = (m.item.moment, refl, refl)
 next_second_some above (x ∷ pre) m ms = (x.item.moment, refl, refl)
 
 use_case : (above : Option ℕ) (b : Bool) (pre : List Mark) (m : Mark) (ms : List Mark) → is_first m ≡ true →
-    (u : ℕ) × (cond b (next_first (pre ++ m ∷ ms)) (next_second above (pre ++ m ∷ ms)) ≡ Some u) × (cond b (next_first (pre ++ m ∷ [])) (next_second above (pre ++ m ∷ [])) ≡ Some u)
+    (u : ℕ) × (cond b (next_first (pre ++ m ∷ ms)) (next_second above (pre ++ m ∷ ms)) ≡ Some u)
+    × (cond b (next_first (pre ++ m ∷ [])) (next_second above (pre ++ m ∷ [])) ≡ Some u)
 use_case above true pre m ms f = next_first_some pre m ms f
 use_case above false pre m ms f = next_second_some above pre m ms
 
@@ -92,14 +95,16 @@ module _ (P : Mark → Option ℕ → Type 0) (now : ℕ) (opened : (m : Mark) (
   open_at m None h p = p
   open_at m (Some u) h p = opened m u h p
 
-  head : (above : Option ℕ) (m : Mark) (cs ms : List Mark) → is_first m ≡ false → IsNow now (next_second above ms) → P m (use_of None m cs) → P m (use_of above m (cs ++ ms))
+  head : (above : Option ℕ) (m : Mark) (cs ms : List Mark) → is_first m ≡ false → IsNow now (next_second above ms) → P m (use_of None m cs)
+      → P m (use_of above m (cs ++ ms))
   head above m [] ms s h p =
       let q : P m None = subst (P m) (use_second None m [] s) p in
       subst (P m) (sym (use_second above m ms s)) (open_at m (next_second above ms) h q)
   head above m (c ∷ cs) ms s h p = subst (P m) (use_second None m (c ∷ cs) s ∙ sym (use_second above m (c ∷ (cs ++ ms)) s)) p
 
   -- a chain of stage 2, and what follows it at this moment
-  pub chain_append : (above : Option ℕ) (cs ms : List Mark) → AllSecond cs → IsNow now (next_second above ms) → AllUsed P None cs → AllUsed P above ms → AllUsed P above (cs ++ ms)
+  pub chain_append : (above : Option ℕ) (cs ms : List Mark) → AllSecond cs → IsNow now (next_second above ms) → AllUsed P None cs → AllUsed P above ms
+      → AllUsed P above (cs ++ ms)
   chain_append above [] ms s h p q = q
   chain_append above (c ∷ cs) ms s h p q =
       let rest : AllUsed P None cs = subst (λ v. AllUsed P v cs) (above_second None c s.0) p.1 in

@@ -9,24 +9,14 @@ use Rattle.trails.specs.declared.step.Answer.{Answer}
 use Rattle.trails.specs.declared.step.Step.{Step}
 use Rattle.table_reads.specs.Memory.{Memory}
 use Rattle.trace_lang.specs.declared.header.Size.TheVariants.{NoRows}
+-- the core that does an event
+pub use Rattle.trace_lang.specs.Traces.{core_of as core_named}
 use Rattle.walk_spec.specs.Fresh.{fresh_items, fresh_outcome}
 use Rattle.machine_spec.specs.Header.{Header}
 use Rattle.machine_spec.specs.Moments.{memory_after, regs_after}
 use Rattle.machine_spec.specs.Allowed.{is_conflict, IsAnswer, case_of, AllAllowed}
 use Rattle.machine_spec.specs.Unchanged.{IsUnchanged, read_at}
 use Rattle.machine_spec.specs.Machine.{run_of}
-
--- the core that does an event
-abbrev pub core_named : (event : Event) → ℕ
-core_named (Store core pa value) = core
-core_named (Msr core reg value) = core
-core_named (Settle core) = core
-core_named (Isb core) = core
-core_named (Tlbi core from op shared operand) = core
-core_named (Dsb core kind) = core
-core_named (Deliver core) = core
-core_named (AccessOf core access) = core
-core_named (Prefetch core access) = core
 
 -- each event is of a core of the machine
 abbrev pub AreOfCores : (header : Header) (events : List Event) → Type 0

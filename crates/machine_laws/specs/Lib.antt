@@ -15,4 +15,8 @@ pub use Rattle.machine_spec.specs.Sets
 pub use Rattle.machine_spec.specs.Served
 pub use Rattle.machine_spec.specs.Machine
 pub mod Headline
+pub mod Promise
+pub mod NotAllowed
+pub mod NotAllowedRuns
 pub mod Rules
+pub mod Leaving

@@ -1,0 +1,206 @@
+-- What an allowed answer promises of each item of its trail, and of its outcome.
+use Rattle.std.proofs.Common.{◌≡◌, ℕ, Bool, true, false, cond, List, [], ◌∷◌, ◌++◌, take, refl, sym, ap, ◌∙◌, subst, Option, Some, None, inl, inr}
+use Rattle.std.specs.Prelude.{ℤ, All, ◌⊎◌}
+use Rattle.std.specs.List.{Contains}
+use Rattle.std.proofs.lemmas.List.Elements.{All-contains, All-nil, All-cons}
+use Rattle.std.proofs.lemmas.Option.{same_Some}
+use Rattle.sysregs.specs.declared.regs.Regs.{Regs}
+use Rattle.sysregs.specs.Registers.{config_of, asid_of, vmid_of}
+use Rattle.sysregs.specs.Sides.{side_of}
+use Rattle.fault_codes.specs.declared.fault.Stage.{Stage}
+use Rattle.trails.specs.declared.item.Item.{Item}
+use Rattle.trails.specs.declared.item.What.TheVariants.{Base, Word}
+use Rattle.trails.specs.declared.outcome.Access.{Access}
+use Rattle.trails.specs.declared.outcome.Outcome.{Outcome}
+use Rattle.trails.specs.declared.outcome.Outcome.TheVariants.{Mapped, Faulted, Absent, Conflict}
+use Rattle.trails.specs.declared.step.Answer.{Answer}
+use Rattle.trails.specs.declared.step.Step.{Step}
+use Rattle.walk_spec.specs.Ask.{Ask, done, ask, Stands, needs, bad, ends, on}
+use Rattle.walk_spec.specs.Needs.{Regime, Need, base1, base2, word, fits, regime_of}
+use Rattle.walk_spec.specs.Steps.{End}
+use Rattle.walk_spec.specs.BothStages.{Landing, walk, outcome_of}
+use Rattle.walk_laws.specs.Shift.{stands}
+use Rattle.machine_spec.specs.Header.{Header}
+use Rattle.machine_spec.specs.Moments.{memory_after, regs_after}
+use Rattle.machine_spec.specs.Marks.{Mark, mark, marks}
+use Rattle.machine_spec.specs.Uses.{AllUsed}
+use Rattle.machine_spec.specs.Kept.{View, now, regs_when, base_by, IsKeptNow}
+use Rattle.machine_spec.specs.Allowed.{is_conflict, Case, case_of, config_now, IsLacking, IsTwice, IsForked, IsConflict, IsRight, IsAnswer, Ends, Keeps, last_entry}
+use Rattle.machine_laws.specs.NotAllowed.{ItemsAreTrue, OutcomesAreTrue, ConflictsAreTrue, AnswersAreTrue, NothingFalseIsAllowed}
+use Rattle.machine_laws.proofs.Begins.{regs_now}
+use Rattle.machine_laws.proofs.MarksOf.{fits_base1_parts, fits_base2_parts, fits_word_parts}
+use Rattle.machine_laws.proofs.Lists.{none_some}
+
+-- ITEMS
+
+-- the list ends where the walk does, or before
+abbrev IsMet : {A : Type 0} → Stands Need Item A → Type 0
+IsMet (needs n) = Unit {0}
+IsMet bad = ⊥
+IsMet (ends a []) = Unit {0}
+IsMet (ends a (i ∷ items)) = ⊥
+
+-- a mark tells whether its item is a base, and of which stage
+pub record IsOf (m : Mark) (i : Item) : Type 0 where
+  pub item : m.item ≡ i
+  pub stage : m.stage ≡ i.stage
+  pub base : i.what ≡ Base → m.base ≡ true
+  pub word : i.what ≡ Word → m.base ≡ false
+
+mark_of : (r : Regime) (n : Need) (i : Item) → fits r n i ≡ true → IsOf (mark r n i) i
+unfolding mark
+mark_of r base1 i h =
+    let p = fits_base1_parts r i h in
+    record { item = refl; stage = sym p.1; base = λ e. refl; word = λ e. let w : Base ≡ Word = sym p.0 ∙ e in absurd cc }
+mark_of r (base2 x) i h =
+    let p = fits_base2_parts r x i h in
+    record { item = refl; stage = sym p.1; base = λ e. refl; word = λ e. let w : Base ≡ Word = sym p.0 ∙ e in absurd cc }
+mark_of r (word w) i h =
+    let p = fits_word_parts r w i h in
+    record { item = refl; stage = sym p.stage; base = λ e. let w : Base ≡ Word = sym e ∙ p.what in absurd cc; word = λ e. refl }
+
+fit_met : {A : Type 0} (fit : Bool) (s : Stands Need Item A) → IsMet (cond fit s bad) → (fit ≡ true) × IsMet s
+fit_met true s met = (refl, met)
+fit_met false s met = absurd met
+
+-- what is said of each mark is said of each item
+module _ {A : Type 0} (r : Regime) (P : Mark → Option ℕ → Type 0) (Q : Item → Type 0)
+    (told : (m : Mark) (u : Option ℕ) (i : Item) → IsOf m i → P m u → Q i) where
+  all_items : (t : Ask Need Item A) (above : Option ℕ) (xs : List Item) → IsMet (on (fits r) t xs) → AllUsed P above (marks r t xs) → All Q xs
+  all_items (done a) above [] met used = All-nil Q
+  all_items (done a) above (x ∷ xs) met used = absurd met
+  all_items (ask n k) above [] met used = All-nil Q
+  all_items (ask n k) above (x ∷ xs) met used =
+      let fit = fit_met (fits r n x) (on (fits r) (k x) xs) met in
+      All-cons Q x xs (told (mark r n x) _ x (mark_of r n x fit.0) used.0) (all_items (k x) _ xs fit.1 used.1)
+
+-- an item as it was read: memory or the register had it, under the register fields and the VMID of now
+pub record WasRead (v : View) (i : Item) : Type 0 where
+  pub fields : config_of (regs_when v i.moment) ≡ config_of (regs_when v (now v))
+  pub vmid : vmid_of (regs_when v i.moment) ≡ vmid_of (regs_when v (now v))
+  pub base : i.what ≡ Base → base_by (regs_when v i.moment) v.side i.stage ≡ i.value
+  pub word : i.what ≡ Word → memory_after v.header (take i.moment v.log) i.pa ≡ Some i.value
+
+was_read : (v : View) (m : Mark) (u : Option ℕ) (i : Item) → IsOf m i → IsKeptNow v m u → WasRead v i
+was_read v m u i of kept =
+    let held = kept.held in
+    let what : i.what ≡ m.item.what = ap (λ (j : Item). j.what) (sym of.item) in
+    let stage : m.item.stage ≡ m.stage = ap (λ (j : Item). j.stage) of.item ∙ sym of.stage in
+    subst (WasRead v) of.item record {
+      fields = held.config_was;
+      vmid = held.vmid_was;
+      base = λ e. ap (λ s. base_by (regs_when v m.item.moment) v.side s) stage ∙ held.base (of.base (what ∙ e));
+      word = λ e. held.word (of.word (what ∙ e));
+    }
+
+all_read : (q : Case) (xs : List Item) → IsMet (stands (config_now q) true q.access xs) → Keeps q true xs → All (WasRead q.view) xs
+all_read q xs met kept =
+    let c = config_now q in
+    let r = regime_of c (side_of q.access.va) in
+    all_items r (IsKeptNow q.view) (WasRead q.view) (was_read q.view) (walk c true q.access) None xs met kept.items
+
+met_by : {A : Type 0} (s t : Stands Need Item A) → s ≡ t → IsMet t → IsMet s
+met_by s t e h = subst IsMet (sym e) h
+
+right_read : (q : Case) (xs : List Item) (second : Option (List Item)) (o : Outcome) → IsRight q xs second o → is_conflict o ≡ false
+    → All (WasRead q.view) xs
+right_read q xs second (Mapped pa perms mem sh) r one = all_read q xs (met_by _ _ r.walk_ends tt) r.kept
+right_read q xs second (Faulted f) r one = all_read q xs (met_by _ _ r.walk_ends tt) r.kept
+right_read q xs second (Absent s level pa s1ptw) r one = all_read q xs (met_by _ _ r.walk_needs tt) r.kept
+right_read q xs second Conflict r one = absurd cc
+
+same_end : (d e : End Landing) → ◌≡◌ {A = Stands Need Item (End Landing)} (ends d []) (ends e []) → outcome_of d ≡ outcome_of e
+same_end d e h = let same : d ≡ e = cc in ap outcome_of same
+
+-- OUTCOMES
+
+module _ (q : Case) (xs : List Item) (second : Option (List Item)) where
+  -- an outcome where the walk ends is that of its end
+  end_is : (o : Outcome) (e : End Landing) → IsRight q xs second o → is_conflict o ≡ false → Ends q true xs e → o ≡ outcome_of e
+  end_is (Mapped pa perms mem sh) e r one at = r.is ∙ same_end r.end e (sym r.walk_ends ∙ at)
+  end_is (Faulted f) e r one at = r.is ∙ same_end r.end e (sym r.walk_ends ∙ at)
+  end_is (Absent s level pa s1ptw) e r one at =
+      let clash : ◌≡◌ {A = Stands Need Item (End Landing)} (needs (word r.need)) (ends e []) = sym r.walk_needs ∙ at in
+      absurd cc
+  end_is Conflict e r one at = absurd cc
+
+  alone_is : (o : Outcome) → IsRight q xs second o → is_conflict o ≡ false → second ≡ None
+  alone_is (Mapped pa perms mem sh) r one = r.alone
+  alone_is (Faulted f) r one = r.alone
+  alone_is (Absent s level pa s1ptw) r one = r.alone
+  alone_is Conflict r one = absurd cc
+
+-- CONFLICTS
+
+same_tail : {X : Type 0} (front one two : List X) → front ++ one ≡ front ++ two → one ≡ two
+same_tail [] one two e = e
+same_tail (x ∷ front) one two e = same_tail front one two cc
+
+not_equal : (q : Case) (xs : List Item) → IsTwice q xs xs ⊎ IsForked q xs xs → ⊥
+not_equal q xs (inl t) = t.differ refl refl
+not_equal q xs (inr f) = f.differ (ap last_entry (same_tail f.front f.one f.two (sym f.first_is ∙ f.second_is)))
+
+conflict_apart : (q : Case) (xs : List Item) (second : Option (List Item)) → IsConflict q xs second → second ≡ Some xs → ⊥
+conflict_apart q xs second r same =
+    let other : xs ≡ r.other = same_Some xs r.other (sym same ∙ r.both) in
+    not_equal q xs (subst (λ ys. IsTwice q xs ys ⊎ IsForked q xs ys) (sym other) r.how)
+
+place_of_absent : (s t : Stage) (k l : ℤ) (p q : ℕ) (v w : Bool) → Absent s k p v ≡ Absent t l q w → p ≡ q
+place_of_absent s t k l p q v w e = cc
+
+-- a place that an answer lacks is one that memory lacks
+lacks_at : (q : Case) (xs : List Item) (second : Option (List Item)) (s : Stage) (l : ℤ) (p : ℕ) (w : Bool) → IsLacking q xs second (Absent s l p w)
+    → memory_after q.view.header q.view.log p ≡ None
+lacks_at q xs second s l p w r =
+    let at : r.need.place ≡ p = place_of_absent _ _ _ _ _ _ _ _ (sym r.is) in
+    subst (λ n. memory_after q.view.header q.view.log n ≡ None) at r.lacking
+
+-- ALL LAWS
+
+module _ (h : Header) (log : List Step) (c : ℕ) (a : Access) (r : Answer) where
+  abbrev here : Case
+  here = case_of h log c a
+
+  now_is : {X : Type 0} (f : Regs → X) → f (regs_when here.view (now here.view)) ≡ f (regs_after c log)
+  now_is f = ap f (regs_now here.view)
+
+  right : {o : Outcome} → r.outcome ≡ o → IsAnswer here r → IsRight here r.first r.second o
+  right is ok = subst (IsRight here r.first r.second) is ok.right
+
+  items_true : is_conflict r.outcome ≡ false → (i : Item) → Contains r.first i → ItemsAreTrue h log c a r i
+  items_true one i at =
+      let read = λ (ok : IsAnswer here r). All-contains (WasRead here.view) r.first i (right_read here r.first r.second r.outcome ok.right one) at in
+      record {
+        word = λ is wrong ok. wrong ((read ok).word is);
+        base = λ is wrong ok. wrong ((read ok).base is);
+        fields = λ wrong ok. wrong ((read ok).fields ∙ now_is config_of);
+        vmid = λ wrong ok. wrong ((read ok).vmid ∙ now_is vmid_of);
+      }
+
+  outcomes_true : is_conflict r.outcome ≡ false → OutcomesAreTrue h log c a r
+  outcomes_true one = record {
+    of_walk = λ e at wrong ok. wrong (end_is here r.first r.second r.outcome e ok.right one at);
+    lacking = λ s l p w v is there ok. none_some v (sym (lacks_at here r.first r.second s l p w (right is ok)) ∙ there);
+    alone = λ wrong ok. wrong (alone_is here r.first r.second r.outcome ok.right one);
+  }
+
+  conflicts_true : r.outcome ≡ Conflict → ConflictsAreTrue h log c a r
+  conflicts_true is = record {
+    one = λ none ok. none_some _ (sym none ∙ (right is ok).both);
+    equal = λ same ok. conflict_apart here r.first r.second (right is ok) same;
+  }
+
+  answers_true : AnswersAreTrue h log c a r
+  answers_true = record {
+    items = items_true;
+    outcomes = outcomes_true;
+    conflicts = conflicts_true;
+    asid = λ wrong ok. wrong (ok.asid_is ∙ now_is asid_of);
+    vmid = λ wrong ok. wrong (ok.vmid_is ∙ now_is vmid_of);
+    exchanged = λ right wrong ok. wrong (right.old_is ∙ sym ok.old_is);
+    unanswered = λ ok. ok;
+    not_fetched = λ ok. ok;
+  }
+
+pub nothing_false_is_allowed : NothingFalseIsAllowed
+nothing_false_is_allowed = answers_true
