@@ -7,6 +7,3 @@ mod refusal;
 
 pub use phys::Phys;
 pub use refusal::PhysError;
-
-#[cfg(test)]
-mod tests;

@@ -10,6 +10,3 @@ mod sides;
 pub use equality::same_config;
 pub use regs::{Config, Field, Op, Reg, Regs, Side, Tg, Unsupported};
 pub use sides::side;
-
-#[cfg(test)]
-mod tests;

@@ -1,10 +1,11 @@
 ghost use Rattle.std.specs.Prelude.{◌==◌, Some, None, if◌then◌else◌};
 
-use crate::{
-    MOST_LEFT, Sizes, Supply, Walker, fault, is_too_large, keep_base, left_below, level, place,
-    read, start_base,
-};
 use fault_codes::{Class, Fault, Stage};
+use sysregs::Tg;
+use table_reads::{
+    MOST_LEFT, Sizes, Supply, Walker, fault, is_sized, is_too_large, keep_base, left_below, level,
+    place, read, start_base,
+};
 use trails::{Item, Stop, Trail, What};
 
 /// A memory of one word, which stands at 0x1098.
@@ -38,16 +39,25 @@ fn walker() -> Walker {
     }
 }
 
-fn item(level: i8, what: What, pa: u64, value: u64) -> Item {
+/// The base of a table, and a word of it.
+const READ: [Item; 2] = [
     Item {
-        pa,
-        value,
+        pa: 0x1080,
+        value: 0x1080,
         moment: 7,
         stage: Stage::S2,
-        level,
-        what,
-    }
-}
+        level: 3,
+        what: What::Base,
+    },
+    Item {
+        pa: 0x1098,
+        value: 0x5403,
+        moment: 7,
+        stage: Stage::S2,
+        level: 3,
+        what: What::Word,
+    },
+];
 
 #[test]
 fn a_base_and_its_words(rt: HostRuntime) {
@@ -58,45 +68,39 @@ fn a_base_and_its_words(rt: HostRuntime) {
         start: 0,
     };
     let base = start_base(&sizes, 0x10c0);
-    assert_eq!(rt; base, 0x1080);
+    assert!(rt; base == 0x1080);
     assert!(rt; is_too_large(&sizes, 0x1_0000_0000) && !is_too_large(&sizes, 0xffff_ffff));
     let mut trail = Trail::none();
     keep_base(&walker(), &sizes, base, &mut trail);
     let place = place::<12>(&sizes, 0, base, 0x3abc);
     let mut supply = OneWord { value: 0x5403 };
-    assert_eq!(rt;
-        read(&walker(), 3, place, &mut supply, &mut trail),
-        Ok(0x5403)
+    let found = read(&walker(), 3, place, &mut supply, &mut trail);
+    assert!(rt; matches!(found, Ok(0x5403)));
+    let lacking = read(&walker(), 1, 0x1090, &mut supply, &mut trail);
+    assert!(rt;
+        matches!(
+            lacking,
+            Err(Stop::Absent {
+                stage: Stage::S2,
+                level: 1,
+                pa: 0x1090,
+                s1ptw: true
+            })
+        )
     );
-    let lacking = Stop::Absent {
-        stage: Stage::S2,
-        level: 1,
-        pa: 0x1090,
-        s1ptw: true,
-    };
-    assert_eq!(rt;
-        read(&walker(), 1, 0x1090, &mut supply, &mut trail),
-        Err(lacking)
-    );
-    assert_eq!(rt;
-        trail.items(),
-        [
-            item(3, What::Base, 0x1080, 0x1080),
-            item(3, What::Word, 0x1098, 0x5403)
-        ]
-        .as_slice()
-    );
+    assert!(rt; trail.items() == READ.as_slice());
 }
 
 #[test]
 fn levels_and_faults(rt: HostRuntime) {
-    assert_eq!(rt; (level(0), level(MOST_LEFT)), (3, 0));
-    assert_eq!(rt; (left_below(3), left_below(0)), (0, MOST_LEFT));
+    assert!(rt; is_sized(Tg::K64, 12) && !is_sized(Tg::K4, 15));
+    assert!(rt; (level(0), level(MOST_LEFT)) == (3, 0));
+    assert!(rt; (left_below(3), left_below(0)) == (0, MOST_LEFT));
     let expected = Fault {
         stage: Stage::S2,
         level: 1,
         class: Class::AccessFlag,
         s1ptw: true,
     };
-    assert_eq!(rt; fault(&walker(), Class::AccessFlag, 2), expected);
+    assert!(rt; fault(&walker(), Class::AccessFlag, 2) == expected);
 }

@@ -1,6 +1,6 @@
-use crate::Share::{Ish, Nsh, Osh};
-use crate::types::{alone, combine, mair, mmu_off, s2_attr, share};
-use crate::{Cache, Device, MemType};
+use attributes::Share::{Ish, Nsh, Osh};
+use attributes::types::{alone, combine, mair, mmu_off, s2_attr, share};
+use attributes::{Cache, Device, MemType, laws};
 
 fn letter(given: bool, name: u8) -> u8 {
     if given { name } else { b'-' }
@@ -111,13 +111,13 @@ fn s2_row(code: u32) -> [u8; 9] {
 #[test]
 fn codes_of_memory_types(rt: HostRuntime) {
     for byte in 0..=255 {
-        assert_eq!(rt; text(mair(byte)), mair_text(byte), "byte {byte}");
+        assert!(rt; text(mair(byte)) == mair_text(byte));
     }
     for code in 0..16 {
-        assert_eq!(rt; text(s2_attr(code)), s2_row(code), "code {code}");
+        assert!(rt; text(s2_attr(code)) == s2_row(code));
     }
     for (code, want) in [(0, Nsh), (1, Nsh), (2, Osh), (3, Ish)] {
-        assert_eq!(rt; share(code), want, "code {code}");
+        assert!(rt; share(code) == want);
     }
 }
 
@@ -134,7 +134,7 @@ fn both_stages_combine(rt: HostRuntime) {
         (0x1b, Ish, 0b1111, Osh, *b"Tt-WT-RW-", Osh),
     ] {
         let (m, share) = combine(mair(byte), share1, s2_attr(code), share2);
-        assert_eq!(rt; (text(m), share), (want, wider), "{byte:#x}, {code:#x}");
+        assert!(rt; (text(m), share) == (want, wider));
     }
 }
 
@@ -146,7 +146,7 @@ fn one_stage_alone_and_stage_1_off(rt: HostRuntime) {
         (0x08, Ish, *b"nGRE     ", Osh),
     ] {
         let (m, share) = alone(mair(byte), share1);
-        assert_eq!(rt; (text(m), share), (want, raised), "{byte:#x}");
+        assert!(rt; (text(m), share) == (want, raised));
     }
     for (fetch, cached, want) in [
         (false, false, *b"nGnRnE   "),
@@ -155,10 +155,17 @@ fn one_stage_alone_and_stage_1_off(rt: HostRuntime) {
         (true, true, *b"T-R-T-R--"),
     ] {
         let (m, share) = mmu_off(fetch, cached);
-        assert_eq!(rt;
-            (text(m), share),
-            (want, Osh),
-            "fetch {fetch}, cached {cached}"
-        );
+        assert!(rt; (text(m), share) == (want, Osh));
     }
+}
+
+#[test]
+fn laws_ask_for_nothing(_rt: HostRuntime) {
+    laws::weaker_cacheability();
+    laws::stronger_device();
+    laws::hints_of_stage_1();
+    laws::tagged_write_back();
+    laws::uncached_is_outer_shareable();
+    laws::cached_is_wider();
+    laws::write_back_leaves_stage_1();
 }

@@ -1,6 +1,6 @@
 ghost use Rattle.geometry.specs.Tables.{IsGranule};
 
-use crate::{
+use geometry::{
     block_allowed, case_table, entry_class, goes_to, index, leaf_class, place, run_class,
     start_level1, start_level2, suits2,
 };
@@ -35,7 +35,7 @@ fn start_levels(rt: HostRuntime) {
             start_level1::<14>(txsz),
             start_level1::<16>(txsz),
         );
-        assert_eq!(rt; found, (four, sixteen, sixty_four), "TxSZ {txsz}");
+        assert!(rt; found == (four, sixteen, sixty_four));
     }
 }
 
@@ -52,7 +52,7 @@ fn start_levels_of_stage_2(rt: HostRuntime) {
             start_level2::<14>(sl0, 1),
             start_level2::<16>(sl0, 1),
         );
-        assert_eq!(rt; found, (four, sixteen, sixty_four), "SL0 {sl0}");
+        assert!(rt; found == (four, sixteen, sixty_four));
     }
     for (size, four, sixteen, sixty_four) in [
         (29, false, true, false),
@@ -70,7 +70,7 @@ fn start_levels_of_stage_2(rt: HostRuntime) {
             suits2::<14>(2, size),
             suits2::<16>(2, size),
         );
-        assert_eq!(rt; found, (four, sixteen, sixty_four), "{size} bits");
+        assert!(rt; found == (four, sixteen, sixty_four));
     }
 }
 
@@ -104,7 +104,7 @@ fn levels(rt: HostRuntime) {
         (3, (39, false, None), (47, false, None), (55, false, None)),
     ] {
         let found = (level::<12>(left), level::<14>(left), level::<16>(left));
-        assert_eq!(rt; found, (four, sixteen, sixty_four), "{left} levels left");
+        assert!(rt; found == (four, sixteen, sixty_four));
     }
 }
 
@@ -122,7 +122,7 @@ fn places_and_runs(rt: HostRuntime) {
         (goes_to(0x1_0000, 16, address), 0x1_5678),
         (goes_to(0x1_3000, 12, address), 0x1_3678),
     ] {
-        assert_eq!(rt; found, want);
+        assert!(rt; found == want);
     }
     for (found, want) in [
         (leaf_class::<12>(48, 0, 0x1_0000, true, 0x7000), 16),
@@ -134,6 +134,6 @@ fn places_and_runs(rt: HostRuntime) {
         (leaf_class::<12>(48, 3, 0, true, 0x7000), 39),
         (leaf_class::<16>(48, 0, 0x21_0000, true, 0x7008), 21),
     ] {
-        assert_eq!(rt; found, want);
+        assert!(rt; found == want);
     }
 }

@@ -1,7 +1,9 @@
 ghost use Rattle.std.specs.Prelude.{◌<◌};
 
-use crate::{Bits1, El, Kind, Perms, TableBits, allows1, allows2, both, perms1, perms2};
 use bitflags::Flags;
+use permissions::{
+    Bits1, El, Kind, Perms, TableBits, allows1, allows2, both, laws, perms1, perms2,
+};
 
 /// Whether bit `n` of a code is 1.
 fn bit(code: u32, n: u32) -> bool
@@ -94,11 +96,7 @@ fn all_bits_of_stage_1(rt: HostRuntime) {
         let any_uxn = code & 0b1_0001_0000 != 0;
         let any_pxn = code & 0b0_1000_1000 != 0;
         let want = without_fetches(stage1_row(effective_ap(code, dirty), wxn), any_uxn, any_pxn);
-        assert_eq!(rt;
-            row(perms1(leaf(code), tables(code), dirty, wxn)),
-            want,
-            "bits {code}"
-        );
+        assert!(rt; row(perms1(leaf(code), tables(code), dirty, wxn)) == want);
     }
 }
 
@@ -129,7 +127,7 @@ fn all_bits_of_stage_2(rt: HostRuntime) {
         };
         let xn = code >> 2 & 0b11;
         let perms = perms2(bit(code, 0), bit(code, 1), xn, dbm, dirty);
-        assert_eq!(rt; row(perms), stage2_row(s2ap, xn), "bits {code}");
+        assert!(rt; row(perms) == stage2_row(s2ap, xn));
     }
 }
 
@@ -156,12 +154,24 @@ fn accesses_of_both_stages(rt: HostRuntime) {
                 allows2(set(code), *el, *kind),
             );
             let want = (given && !(is_data_of_el1 && pan && user_data), given);
-            assert_eq!(rt; found, want, "set and flags {code}, access {place}");
+            assert!(rt; found == want);
         }
         let (one, two) = (code % 64, code / 7);
-        assert!(rt;
-            both(set(one), set(two)) == set(one & two),
-            "sets {one} and {two}"
-        );
+        assert!(rt; both(set(one), set(two)) == set(one & two));
     }
+}
+
+#[test]
+fn laws_ask_for_nothing(_rt: HostRuntime) {
+    laws::tables_only_take();
+    laws::fetch_bits_only_take();
+    laws::fetches_come_of_writes();
+    laws::no_fetch_of_writable();
+    laws::no_fetch_of_user_writable();
+    laws::el1_reads();
+    laws::fetch_needs_read();
+    laws::pan_spares_el0();
+    laws::pan_spares_fetches();
+    laws::epan_needs_pan();
+    laws::both_is_intersection();
 }

@@ -2,7 +2,7 @@ ghost use Rattle.std.specs.Prelude.{◌≡◌};
 ghost use Rattle.sysregs.specs.Registers.{granule_of};
 ghost use Rattle.sysregs.specs.Sides.{tg_of};
 
-use crate::{Kind1, Kind2, decode1, decode2};
+use descriptors::{Kind1, Kind2, decode1, decode2};
 use geometry::case_table;
 use sysregs::fields::config;
 use sysregs::{Config, Regs, Side, Tg};
@@ -92,11 +92,7 @@ fn shapes_and_addresses(rt: HostRuntime) {
             shape1(meaning1(left, w, &fields, Side::Low)),
             shape2(meaning2(left, w, &fields)),
         );
-        assert_eq!(rt;
-            found,
-            (want, want),
-            "TG0 {code}, {left} levels left, {w:#x}"
-        );
+        assert!(rt; found == (want, want));
     }
 }
 
@@ -156,11 +152,7 @@ fn leaves_of_stage_1(rt: HostRuntime) {
         (0x40_0000_0000_5003, [0, 0, 0, 1, 0, 0, 0, 0, 0, 1]),
         (0xff87_0000_0000_5023, [0, 0, 0, 1, 0, 0, 0, 0, 0, 0]),
     ] {
-        assert_eq!(rt;
-            leaf1(meaning1(0, w, &fields, Side::High)),
-            want,
-            "word {w:#x}"
-        );
+        assert!(rt; leaf1(meaning1(0, w, &fields, Side::High)) == want);
     }
 }
 
@@ -183,7 +175,7 @@ fn tables_of_stage_1(rt: HostRuntime) {
             table1(meaning1(1, w, &fields, Side::Low)),
             table1(meaning1(1, w, &fields, Side::High)),
         );
-        assert_eq!(rt; found, (low, high), "TCR_EL1 {tcr_el1:#x}, word {w:#x}");
+        assert!(rt; found == (low, high));
     }
 }
 
@@ -229,6 +221,6 @@ fn leaves_of_stage_2(rt: HostRuntime) {
         (0x10_0000_0000_5003, [0, 0, 0, 0, 0, 0, 0, 1]),
         (0xff87_0000_0000_5803, [0; 8]),
     ] {
-        assert_eq!(rt; leaf2(meaning2(0, w, &fields)), want, "word {w:#x}");
+        assert!(rt; leaf2(meaning2(0, w, &fields)) == want);
     }
 }

@@ -1,5 +1,5 @@
-use crate::fields::{asid, base1, base2, check_reg, config, output_size, vmid};
-use crate::{Config, Field, Reg, Regs, Side, Tg, Unsupported, same_config, side};
+use sysregs::fields::{asid, base1, base2, check_reg, config, output_size, vmid};
+use sysregs::{Config, Field, Reg, Regs, Side, Tg, Unsupported, same_config, side};
 
 /// The registers that are 0 but for one.
 fn only(reg: Reg, value: u64) -> Regs {
@@ -64,11 +64,7 @@ fn numbers_of_registers(rt: HostRuntime) {
         (Reg::VtcrEl2, 0x7_0000, [0, 0, 0, 0, 0, 0, 0, 0, 7]),
         (Reg::VtcrEl2, 0xffff_fffd_fff8_ff00, [0; 9]),
     ] {
-        assert_eq!(rt;
-            numbers(&config(&only(reg, value))),
-            want,
-            "{reg:?} {value:#x}"
-        );
+        assert!(rt; numbers(&config(&only(reg, value))) == want);
     }
     for (code, low, high) in [
         (0, Tg::K4, Tg::K4),
@@ -78,11 +74,7 @@ fn numbers_of_registers(rt: HostRuntime) {
     ] {
         let both = config(&only(Reg::TcrEl1, code << 14 | code << 30));
         let second = config(&only(Reg::VtcrEl2, code << 14));
-        assert_eq!(rt;
-            (both.tg(Side::Low), both.tg(Side::High), second.tg2),
-            (low, high, low),
-            "code {code}"
-        );
+        assert!(rt; (both.tg(Side::Low), both.tg(Side::High), second.tg2) == (low, high, low));
     }
 }
 
@@ -102,10 +94,7 @@ fn switches_of_registers(rt: HostRuntime) {
     ] {
         let fields = config(&only(reg, 1 << bit));
         for (other, on) in switches(&fields).iter().enumerate() {
-            assert!(rt;
-                *on == (other == place),
-                "{reg:?} bit {bit}, switch {other}"
-            );
+            assert!(rt; *on == (other == place));
         }
     }
     for (place, low, high) in [
@@ -118,13 +107,13 @@ fn switches_of_registers(rt: HostRuntime) {
         for (w, on, off) in [(low, Side::Low, Side::High), (high, Side::High, Side::Low)] {
             let fields = config(&only(Reg::TcrEl1, w));
             for (other, found) in of_side(&fields, on).iter().enumerate() {
-                assert!(rt; *found == (other == place), "{w:#x}, switch {other}");
+                assert!(rt; *found == (other == place));
             }
-            assert_eq!(rt; of_side(&fields, off), [false; 5], "{w:#x}");
+            assert!(rt; of_side(&fields, off) == [false; 5]);
         }
     }
     let fields = config(&only(Reg::TcrEl1, 0x1a_0019));
-    assert_eq!(rt; (fields.txsz(Side::Low), fields.txsz(Side::High)), (25, 26));
+    assert!(rt; (fields.txsz(Side::Low), fields.txsz(Side::High)) == (25, 26));
 }
 
 #[test]
@@ -141,7 +130,7 @@ fn identifiers_and_sizes(rt: HostRuntime) {
     ] {
         regs.set(Reg::TcrEl1, tcr);
         regs.set(Reg::VtcrEl2, vtcr);
-        assert_eq!(rt; (asid(&regs), vmid(&regs)), want, "TCR_EL1 {tcr:#x}");
+        assert!(rt; (asid(&regs), vmid(&regs)) == want);
     }
     for (code, four, sixty_four) in [
         (0, 32, 32),
@@ -158,14 +147,10 @@ fn identifiers_and_sizes(rt: HostRuntime) {
             output_size(Tg::K16, code),
             output_size(Tg::K64, code),
         );
-        assert_eq!(rt; found, (four, four, sixty_four), "code {code}");
+        assert!(rt; found == (four, four, sixty_four));
     }
-    for (va, want) in [
-        (0xff7f_ffff_ffff_ffff, Side::Low),
-        (0x80_0000_0000_0000, Side::High),
-    ] {
-        assert_eq!(rt; side(va), want);
-    }
+    assert!(rt; matches!(side(0xff7f_ffff_ffff_ffff), Side::Low));
+    assert!(rt; matches!(side(0x80_0000_0000_0000), Side::High));
 }
 
 #[test]
@@ -185,18 +170,14 @@ fn bases_of_start_tables(rt: HostRuntime) {
             vttbr_el2: w,
             ..Regs::zero()
         };
-        assert_eq!(rt;
-            (base1(&regs, Side::Low), base2(&regs)),
-            (want, want),
-            "{w:#x}"
-        );
-        assert_eq!(rt; base1(&regs, Side::High), 0);
+        assert!(rt; (base1(&regs, Side::Low), base2(&regs)) == (want, want));
+        assert!(rt; base1(&regs, Side::High) == 0);
         let high = Regs {
             tcr_el1: size << 32 | tg1,
             ttbr1_el1: w,
             ..Regs::zero()
         };
-        assert_eq!(rt; base1(&high, Side::High), want, "{w:#x}");
+        assert!(rt; base1(&high, Side::High) == want);
     }
 }
 
@@ -214,7 +195,7 @@ fn refused_fields_and_equality(rt: HostRuntime) {
     ] {
         let refused = Err(Unsupported { reg, field });
         let found = (check_reg(reg, 1 << bit), check_reg(reg, u64::MAX << bit));
-        assert_eq!(rt; found, (refused, refused), "bit {bit}");
+        assert!(rt; found == (refused, refused));
     }
     for (reg, value) in [
         (Reg::SctlrEl1, 0xffff_ffff_fdff_ffff),
@@ -226,7 +207,7 @@ fn refused_fields_and_equality(rt: HostRuntime) {
         (Reg::VtcrEl2, 0xffff_fffe_ffff_ffff),
         (Reg::VttbrEl2, u64::MAX),
     ] {
-        assert_eq!(rt; check_reg(reg, value), Ok(()), "{reg:?}");
+        assert!(rt; check_reg(reg, value) == Ok(()));
     }
     let fields = config(&Regs::zero());
     for (reg, value, same) in [
@@ -234,10 +215,7 @@ fn refused_fields_and_equality(rt: HostRuntime) {
         (Reg::MairEl1, 1, false),
         (Reg::VtcrEl2, 0x40_0000, false),
     ] {
-        assert!(rt;
-            same_config(&fields, &config(&only(reg, value))) == same,
-            "{reg:?}"
-        );
+        assert!(rt; same_config(&fields, &config(&only(reg, value))) == same);
     }
 }
 
@@ -248,7 +226,7 @@ fn names(rt: HostRuntime) {
         (Reg::Ttbr1El1, "TTBR1_EL1", "ttbr1_el1"),
         (Reg::VttbrEl2, "VTTBR_EL2", "vttbr_el2"),
     ] {
-        assert_eq!(rt; (reg.name(), reg.key()), (name, key));
+        assert!(rt; (reg.name(), reg.key()) == (name, key));
     }
-    assert_eq!(rt; (Field::Fwb.name(), Field::Hd.name()), ("FWB", "HD"));
+    assert!(rt; (Field::Fwb.name(), Field::Hd.name()) == ("FWB", "HD"));
 }

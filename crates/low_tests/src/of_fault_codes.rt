@@ -1,6 +1,6 @@
 ghost use Rattle.fault_codes.specs.Status.{HasLevel};
 
-use crate::{Class, Fault, Stage, fsc};
+use fault_codes::{Class, Fault, Stage, fsc};
 
 fn status(class: Class, level: i8) -> u8
     requires { HasLevel class level }
@@ -23,11 +23,7 @@ fn status_codes(rt: HostRuntime) {
         (Class::External, 0x14, 0x17),
         (Class::Conflict, 0x30, 0x30),
     ] {
-        assert_eq!(rt;
-            (status(class, 0), status(class, 3)),
-            (first, last),
-            "{class:?}"
-        );
+        assert!(rt; (status(class, 0), status(class, 3)) == (first, last));
     }
     for (found, want) in [
         (status(Class::AddressSize, -1), 0x29),
@@ -35,6 +31,6 @@ fn status_codes(rt: HostRuntime) {
         (status(Class::External, -1), 0x13),
         (status(Class::Conflict, -1), 0x30),
     ] {
-        assert_eq!(rt; found, want, "level -1");
+        assert!(rt; found == want);
     }
 }
