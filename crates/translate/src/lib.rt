@@ -16,6 +16,3 @@ pub use begin::Begin1;
 pub use replayed::Replay;
 pub use under::InForce;
 pub use whole::{translate, translate_at};
-
-#[cfg(test)]
-mod tests;

@@ -1,7 +1,7 @@
 use Rattle.std.proofs.Common.{◌≡◌, drop}
 use Rattle.std.specs.Prelude.{◌==◌}
 use Rattle.std.specs.List.{find}
-use Rattle.translate.proofs.tests.first.Given as goal
+use Rattle.walk_tests.proofs.of_stage2_walk.first.Given as goal
 
 -- no word so far stood at the place
 abbrev pub invariant-loop-place : goal.invariant-loop-place

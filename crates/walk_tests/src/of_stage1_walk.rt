@@ -2,17 +2,18 @@ ghost use Rattle.std.specs.Prelude.{◌≡◌, [], false};
 ghost use Rattle.permissions.specs.declared.bits.El.TheVariants.{El1};
 ghost use Rattle.stage1_walk.specs.Gave.{HasCode};
 
-use crate::{From1, Supply1, walk1};
 use attributes::{Cache, Device, MemType, Share};
+use bitflags::Flags;
 use fault_codes::{Class, Fault, Stage};
 use permissions::{El, Kind, Perms, TableBits};
+use stage1_walk::{From1, Supply1, walk1};
 use sysregs::fields::config;
 use sysregs::{Regs, Tg};
 use trails::{Access, Item, Stop, Trail, What};
 use walk_spec::Leaf1;
 
 /// A word of a level: the place that is asked for, the place where it lies, and its value.
-#[derive(Clone, Copy, Debug)]
+#[derive(Clone, Copy)]
 struct Entry {
     level: i8,
     ipa: u64,
@@ -28,18 +29,18 @@ enum Lack {
     Twice,
 }
 
+const REFUSED: Fault = Fault {
+    stage: Stage::S2,
+    level: 1,
+    class: Class::AddressSize,
+    s1ptw: true,
+};
+
 fn stop(lack: Lack) -> Stop
     ensures { HasCode result }
 {
     match lack {
-        Lack::Refused => Stop::Fault {
-            fault: Fault {
-                stage: Stage::S2,
-                level: 1,
-                class: Class::AddressSize,
-                s1ptw: true,
-            },
-        },
+        Lack::Refused => Stop::Fault { fault: REFUSED },
         Lack::Lacking => Stop::Absent {
             stage: Stage::S2,
             level: 0,
@@ -262,73 +263,83 @@ const LEVEL3: Entry = Entry {
 };
 
 /// Where a walk ends: at a page of level 3, at a block or run of level 2, in a fault, or where a word is not had. A leaf has
-/// its address, its class and its rights, and a fault its level.
+/// its address, its class and its rights, which are R0, W0, X0, R1, W1 and X1 from bit 0 up, and a fault its level.
 #[derive(Clone, Copy)]
 enum End {
-    Page(u64, u32, &'static [Perms]),
-    Block(u64, u32, &'static [Perms]),
+    Page(u64, u32, u8),
+    Block(u64, u32, u8),
     Fault(i8, Class),
     Lack,
 }
 
-fn all(rights: &[Perms]) -> Perms {
-    let mut all = Perms::R0 & Perms::W0;
-    for right in rights {
-        all = all | *right;
-    }
-    all
+const WRITE_BACK: Cache = Cache::Wb {
+    transient: false,
+    read: true,
+    write: true,
+};
+
+/// Blocks are write-back, Inner Shareable and not global.
+const CACHED: MemType = MemType::Normal {
+    outer: WRITE_BACK,
+    inner: WRITE_BACK,
+    tagged: false,
+};
+
+/// Pages are Device memory and global.
+const DEVICE: MemType = MemType::Device {
+    kind: Device::NGnRnE,
+};
+
+fn is_leaf(leaf: &Leaf1, out: u64, class: u32, level: i8, rights: u8) -> bool {
+    leaf.out == out
+        && leaf.class == class
+        && leaf.level == level
+        && leaf.perms == Perms::from_bits_retain(rights)
 }
 
-/// Device memory.
-fn page(out: u64, class: u32, perms: Perms) -> Leaf1 {
-    Leaf1 {
-        out,
-        class,
-        level: 3,
-        perms,
-        mem: MemType::Device {
-            kind: Device::NGnRnE,
-        },
-        sh: Share::Nsh,
-        global: true,
-    }
-}
-
-/// Write-back memory that is not global.
-fn block(out: u64, class: u32, perms: Perms) -> Leaf1 {
-    let cache = Cache::Wb {
-        transient: false,
-        read: true,
-        write: true,
-    };
-    Leaf1 {
-        out,
-        class,
-        level: 2,
-        perms,
-        mem: MemType::Normal {
-            outer: cache,
-            inner: cache,
-            tagged: false,
-        },
-        sh: Share::Ish,
-        global: false,
-    }
-}
-
-fn answer(end: End, lack: Lack) -> Result<Leaf1, Stop> {
-    match end {
-        End::Page(out, class, rights) => Ok(page(out, class, all(rights))),
-        End::Block(out, class, rights) => Ok(block(out, class, all(rights))),
-        End::Fault(level, class) => Err(Stop::Fault {
-            fault: Fault {
-                stage: Stage::S1,
-                level,
-                class,
-                s1ptw: false,
+/// Whether a stop says that a word is not had, for this reason.
+fn is_stop(found: Stop, lack: Lack) -> bool {
+    match (found, lack) {
+        (Stop::Fault { fault }, Lack::Refused) => fault == REFUSED,
+        (
+            Stop::Absent {
+                stage: Stage::S2,
+                level: 0,
+                pa: 0x7_7000,
+                s1ptw: true,
             },
-        }),
-        End::Lack => Err(stop(lack)),
+            Lack::Lacking,
+        ) => true,
+        (Stop::Conflict, Lack::Twice) => true,
+        _ => false,
+    }
+}
+
+fn is_end(found: Result<Leaf1, Stop>, end: End, lack: Lack) -> bool {
+    match (found, end) {
+        (Ok(leaf), End::Page(out, class, rights)) => {
+            is_leaf(&leaf, out, class, 3, rights)
+                && leaf.mem == DEVICE
+                && leaf.sh == Share::Nsh
+                && leaf.global
+        }
+        (Ok(leaf), End::Block(out, class, rights)) => {
+            is_leaf(&leaf, out, class, 2, rights)
+                && leaf.mem == CACHED
+                && leaf.sh == Share::Ish
+                && !leaf.global
+        }
+        (Err(Stop::Fault { fault }), End::Fault(level, class)) => {
+            fault
+                == Fault {
+                    stage: Stage::S1,
+                    level,
+                    class,
+                    s1ptw: false,
+                }
+        }
+        (Err(stop), End::Lack) => is_stop(stop, lack),
+        _ => false,
     }
 }
 
@@ -355,7 +366,7 @@ static WALKS: [Walk; 11] = [
         lack: Lack::Lacking,
         read: 2,
         asked: 2,
-        end: End::Page(0x5abc, 12, &[Perms::R0, Perms::X0, Perms::R1]),
+        end: End::Page(0x5abc, 12, 0b001_101),
     },
     Walk {
         tg: Tg::K4,
@@ -385,11 +396,7 @@ static WALKS: [Walk; 11] = [
         lack: Lack::Lacking,
         read: 2,
         asked: 2,
-        end: End::Page(
-            0x5abc,
-            12,
-            &[Perms::R0, Perms::W0, Perms::X0, Perms::R1, Perms::W1],
-        ),
+        end: End::Page(0x5abc, 12, 0b011_111),
     },
     // The high side: a block stands in its run by the place where its word lies.
     Walk {
@@ -400,7 +407,7 @@ static WALKS: [Walk; 11] = [
         lack: Lack::Lacking,
         read: 1,
         asked: 1,
-        end: End::Block(0x9678_9abc, 30, &[Perms::R1, Perms::W1, Perms::X1]),
+        end: End::Block(0x9678_9abc, 30, 0b111_000),
     },
     Walk {
         tg: Tg::K16,
@@ -413,11 +420,7 @@ static WALKS: [Walk; 11] = [
         lack: Lack::Lacking,
         read: 1,
         asked: 1,
-        end: End::Block(
-            0x9678_9abc,
-            25,
-            &[Perms::X0, Perms::R1, Perms::W1, Perms::X1],
-        ),
+        end: End::Block(0x9678_9abc, 25, 0b111_100),
     },
     // Three levels.
     Walk {
@@ -428,11 +431,7 @@ static WALKS: [Walk; 11] = [
         lack: Lack::Lacking,
         read: 3,
         asked: 3,
-        end: End::Page(
-            0x2_0000_0005_1234,
-            16,
-            &[Perms::X0, Perms::R1, Perms::W1, Perms::X1],
-        ),
+        end: End::Page(0x2_0000_0005_1234, 16, 0b111_100),
     },
     // A word that is not had ends the walk, and comes back as it was.
     Walk {
@@ -487,10 +486,9 @@ static WALKS: [Walk; 11] = [
 #[test]
 fn walks_from_a_table(rt: HostRuntime) {
     for walk in WALKS.as_slice() {
-        let words = walk.words;
         let mut trail = Trail::none();
         let mut supply = Words {
-            words,
+            words: walk.words,
             lack: walk.lack,
             asked: 0,
         };
@@ -499,16 +497,10 @@ fn walks_from_a_table(rt: HostRuntime) {
             Tg::K16 => walk_16k(walk.kind, walk.above, &mut supply, &mut trail),
             Tg::K64 => walk_64k(walk.kind, walk.above, &mut supply, &mut trail),
         };
-        assert_eq!(rt;
-            found,
-            answer(walk.end, walk.lack),
-            "{:?} of {words:?}",
-            walk.kind
-        );
-        let counts = (trail.items().len(), supply.asked);
-        assert_eq!(rt; counts, (walk.read, walk.asked), "{words:?}");
-        for (read, given) in trail.items().iter().zip(words) {
-            assert_eq!(rt; *read, item(given), "{words:?}");
+        assert!(rt; is_end(found, walk.end, walk.lack));
+        assert!(rt; trail.items().len() == walk.read && supply.asked == walk.asked);
+        for (read, given) in trail.items().iter().zip(walk.words) {
+            assert!(rt; *read == item(given));
         }
     }
 }
