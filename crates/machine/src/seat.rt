@@ -160,6 +160,3 @@ impl Seat {
         self.cpu.access(phys, now, access)
     }
 }
-
-#[cfg(test)]
-mod tests;

@@ -7,7 +7,7 @@ use bitwords::{field, flag, power};
 use sysregs::{Op, Regs};
 
 /// What an operation names by its operand.
-#[derive(Clone, Copy, Debug, PartialEq, Eq)]
+#[derive(Clone, Copy)]
 pub enum Names {
     /// No address.
     Everything,
@@ -22,7 +22,7 @@ pub enum Names {
 }
 
 /// So many bytes of address space from a start.
-#[derive(Clone, Copy, Debug, PartialEq, Eq)]
+#[derive(Clone, Copy)]
 pub struct Extent {
     pub start: u64,
     pub count: u64,

@@ -1,5 +1,5 @@
 use Rattle.std.proofs.Common.{◌≡◌}
-use Rattle.report_text.proofs.tests.report.Given as goal
+use Rattle.run_tests.proofs.of_report_text.report.Given as goal
 
 -- the report has as many steps as turns
 abbrev pub invariant-loop-step : goal.invariant-loop-step

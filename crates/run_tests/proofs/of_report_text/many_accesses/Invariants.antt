@@ -1,6 +1,6 @@
 use Rattle.std.proofs.Common.{◌≡◌, length}
 use Rattle.report_text.specs.Report.{ArePrintable}
-use Rattle.report_text.proofs.tests.many_accesses.Given as goal
+use Rattle.run_tests.proofs.of_report_text.many_accesses.Given as goal
 
 -- as many accesses as turns, and each can be printed
 abbrev pub invariant-loop-made : goal.invariant-loop-made

@@ -1,6 +1,6 @@
-use crate::{Inval, Tag, covers, decode};
 use fault_codes::Stage;
 use sysregs::{Op, Regs};
+use tlbi_ops::{Inval, Tag, covers, decode, laws};
 
 /// What an operation gives where all registers but `HCR_EL2` and `TCR_EL1` are 0.
 fn given(op: Op, at_el1: bool, operand: u64, hcr_el2: u64, tcr_el1: u64) -> Inval {
@@ -75,10 +75,7 @@ fn names_addresses(rt: HostRuntime) {
         (Op::Alle1, 7, 0, 0x100_0000_0000_0000, None),
     ] {
         let inval = given(op, true, operand, 0, 0);
-        assert_eq!(rt;
-            (inval.start, inval.count, inval.granule),
-            (start, count, granule)
-        );
+        assert!(rt; (inval.start, inval.count, inval.granule) == (start, count, granule));
         assert!(rt; inval.op == op && !inval.broadcast);
     }
 }
@@ -100,16 +97,16 @@ fn names_asids_and_cores(rt: HostRuntime) {
         (Op::Ripas2le1, true, 0x200, 0, 0, false),
     ] {
         let inval = given(op, at_el1, 0x701_0000_0004_0201, hcr_el2, tcr_el1);
-        assert_eq!(rt; (inval.asid, inval.broadcast), (asid, broadcast));
+        assert!(rt; (inval.asid, inval.broadcast) == (asid, broadcast));
     }
     let mut regs = Regs::zero();
     regs.vttbr_el2 = 0x1234_0000_0000_0000;
     let narrow = decode(Op::Alle1, true, false, 0, &regs, 3, 9);
     regs.vtcr_el2 = 1 << 19;
     let wide = decode(Op::Alle1, false, false, 0, &regs, 3, 9);
-    assert_eq!(rt; (narrow.vmid, narrow.broadcast), (0x34, true));
-    assert_eq!(rt; (wide.vmid, wide.broadcast), (0x1234, false));
-    assert_eq!(rt; (wide.issuer, wide.issued), (3, 9));
+    assert!(rt; (narrow.vmid, narrow.broadcast) == (0x34, true));
+    assert!(rt; (wide.vmid, wide.broadcast) == (0x1234, false));
+    assert!(rt; (wide.issuer, wide.issued) == (3, 9));
 }
 
 /// Of VMID 2 and ASID 1, two pages from 0x4000 on; as a range, of 4 KB granules.
@@ -223,7 +220,7 @@ fn takes_rows_of_stage_1(rt: HostRuntime) {
             b"xxxxxx--xxxxxx--",
         ),
     ] {
-        assert_eq!(rt; takers(&tag), *want);
+        assert!(rt; takers(&tag) == *want);
     }
 }
 
@@ -260,7 +257,7 @@ fn takes_rows_of_stage_2(rt: HostRuntime) {
             b"------xxxx----xx",
         ),
     ] {
-        assert_eq!(rt; takers(&tag), *want);
+        assert!(rt; takers(&tag) == *want);
     }
     let range = two_pages(Op::Rvaae1);
     assert!(rt;
@@ -282,4 +279,10 @@ fn takes_rows_of_stage_2(rt: HostRuntime) {
             }
         )
     );
+}
+
+#[test]
+fn laws_ask_for_nothing(_rt: HostRuntime) {
+    laws::operands_end();
+    laws::operations_widen();
 }

@@ -1,4 +1,4 @@
-use super::Machine;
+use machine::Machine;
 use std::test::Fail;
 use trace_lang::{Size, parse};
 use trails::Outcome;
@@ -90,23 +90,15 @@ fn runs_a_trace(rt: HostRuntime) -> Result<(), Fail> {
             machine.step();
         }
     }
-    assert_eq!(rt; machine.left(), 0);
+    assert!(rt; machine.left() == 0);
     let mut wanted = WANTED.iter();
     for (k, step) in machine.log().iter().enumerate() {
         if let Some(answer) = &step.answer {
             let want = wanted.next();
-            assert_eq!(rt;
-                want.map(|w| w.pa),
-                Some(place(&answer.outcome)),
-                "step {k}"
-            );
-            assert_eq!(rt;
-                want.map(|w| w.items),
-                Some(answer.first.items().len()),
-                "step {k}"
-            );
+            assert!(rt; want.map(|w| w.pa) == Some(place(&answer.outcome)));
+            assert!(rt; want.map(|w| w.items) == Some(answer.first.items().len()));
             for item in answer.first.items() {
-                assert_eq!(rt; item.moment as usize, k);
+                assert!(rt; item.moment as usize == k);
             }
         }
     }
