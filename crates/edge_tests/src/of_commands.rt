@@ -1,4 +1,4 @@
-use crate::{Command, ExplainArgs, RawArgs, RunArgs, read_command};
+use commands::{Command, ExplainArgs, RawArgs, RunArgs, read_command};
 use permissions::{El, Kind};
 use std::alloc::{AllocError, Global};
 use std::test::Fail;
@@ -63,10 +63,7 @@ fn commands(rt: HostRuntime) -> Result<(), Fail> {
         ("explain r d 7  read", None),
     ] {
         let words = words_of(rt.alloc(), text)?;
-        assert!(rt;
-            read_command(rt.alloc(), words.as_slice()) == Ok(expected),
-            "{text}"
-        );
+        assert!(rt; read_command(rt.alloc(), words.as_slice()) == Ok(expected));
     }
     Ok(())
 }

@@ -1,14 +1,15 @@
 ghost use Rattle.fault_codes.specs.Status.{HasLevel};
 
-use crate::{
-    FailingMemory, QuietMemory, WriteFailed, absent_line, access_line, explain, fault_line,
-    item_line, item_lines, outcome_line,
-};
 use attributes::{Cache, Device, MemType, Share};
 use bitflags::Flags;
+use explain_text::{
+    Adapter, FailingMemory, QuietMemory, Sink, WriteFailed, absent_line, access_line, explain,
+    fault_line, item_line, item_lines, outcome_line,
+};
 use fault_codes::{Class, Fault, Stage};
 use permissions::{El, Kind, Perms};
 use std::alloc::AllocError;
+use std::io;
 use sysregs::Regs;
 use trails::{Access, Item, Outcome, Trail, What};
 
@@ -207,7 +208,7 @@ fn prints_where_an_access_goes(rt: HostRuntime) {
         let perms = Perms::from_bits_retain(rights);
         let outcome = Outcome::Mapped { pa, perms, mem, sh };
         assert!(rt; outcome_line(&mut out, &outcome, false).is_ok());
-        assert!(rt; out.bytes.as_slice() == expected.as_bytes(), "{expected}");
+        assert!(rt; out.bytes.as_slice() == expected.as_bytes());
     }
 }
 
@@ -242,7 +243,7 @@ fn prints_accesses(rt: HostRuntime) {
     ] {
         let mut out = QuietMemory::new(rt.alloc());
         assert!(rt; access_line(&mut out, word, &access, asid, vmid).is_ok());
-        assert!(rt; out.bytes.as_slice() == expected.as_bytes(), "{expected}");
+        assert!(rt; out.bytes.as_slice() == expected.as_bytes());
     }
 }
 
@@ -252,7 +253,7 @@ const WALK: &str = "access 0x40201abc el1 read asid 0x12 vmid 0xab\n\
     s2 word level -1 at 0x4008 value 0x5403\n\
     absent stage 1 level 2 at 0x2008\n";
 
-fn put_walk<O: crate::Sink>(out: &mut O) -> Result<(), WriteFailed> {
+fn put_walk<O: Sink>(out: &mut O) -> Result<(), WriteFailed> {
     let regs = Regs {
         tcr_el1: 1 << 22,
         ttbr1_el1: 0x3412 << 48,
@@ -283,8 +284,53 @@ fn explains_a_walk(rt: HostRuntime) -> Result<(), AllocError> {
         fails.push((call, taken))?;
         let mut out = FailingMemory::new(alloc, fails);
         assert!(rt; put_walk(&mut out).is_err());
-        assert_eq!(rt; out.bytes.len(), left, "at the line {call}");
+        assert!(rt; out.bytes.len() == left);
         assert!(rt; WALK.as_bytes().starts_with(out.bytes.as_slice()));
     }
     Ok(())
+}
+
+/// What a writer got: how many bytes, and the last of them.
+#[derive(Drop)]
+struct Got {
+    count: u64,
+    last: u8,
+}
+
+/// A writer that takes so many bytes at once.
+#[derive(Drop)]
+struct Slow<'a> {
+    most: usize,
+    got: &'a mut Got,
+}
+
+impl<'a> io::Write for Slow<'a> {
+    fn write(&mut self, piece: &[u8]) -> io::Result<usize> {
+        let taken = piece.len().min(self.most);
+        if taken > 0 {
+            self.got.last = piece[taken - 1];
+        }
+        self.got.count = self.got.count.saturating_add(taken as u64);
+        Ok(taken)
+    }
+
+    fn flush(&mut self) -> io::Result<()> {
+        Ok(())
+    }
+}
+
+/// Whether such a writer takes a whole piece.
+fn is_put(most: usize, piece: &[u8], got: &mut Got) -> bool {
+    Adapter::new(Slow { most, got }).put(piece).is_ok()
+}
+
+#[test]
+fn writes_the_whole_piece_or_fails(rt: HostRuntime) {
+    let mut piece = [b'x'; 100];
+    piece[99] = b'!';
+    let mut got = Got { count: 0, last: 0 };
+    assert!(rt; is_put(7, &piece, &mut got));
+    assert!(rt; got.count == 100 && got.last == b'!');
+    assert!(rt; is_put(0, b"", &mut got) && !is_put(0, b"piece", &mut got));
+    assert!(rt; got.count == 100);
 }
