@@ -3,8 +3,6 @@
 
 mod kinds;
 pub mod laws;
-#[cfg(test)]
-mod tests;
 pub mod types;
 
 pub use kinds::{Cache, Device, MemType, Share};

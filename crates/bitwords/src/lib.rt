@@ -10,6 +10,3 @@ pub use fields::{align_down, field, flag, power};
 /// Memory was refused. No contract says when.
 #[derive(Clone, Copy, Debug, PartialEq, Eq)]
 pub struct NoMemory;
-
-#[cfg(test)]
-mod tests;

@@ -11,6 +11,3 @@ pub use command::{Command, read_command};
 pub use explain::ExplainArgs;
 pub use raw::RawArgs;
 pub use run::RunArgs;
-
-#[cfg(test)]
-mod tests;

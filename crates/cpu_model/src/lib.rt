@@ -5,6 +5,3 @@ mod cpu;
 mod words;
 
 pub use cpu::{Cpu, MOST_QUEUED};
-
-#[cfg(test)]
-mod tests;

@@ -1,7 +1,7 @@
 use permissions::{Bits1, TableBits};
 
 /// What a stage 1 word means. Addresses are in bytes; numbers are the fields' raw codes.
-#[derive(Clone, Copy, Debug, PartialEq, Eq)]
+#[derive(Clone, Copy)]
 pub enum Kind1 {
     Invalid,
     Table {
@@ -20,7 +20,7 @@ pub enum Kind1 {
 }
 
 /// What a stage 2 word means. Addresses are in bytes; numbers are the fields' raw codes.
-#[derive(Clone, Copy, Debug, PartialEq, Eq)]
+#[derive(Clone, Copy)]
 pub enum Kind2 {
     Invalid,
     Table {

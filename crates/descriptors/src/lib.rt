@@ -6,6 +6,3 @@ mod words;
 
 pub use kinds::{Kind1, Kind2};
 pub use words::{decode1, decode2};
-
-#[cfg(test)]
-mod tests;

@@ -11,6 +11,3 @@ pub use answer::{access_line, explain, put_access};
 pub use lines::{absent_line, fault_line, item_line, item_lines};
 pub use outcomes::outcome_line;
 pub use sink::{Adapter, FailingMemory, QuietMemory, Sink, WriteFailed};
-
-#[cfg(test)]
-mod tests;

@@ -7,7 +7,7 @@ use std::alloc::Global;
 use std::io;
 
 /// A piece was not taken whole.
-#[derive(Clone, Copy, Debug, PartialEq, Eq)]
+#[derive(Clone, Copy, Debug)]
 pub struct WriteFailed;
 
 /// Takes bytes in order.
@@ -156,57 +156,5 @@ impl Sink for FailingMemory {
         }
         self.faults = self.faults.saturating_add(1);
         Err(WriteFailed)
-    }
-}
-
-#[cfg(test)]
-mod tests {
-    use super::*;
-
-    /// A writer that takes so many bytes at once, and counts what it got and its last byte.
-    #[derive(Drop)]
-    struct Slow {
-        most: usize,
-        count: u64,
-        last: u8,
-    }
-
-    impl io::Write for Slow {
-        fn write(&mut self, piece: &[u8]) -> io::Result<usize> {
-            let taken = piece.len().min(self.most);
-            if taken > 0 {
-                self.last = piece[taken - 1];
-            }
-            self.count = self.count.saturating_add(taken as u64);
-            Ok(taken)
-        }
-
-        fn flush(&mut self) -> io::Result<()> {
-            Ok(())
-        }
-    }
-
-    fn adapter_of(most: usize) -> Adapter<Slow> {
-        Adapter::new(Slow {
-            most,
-            count: 0,
-            last: 0,
-        })
-    }
-
-    #[test]
-    fn writes_the_whole_piece_or_fails(rt: HostRuntime) {
-        let mut piece = [b'x'; 100];
-        piece[99] = b'!';
-        let mut sink = adapter_of(7);
-        assert!(rt; sink.put(&piece).is_ok());
-        assert_eq!(rt;
-            (sink.inner.count, sink.inner.last, sink.faults),
-            (100, b'!', 0)
-        );
-        let mut none = adapter_of(0);
-        assert!(rt; none.put(b"").is_ok());
-        assert_eq!(rt; none.put(b"piece"), Err(WriteFailed));
-        assert_eq!(rt; none.faults, 1);
     }
 }

@@ -4,6 +4,3 @@
 mod fault;
 
 pub use fault::{Class, Fault, Stage, fsc};
-
-#[cfg(test)]
-mod tests;

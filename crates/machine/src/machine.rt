@@ -163,6 +163,3 @@ impl Machine {
         }
     }
 }
-
-#[cfg(test)]
-mod tests;

@@ -160,6 +160,3 @@ impl Seat {
         self.cpu.access(phys, moment, access)
     }
 }
-
-#[cfg(test)]
-mod tests;

@@ -14,7 +14,7 @@ pub enum Kind {
 }
 
 /// The bits of a stage 1 leaf that bear on permissions: AP[1], AP[2], DBM, PXN and UXN.
-#[derive(Clone, Copy, Debug, PartialEq, Eq)]
+#[derive(Clone, Copy)]
 pub struct Bits1 {
     pub el0: bool,
     pub read_only: bool,
@@ -24,7 +24,7 @@ pub struct Bits1 {
 }
 
 /// The bits of stage 1 tables that bear on permissions: APTable, PXNTable and UXNTable.
-#[derive(Clone, Copy, Debug, PartialEq, Eq)]
+#[derive(Clone, Copy)]
 pub struct TableBits {
     pub no_el0: bool,
     pub read_only: bool,

@@ -6,8 +6,6 @@ pub mod laws;
 mod names;
 mod rights;
 mod set;
-#[cfg(test)]
-mod tests;
 
 pub use bits::{Bits1, El, Kind, TableBits};
 pub use rights::{allows1, allows2, both, perms1, perms2};

@@ -8,6 +8,3 @@ mod refusal;
 
 pub use phys::Phys;
 pub use refusal::PhysError;
-
-#[cfg(test)]
-mod tests;

@@ -9,6 +9,3 @@ mod refusals;
 pub use name::Name;
 pub use reading::{MOST_BYTES, read};
 pub use refusals::{RegError, RegRefusal};
-
-#[cfg(test)]
-mod tests;

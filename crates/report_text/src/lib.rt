@@ -7,6 +7,3 @@ mod page;
 mod writing;
 
 pub use writing::Report;
-
-#[cfg(test)]
-mod tests;

@@ -11,6 +11,3 @@ pub use kept::{entry1, fits_entry, step_kept};
 pub use sizes::sizes1;
 pub use supply::Supply1;
 pub use walk::{From1, walk1};
-
-#[cfg(test)]
-mod tests;

@@ -19,7 +19,7 @@ use trails::{Access, Stop, Trail};
 use walk_spec::{Entry1, Leaf1, Table1};
 
 /// A stage 1 table to walk from: its level, its base in bytes, and the joined bits of the tables above it.
-#[derive(Clone, Copy, Debug, PartialEq, Eq)]
+#[derive(Clone, Copy)]
 pub struct From1 {
     pub base: u64,
     pub level: i8,

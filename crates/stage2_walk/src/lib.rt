@@ -15,6 +15,3 @@ pub use replayed::Replay2;
 pub use sizes::sizes2;
 pub use stand::{Stood2, stand2};
 pub use walk::{From2, walk2};
-
-#[cfg(test)]
-mod tests;

@@ -30,7 +30,7 @@ use walk_spec::Leaf2;
 /// How a walk through stage 2 stands on the items of a list, from a place of the list on: at a leaf or a fault, with the
 /// place of the first item that is left over; before the word that it needs of a table; before its base; or at an item
 /// that doesn't fit.
-#[derive(Clone, Copy, Debug, PartialEq, Eq)]
+#[derive(Clone, Copy)]
 pub enum Stood2 {
     Found { leaf: Leaf2, at: usize },
     Refused { fault: Fault, at: usize },

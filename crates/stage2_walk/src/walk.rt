@@ -18,7 +18,7 @@ use trails::{Stop, Trail};
 use walk_spec::Leaf2;
 
 /// A stage 2 table to walk from: its level, and its base in bytes.
-#[derive(Clone, Copy, Debug, PartialEq, Eq)]
+#[derive(Clone, Copy)]
 pub struct From2 {
     pub base: u64,
     pub level: i8,

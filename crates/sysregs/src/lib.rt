@@ -12,6 +12,3 @@ pub use equality::same_config;
 pub use ops::{OpForm, Scope};
 pub use regs::{Config, Field, Op, Reg, Regs, Side, Tg, Unsupported};
 pub use sides::side;
-
-#[cfg(test)]
-mod tests;

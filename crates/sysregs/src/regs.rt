@@ -84,14 +84,14 @@ pub enum Op {
 
 /// The half of the virtual addresses that VA bit 55 names: the low one is translated by `TTBR0_EL1`, the high one by
 /// `TTBR1_EL1`.
-#[derive(Clone, Copy, Debug, PartialEq, Eq)]
+#[derive(Clone, Copy)]
 pub enum Side {
     Low,
     High,
 }
 
 /// A translation granule of 4, 16 or 64 KB.
-#[derive(Clone, Copy, Debug, PartialEq, Eq)]
+#[derive(Clone, Copy, PartialEq, Eq)]
 pub enum Tg {
     K4,
     K16,
@@ -113,7 +113,7 @@ impl Tg {
 
 /// The register fields that steer a walk. A trailing 0 or 1 names the half of the addresses that a field of `TCR_EL1`
 /// serves, but `ha1` and `hd1` serve both; a trailing 2 marks a field of `VTCR_EL2`. Each number is the field's raw code.
-#[derive(Clone, Copy, Debug, PartialEq, Eq)]
+#[derive(Clone, Copy)]
 pub struct Config {
     pub mair: u64,
     pub t0sz: u32,

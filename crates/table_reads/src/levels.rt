@@ -6,7 +6,7 @@ ghost use Rattle.table_reads.specs.Items.{fault_at};
 use fault_codes::{Class, Fault, Stage};
 
 /// Whose tables are walked and when: the stage, the mark s1ptw of its faults, and the moment of its items.
-#[derive(Clone, Copy, Debug, PartialEq, Eq)]
+#[derive(Clone, Copy)]
 pub struct Walker {
     pub moment: u32,
     pub stage: Stage,

@@ -14,6 +14,3 @@ pub use reads::{place, read};
 pub use sizes::{Sizes, is_sized};
 pub use step::Step;
 pub use supply::Supply;
-
-#[cfg(test)]
-mod tests;

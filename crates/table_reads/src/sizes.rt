@@ -7,7 +7,7 @@ use sysregs::Tg;
 
 /// The numbers of a stage: the granule has `2 ^ granule` bytes, `input` and `output` are sizes in bits, and `start` is
 /// how many levels are left below the start level.
-#[derive(Clone, Copy, Debug, PartialEq, Eq)]
+#[derive(Clone, Copy)]
 pub struct Sizes {
     pub granule: u32,
     pub input: u32,

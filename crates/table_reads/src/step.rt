@@ -1,7 +1,7 @@
 use fault_codes::Fault;
 
 /// Where a word leads: to a table, to a leaf, or to a fault.
-#[derive(Clone, Copy, Debug, PartialEq, Eq)]
+#[derive(Clone, Copy)]
 pub enum Step<L, T> {
     Down { table: T },
     Reached { leaf: L },

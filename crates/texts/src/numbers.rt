@@ -62,33 +62,3 @@ pub fn number(word: &[u8]) -> Option<u64>
         _ => number_of_digits(word, 10, 20),
     }
 }
-
-#[cfg(test)]
-mod tests {
-    use super::*;
-
-    #[test]
-    fn reads_numbers(rt: HostRuntime) {
-        for (word, expected) in [
-            ("0", Some(0)),
-            ("0x0", Some(0)),
-            ("0xfFfFfFfFfFfFfFfF", Some(u64::MAX)),
-            ("18446744073709551615", Some(u64::MAX)),
-            ("00000000000000000012", Some(12)),
-            ("18446744073709551616", None),
-            ("99999999999999999999", None),
-            ("000000000000000000012", None),
-            ("0x00000000000000001", None),
-            ("", None),
-            ("0x", None),
-            ("0X1", None),
-            ("0xg", None),
-            ("1f", None),
-            ("+1", None),
-            ("-1", None),
-            (" 1", None),
-        ] {
-            assert_eq!(rt; number(word.as_bytes()), expected, "{word}");
-        }
-    }
-}

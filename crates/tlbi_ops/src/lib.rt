@@ -10,6 +10,3 @@ mod operands;
 pub use covering::covers;
 pub use decoding::decode;
 pub use inval::{Inval, Tag};
-
-#[cfg(test)]
-mod tests;

@@ -7,7 +7,7 @@ use bitwords::{field, flag, power};
 use sysregs::{OpForm, Regs, Scope};
 
 /// So many bytes of address space from a start.
-#[derive(Clone, Copy, Debug, PartialEq, Eq)]
+#[derive(Clone, Copy)]
 pub struct Extent {
     pub start: u64,
     pub count: u64,

@@ -18,6 +18,3 @@ pub use parsing::{MOST_BYTES, parse};
 pub use printing::{parse_of_print, print};
 pub use refusals::{LineRefusal, Phase, TraceError, TraceRefusal};
 pub use trace::Trace;
-
-#[cfg(test)]
-mod tests;

@@ -11,7 +11,7 @@ use sysregs::{Op, Reg};
 use trails::{Barrier, Origin};
 
 /// The words that begin an event.
-#[derive(Clone, Copy, Debug, PartialEq, Eq)]
+#[derive(Clone, Copy)]
 pub enum Verb {
     Store,
     Msr,

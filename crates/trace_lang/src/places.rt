@@ -6,7 +6,7 @@ use crate::LineRefusal;
 use texts::number;
 
 /// Why a line isn't read.
-#[derive(Clone, Copy, Debug, PartialEq, Eq)]
+#[derive(Clone, Copy)]
 pub enum LineError {
     /// Memory was refused.
     NoMemory,

@@ -1,7 +1,7 @@
 use sysregs::Unsupported;
 
 /// Why a line is refused. Places of words count from 1.
-#[derive(Clone, Copy, Debug, PartialEq, Eq)]
+#[derive(Clone, Copy, Debug)]
 pub enum LineRefusal {
     NotText,
     LongLine,
@@ -33,14 +33,14 @@ pub enum TraceRefusal {
 }
 
 /// Why there is no trace: the text is refused, or memory is.
-#[derive(Clone, Copy, Debug, PartialEq, Eq)]
+#[derive(Clone, Copy, Debug)]
 pub enum TraceError {
     Refused { why: TraceRefusal },
     NoMemory,
 }
 
 /// Which line is due: `cores`, a `memory` line or `caches`, `policy`, an event or `end`, or none.
-#[derive(Clone, Copy, Debug, PartialEq, Eq)]
+#[derive(Clone, Copy)]
 pub enum Phase {
     Cores,
     Ranges,

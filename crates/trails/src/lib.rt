@@ -12,6 +12,3 @@ pub use item::{Item, What};
 pub use outcome::{Access, Outcome, Stop};
 pub use step::{Answer, Step};
 pub use trail::{MOST_ITEMS, Trail};
-
-#[cfg(test)]
-mod tests;

@@ -33,7 +33,7 @@ pub enum Outcome {
 }
 
 /// Why a walk stopped before a leaf.
-#[derive(Clone, Copy, Debug, PartialEq, Eq)]
+#[derive(Clone, Copy)]
 pub enum Stop {
     Fault {
         fault: Fault,

@@ -18,6 +18,3 @@ pub use replayed::Replay;
 pub use tables::{walk1_from, walk2_from};
 pub use under::InForce;
 pub use whole::{output, translate, translate_at};
-
-#[cfg(test)]
-mod tests;

@@ -24,7 +24,7 @@ use walk_spec::{Entry1, Leaf1, Table1};
 
 /// How the word of an entry stands on the items of a list, from a place of the list on: it is there, or a fault is, with
 /// the place of the first item that is left over; an item is needed; or one doesn't fit.
-#[derive(Clone, Copy, Debug, PartialEq, Eq)]
+#[derive(Clone, Copy)]
 pub(crate) enum StoodWord {
     Had { item: Item, at: usize },
     Refused { fault: Fault, at: usize },
@@ -34,7 +34,7 @@ pub(crate) enum StoodWord {
 
 /// How stage 1 stands: at a leaf or a fault; before the words of a table, of which no item was taken; within the items of
 /// a word; or at an item that doesn't fit.
-#[derive(Clone, Copy, Debug, PartialEq, Eq)]
+#[derive(Clone, Copy)]
 pub(crate) enum Stood1 {
     Found { leaf: Leaf1, at: usize },
     Refused { fault: Fault, at: usize },

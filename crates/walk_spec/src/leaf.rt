@@ -3,7 +3,7 @@ use permissions::{Bits1, Perms};
 
 /// Where stage 1 ended. It covers `2 ^ class` bytes: a run, where the Contiguous bit counts, or an entry. `out` is where
 /// the address goes, in bytes.
-#[derive(Clone, Copy, Debug, PartialEq, Eq)]
+#[derive(Clone, Copy)]
 pub struct Leaf1 {
     pub out: u64,
     pub class: u32,
@@ -16,7 +16,7 @@ pub struct Leaf1 {
 
 /// Where stage 2 ended. It covers `2 ^ class` bytes: a run, where the Contiguous bit counts, or an entry. `pa` is where
 /// the IPA goes, in bytes.
-#[derive(Clone, Copy, Debug, PartialEq, Eq)]
+#[derive(Clone, Copy)]
 pub struct Leaf2 {
     pub pa: u64,
     pub class: u32,
@@ -27,7 +27,7 @@ pub struct Leaf2 {
 }
 
 /// The fields of a stage 1 block or page that tell what it gives. `out` is its address in bytes; numbers are raw codes.
-#[derive(Clone, Copy, Debug, PartialEq, Eq)]
+#[derive(Clone, Copy)]
 pub struct Fields1 {
     pub out: u64,
     pub attr_index: u32,
@@ -38,7 +38,7 @@ pub struct Fields1 {
 }
 
 /// The fields of a stage 2 block or page that tell what it gives. `out` is its address in bytes; numbers are raw codes.
-#[derive(Clone, Copy, Debug, PartialEq, Eq)]
+#[derive(Clone, Copy)]
 pub struct Fields2 {
     pub out: u64,
     pub mem_attr: u32,

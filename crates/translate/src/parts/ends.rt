@@ -52,7 +52,7 @@ pub fn descriptor_read(config: &Config, leaf: &Leaf2) -> Result<(), Fault>
 }
 
 /// What stage 1 gives besides its output.
-#[derive(Clone, Copy, Debug, PartialEq, Eq)]
+#[derive(Clone, Copy)]
 pub(crate) struct Gives {
     pub perms: Perms,
     pub mem: MemType,

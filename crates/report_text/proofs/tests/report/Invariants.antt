@@ -1,6 +1,0 @@
-use Rattle.std.proofs.Common.{◌≡◌}
-use Rattle.report_text.proofs.tests.report.Given as goal
-
--- the report has as many steps as turns
-abbrev pub invariant-loop-step : goal.invariant-loop-step
-invariant-loop-step g l = l.report.steps ≡ l.step-index
