@@ -39,7 +39,8 @@ module _ (c : CoreState) (m : Memory) (k : ℕ) (a : Access) (none : c.size ≡ 
   fresh : visited (seat_at h c m k) a ≡ record { answer = fresh_answer (seat_at h c m k).place a; cache = c.cache }
   fresh = visited_fresh (seat_at h c m k) a (suits.0 ∙ none) (ap (λ (l : Cache). l.rows) empty)
 
-  pub answered : (o : Outcome) (items : List Item) → IsFresh c.bank.regs a k (Some m) (Rose 0 0) items o → plain c.bank.regs o items ≡ (visited (seat_at h c m k) a).answer
+  pub answered : (o : Outcome) (items : List Item) → IsFresh c.bank.regs a k (Some m) (Rose 0 0) items o
+      → plain c.bank.regs o items ≡ (visited (seat_at h c m k) a).answer
   answered o items is =
       let e = is m refl not_risen in
       rw (e.0, e.1) (sym (ap (λ (v : Visited). v.answer) fresh))

@@ -58,7 +58,8 @@ asks_finer : {N M I X A : Type 0} (Q : N → Type 0) (P : M → Type 0) (stop : 
     → Asks Q t → ((n : N) → Q n → Asks P (how n)) → Asks P (finer stop how t)
 asks_finer Q P stop how (done a) h g = tt
 asks_finer Q P stop how (ask n k) h g =
-    asks_after P (how n) (go_on stop (λ i. finer stop how (k i))) (g n h.0) (λ r. asks_go P stop (λ i. finer stop how (k i)) r (λ i. asks_finer Q P stop how (k i) (h.1 i) g))
+    asks_after P (how n) (go_on stop (λ i. finer stop how (k i))) (g n h.0)
+        (λ r. asks_go P stop (λ i. finer stop how (k i)) r (λ i. asks_finer Q P stop how (k i) (h.1 i) g))
 
 asks_step : {N L T : Type 0} (P : N → Type 0) (s : Step L T) (below : T → Ask N Item (End L)) → ((t : T) → Asks P (below t)) → Asks P (step_then below s)
 asks_step P (Down t) below h = h t
@@ -81,11 +82,13 @@ module _ (r : Regime) (start : r.stage2.start ≤ most_left) where
     asks_from2 (suc left) t h =
         (h, λ i. asks_step IsLow (step2 (asked2 r p x) (suc left) i.pa i.value) (walk2_from (asked2 r p x) left) (λ t. asks_from2 left t (omega (arith, h))))
 
-    asks_behind2 : (big : Bool) (base : ℕ) → Asks IsLow (cond big (done (stops (fault2 (asked2 r p x) AddressSize most_left))) (walk2_from (asked2 r p x) r.stage2.start base))
+    asks_behind2 : (big : Bool) (base : ℕ)
+        → Asks IsLow (cond big (done (stops (fault2 (asked2 r p x) AddressSize most_left))) (walk2_from (asked2 r p x) r.stage2.start base))
     asks_behind2 true base = tt
     asks_behind2 false base = asks_from2 r.stage2.start base start
 
-    asks_by2 : (refused : Bool) → Asks IsLow (cond refused (done (stops (fault2 (asked2 r p x) Translation most_left))) (ask (base2 x) (λ i. walk2_behind (asked2 r p x) i.value)))
+    asks_by2 : (refused : Bool)
+        → Asks IsLow (cond refused (done (stops (fault2 (asked2 r p x) Translation most_left))) (ask (base2 x) (λ i. walk2_behind (asked2 r p x) i.value)))
     asks_by2 true = tt
     asks_by2 false = (tt, λ i. asks_behind2 (is_too_large r.stage2 i.value) i.value)
 
@@ -119,7 +122,9 @@ module _ (q : Asked) (start2 : q.regime.stage2.start ≤ most_left) where
 
   module _ (start1 : is_refused1 q.regime.config q.access ≡ false → q.regime.stage1.start ≤ most_left) where
     asks_large : (big : Bool) (base : ℕ) → q.regime.stage1.start ≤ most_left
-        → Asks IsLow (cond big (done (stops (fault1 AddressSize most_left))) (finer stops (word_of q.regime) (walk1_from q q.regime.stage1.start record { address = base; bits = no_bits })))
+        → Asks IsLow
+            (cond big (done (stops (fault1 AddressSize most_left)))
+            (finer stops (word_of q.regime) (walk1_from q q.regime.stage1.start record { address = base; bits = no_bits })))
     asks_large true base h = tt
     asks_large false base h =
         asks_finer IsLowEntry IsLow stops (word_of q.regime) (walk1_from q q.regime.stage1.start record { address = base; bits = no_bits })
@@ -134,8 +139,10 @@ module _ (q : Asked) (start2 : q.regime.stage2.start ≤ most_left) where
     asks_m true off = asks_on (is_refused1 q.regime.config q.access) refl
     asks_m false off = tt
 
-    asks_landed : (vm : Bool) (l : Leaf1) → Asks IsLow (cond vm (after (walk2 (asked2 q.regime false l.out)) (λ e. done (judged2 q.judged q.access l e))) (done (reaches (landed l))))
-    asks_landed true l = asks_after IsLow (walk2 (asked2 q.regime false l.out)) (λ e. done (judged2 q.judged q.access l e)) (asks_stage2 q.regime start2 false l.out) (λ e. tt)
+    asks_landed : (vm : Bool) (l : Leaf1)
+        → Asks IsLow (cond vm (after (walk2 (asked2 q.regime false l.out)) (λ e. done (judged2 q.judged q.access l e))) (done (reaches (landed l))))
+    asks_landed true l =
+        asks_after IsLow (walk2 (asked2 q.regime false l.out)) (λ e. done (judged2 q.judged q.access l e)) (asks_stage2 q.regime start2 false l.out) (λ e. tt)
     asks_landed false l = tt
 
     asks_end : (end : End Leaf1) → Asks IsLow (stage2_behind q end)

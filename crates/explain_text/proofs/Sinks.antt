@@ -29,19 +29,22 @@ back_take : (k : ℕ) (s t : List ℕ) → take (length s + k) (s ++ t) ≡ s ++
 back_take k s t = take-append-add s t k
 
 -- the first call fails
-pub fails_first : {T U E : Type 0} (a b : Option (List ℕ)) (r : Result T E) (q : Result U E) (s t : List ℕ) → IsErr r → IsErr q → Wrote a b r s → Wrote a b q (s ++ t)
+pub fails_first : {T U E : Type 0} (a b : Option (List ℕ)) (r : Result T E) (q : Result U E) (s t : List ℕ) → IsErr r → IsErr q → Wrote a b r s
+    → Wrote a b q (s ++ t)
 fails_first a b (Ok x) q s t h k w = cc
 fails_first a b (Err e) (Ok x) s t h k w = cc
 fails_first a b (Err e) (Err d) s t h k w = (min w.0 (length s), rw front_take w.1)
 
 -- the first call succeeds, and a later one ends the text
-pub goes_on : {T U E : Type 0} (a b c : Option (List ℕ)) (r : Result T E) (q : Result U E) (s t : List ℕ) → IsOk r → Wrote a b r s → Wrote b c q t → Wrote a c q (s ++ t)
+pub goes_on : {T U E : Type 0} (a b c : Option (List ℕ)) (r : Result T E) (q : Result U E) (s t : List ℕ) → IsOk r → Wrote a b r s → Wrote b c q t
+    → Wrote a c q (s ++ t)
 goes_on a b c (Err e) q s t h v w = cc
 goes_on a b c (Ok x) (Ok y) s t h v w = appended_then a b c s t v w
 goes_on a b c (Ok x) (Err y) s t h v w = (length s + w.0, rw back_take (appended_then a b c s (take w.0 t) v w.1))
 
 -- some text was written, and then a call fails
-pub stops : {T U E : Type 0} (a b c : Option (List ℕ)) (r : Result T E) (q : Result U E) (s t u : List ℕ) → IsErr r → IsErr q → Appended a b s → Wrote b c r t → Wrote a c q (s ++ (t ++ u))
+pub stops : {T U E : Type 0} (a b c : Option (List ℕ)) (r : Result T E) (q : Result U E) (s t u : List ℕ) → IsErr r → IsErr q → Appended a b s → Wrote b c r t
+    → Wrote a c q (s ++ (t ++ u))
 stops {T} {U} {E} a b c r q s t u h k v w = goes_on {T = Unit {0}} {U = U} {E = E} a b c (Ok tt) q s (t ++ u) refl v (fails_first b c r q t u h k w)
 
 -- a sink that counts no fault answers no error
@@ -59,12 +62,15 @@ pub same_text : {T E : Type 0} (a b : Option (List ℕ)) (r : Result T E) (s t :
 same_text a b r s t e w = subst (Wrote a b r) e w
 
 -- the elements before one, that one, and those behind it
-text_at : {X A : Type 0} (f : X → List A) (xs : List X) (i : ℕ) (d : X) → i < length xs → flat_map f (take i xs) ++ (f (get_or xs i d) ++ flat_map f (drop (i + 1) xs)) ≡ flat_map f xs
+text_at : {X A : Type 0} (f : X → List A) (xs : List X) (i : ℕ) (d : X) → i < length xs
+    → flat_map f (take i xs) ++ (f (get_or xs i d) ++ flat_map f (drop (i + 1) xs)) ≡ flat_map f xs
 text_at f xs i d h =
     ap (λ ys. flat_map f (take i xs) ++ flat_map f ys) (sym (drop_more xs i d h))
     ∙ sym (flat_map-append f (take i xs) (drop i xs))
     ∙ ap (flat_map f) (take-append-drop i xs)
 
 -- a loop that writes each element of a list stops at one
-pub loop_stops : {X T U E : Type 0} (a b c : Option (List ℕ)) (r : Result T E) (q : Result U E) (f : X → List ℕ) (xs : List X) (i : ℕ) (d : X) → i < length xs → IsErr r → IsErr q → Appended a b (flat_map f (take i xs)) → Wrote b c r (f (get_or xs i d)) → Wrote a c q (flat_map f xs)
-loop_stops a b c r q f xs i d h k m v w = same_text a c q _ _ (text_at f xs i d h) (stops a b c r q (flat_map f (take i xs)) (f (get_or xs i d)) (flat_map f (drop (i + 1) xs)) k m v w)
+pub loop_stops : {X T U E : Type 0} (a b c : Option (List ℕ)) (r : Result T E) (q : Result U E) (f : X → List ℕ) (xs : List X) (i : ℕ) (d : X) → i < length xs
+    → IsErr r → IsErr q → Appended a b (flat_map f (take i xs)) → Wrote b c r (f (get_or xs i d)) → Wrote a c q (flat_map f xs)
+loop_stops a b c r q f xs i d h k m v w =
+    same_text a c q _ _ (text_at f xs i d h) (stops a b c r q (flat_map f (take i xs)) (f (get_or xs i d)) (flat_map f (drop (i + 1) xs)) k m v w)

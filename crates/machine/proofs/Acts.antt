@@ -76,7 +76,8 @@ delivered_bank v (i ∷ later) = refl
 delivered_same : (v : Core) → delivered v ≡ with_bank (delivered v) v.bank
 delivered_same v = ap (with_bank (delivered v)) (delivered_bank v v.inbox)
 
-mailed_same : (v : Core) (i : Inval) (room : Bool) → cond room (posted v i) (posted (delivered v) i) ≡ with_bank (cond room (posted v i) (posted (delivered v) i)) v.bank
+mailed_same : (v : Core) (i : Inval) (room : Bool)
+    → cond room (posted v i) (posted (delivered v) i) ≡ with_bank (cond room (posted v i) (posted (delivered v) i)) v.bank
 mailed_same v i true = refl
 mailed_same v i false = ap (with_bank (posted (delivered v) i)) (delivered_bank v v.inbox)
 
@@ -103,7 +104,8 @@ module _ (h : Header) (w : World) (j : ℕ) where
   tlbi_each from op shared operand i e c v = rw (← e) (reached_same v i (reaches_core i c))
 
 -- the core of a number
-pub core_in : (k : ℕ) (m : Memory) (seats : List SeatState) (j : ℕ) (x : SeatState) → j < length seats → core_of (world_of k m seats) j ≡ core_at (get_or seats j x)
+pub core_in : (k : ℕ) (m : Memory) (seats : List SeatState) (j : ℕ) (x : SeatState) → j < length seats
+    → core_of (world_of k m seats) j ≡ core_at (get_or seats j x)
 core_in k m seats j x lt = get_or-map core_at seats j x no_core lt
 
 -- ACCESSES

@@ -22,7 +22,8 @@ found_at : (words : List ℕ) (aligned b : Bool) (i : ℕ) (rest : Bool) (later 
 found_at words aligned true i rest later next h = refl
 found_at words aligned false i rest later next h = next h
 
-found : (words : List ℕ) (aligned : Bool) (k : ℕ) (ranges : List (ℕ × ℕ)) (p : ℕ) → is_within ranges p ≡ true → is_some (seen_at words aligned (index_from k ranges p)) ≡ true
+found : (words : List ℕ) (aligned : Bool) (k : ℕ) (ranges : List (ℕ × ℕ)) (p : ℕ) → is_within ranges p ≡ true
+    → is_some (seen_at words aligned (index_from k ranges p)) ≡ true
 found words aligned k [] p h = absurd cc
 found words aligned k (r ∷ ranges) p h =
     found_at words aligned (holds_word r p) _ (is_within ranges p) (index_from (k + r.1 / 8) ranges p) (found words aligned (k + r.1 / 8) ranges p) h
@@ -49,7 +50,8 @@ neither : (x y : Bool) → (x || y) ≡ false → (x ≡ false) × (y ≡ false)
 neither true y h = absurd cc
 neither false y h = (refl, h)
 
-none_shares : (k : ℕ) (r : ℕ × ℕ) (earlier : List (ℕ × ℕ)) → list_any (share_byte r) earlier ≡ false → first_place (λ other. share_byte other r) k earlier ≡ None
+none_shares : (k : ℕ) (r : ℕ × ℕ) (earlier : List (ℕ × ℕ)) → list_any (share_byte r) earlier ≡ false
+    → first_place (λ other. share_byte other r) k earlier ≡ None
 none_shares k r [] h = refl
 none_shares k r (s ∷ earlier) h =
     let n = neither (share_byte r s) (list_any (share_byte r) earlier) h in

@@ -100,7 +100,8 @@ opens t p seats log ranges cores size policy el er ec es ep memory count each =
     let zero_memory : memory_of p ≡ zeros h.ranges = memory ∙ same_zeros ranges ∙ ap zeros er in
     let all : (c : ℕ) → c < h.cores → get_or seats c no_seat ≡ new_seat c h.size h.policy = λ c lt.
     each c (omega (arith, lt, ec)) ∙ ap (λ z. new_seat c z policy) es ∙ ap (λ z. new_seat c h.size z) ep in (
-      subst (λ l. IsRun t l (world_of (length l) (memory_of p) seats)) (sym el) (run_at_first t (world_of 0 (memory_of p) seats) (at_first h (memory_of p) seats zero_memory (count ∙ ec) all)),
+      subst (λ l. IsRun t l (world_of (length l) (memory_of p) seats)) (sym el)
+          (run_at_first t (world_of 0 (memory_of p) seats) (at_first h (memory_of p) seats zero_memory (count ∙ ec) all)),
       are_at_first h (memory_of p) seats zero_memory (count ∙ ec) all,
     )
 
@@ -161,7 +162,8 @@ module _ (laws : RunsAreAllowed) (t : Parts) (m : Memory) (seats : List SeatStat
       ext_get_or no_core (map core_at after) (at_each (moved h w e) 0 w.cores) (omega (arith, l, l2, l3, n)) (λ c lt.
       let old : c < length seats = omega (arith, lt, l, n) in
       get_or-map core_at after c no_seat no_core (omega (arith, old, n)) ∙ did.cores h are c old
-      ∙ sym (each_at (moved h w e) (map core_at seats) c no_core (omega (arith, old, l2)) ∙ ap (moved h w e c) (get_or-map core_at seats c no_seat no_core old)))
+      ∙ sym (each_at (moved h w e) (map core_at seats) c no_core (omega (arith, old, l2))
+          ∙ ap (moved h w e c) (get_or-map core_at seats c no_seat no_core old)))
 
   world_next : world_of (length log + 1) next after ≡ world_after h (front ++ e ∷ [])
   world_next =
@@ -174,8 +176,10 @@ module _ (laws : RunsAreAllowed) (t : Parts) (m : Memory) (seats : List SeatStat
 
   allowed : IsAllowed h log done
   allowed =
-      let at : slice_get (run_of h (front ++ e ∷ [])) (length log) ≡ Some done = subst (λ l. slice_get l (length log) ≡ Some done) run_next (get-last log done) in
-      let before : take (length log) (run_of h (front ++ e ∷ [])) ≡ log = subst (λ l. take (length log) l ≡ log) run_next (take_at log (done ∷ []) (length log) refl) in
+      let at : slice_get (run_of h (front ++ e ∷ [])) (length log) ≡ Some done =
+          subst (λ l. slice_get l (length log) ≡ Some done) run_next (get-last log done) in
+      let before : take (length log) (run_of h (front ++ e ∷ [])) ≡ log =
+          subst (λ l. take (length log) l ≡ log) run_next (take_at log (done ∷ []) (length log) refl) in
       subst (λ l. IsAllowed h l done) before (laws h (front ++ e ∷ []) of_cores (length log) done at)
 
   kept : IsRun t (log ++ done ∷ []) (world_of (length (log ++ done ∷ [])) next after)

@@ -53,15 +53,9 @@ IsFreshAnswer h log c a (Some r) = IsFreshNow h log c a r
 
 -- an access is fresh behind a log; the other events have no answer
 abbrev pub IsFreshFor : (header : Header) (log : List Step) (event : Event) (answer : Option Answer) → Type 0
-IsFreshFor h log (Store core pa value) r = r ≡ None
-IsFreshFor h log (Msr core reg value) r = r ≡ None
-IsFreshFor h log (Settle core) r = r ≡ None
-IsFreshFor h log (Isb core) r = r ≡ None
-IsFreshFor h log (Tlbi core from op shared operand) r = r ≡ None
-IsFreshFor h log (Dsb core kind) r = r ≡ None
-IsFreshFor h log (Deliver core) r = r ≡ None
 IsFreshFor h log (AccessOf core access) r = IsFreshAnswer h log core access r
 IsFreshFor h log (Prefetch core access) r = IsFreshAnswer h log core access r
+IsFreshFor h log _ r = r ≡ None
 
 -- Without rows each access is the fresh walk of its moment.
 abbrev pub RunsWithoutRowsAreFresh : Type 0

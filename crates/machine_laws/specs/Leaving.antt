@@ -30,15 +30,10 @@ pushed_out c inbox (Some i) = if reaches_core i c && not (nat_lt (length inbox) 
 
 -- the invalidations of a core's inbox that take effect by an event
 abbrev pub effective : (world : World) (number : ℕ) (inbox : List Inval) (event : Event) → List Inval
-effective w c inbox (Store core pa value) = []
-effective w c inbox (Msr core reg value) = []
-effective w c inbox (Settle core) = []
-effective w c inbox (Isb core) = []
 effective w c inbox (Tlbi core from op shared operand) = pushed_out c inbox (issued_by (regs_in w) w.step (Tlbi core from op shared operand))
 effective w c inbox (Dsb core kind) = filter (completes (Dsb core kind)) inbox
 effective w c inbox (Deliver core) = if core == c then take 1 inbox else []
-effective w c inbox (AccessOf core access) = []
-effective w c inbox (Prefetch core access) = []
+effective w c inbox _ = []
 
 -- an invalidation takes effect that covers the row
 abbrev pub IsRemoved : (world : World) (number : ℕ) (inbox : List Inval) (event : Event) (row : Row) → Type 0
@@ -64,15 +59,9 @@ used_here h w c a = let p = (seat_of h w c (core_of w c)).place in let r = serve
 
 -- the rows that an event uses at a core
 abbrev pub used_at : (header : Header) (world : World) (number : ℕ) (event : Event) → Used
-used_at h w c (Store core pa value) = none_used
-used_at h w c (Msr core reg value) = none_used
-used_at h w c (Settle core) = none_used
-used_at h w c (Isb core) = none_used
-used_at h w c (Tlbi core from op shared operand) = none_used
-used_at h w c (Dsb core kind) = none_used
-used_at h w c (Deliver core) = none_used
 used_at h w c (AccessOf core access) = if core == c then used_here h w c access else none_used
 used_at h w c (Prefetch core access) = if core == c then used_here h w c access else none_used
+used_at h w c _ = none_used
 
 -- all uses of rows at a core by events from a machine on, in the order of time
 abbrev pub uses_from : (header : Header) (world : World) (number : ℕ) (events : List Event) → List Row

@@ -22,15 +22,9 @@ IsFreshIfUnchanged h log c a (Some r) =
 
 -- the same of an event behind a log; an access and a prefetch have an answer
 abbrev pub IsFreshWhereUnchanged : (header : Header) (log : List Step) (event : Event) (answer : Option Answer) → Type 0
-IsFreshWhereUnchanged h log (Store core pa value) r = Unit {0}
-IsFreshWhereUnchanged h log (Msr core reg value) r = Unit {0}
-IsFreshWhereUnchanged h log (Settle core) r = Unit {0}
-IsFreshWhereUnchanged h log (Isb core) r = Unit {0}
-IsFreshWhereUnchanged h log (Tlbi core from op shared operand) r = Unit {0}
-IsFreshWhereUnchanged h log (Dsb core kind) r = Unit {0}
-IsFreshWhereUnchanged h log (Deliver core) r = Unit {0}
 IsFreshWhereUnchanged h log (AccessOf core access) r = IsFreshIfUnchanged h log core access r
 IsFreshWhereUnchanged h log (Prefetch core access) r = IsFreshIfUnchanged h log core access r
+IsFreshWhereUnchanged h log _ r = Unit {0}
 
 -- each event of a log and its answer meet a condition behind the steps before them
 abbrev pub EachStep : (condition : List Step → Event → Option Answer → Type 0) (log : List Step) → Type 0

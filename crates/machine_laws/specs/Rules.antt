@@ -25,11 +25,7 @@ IsQuiet (Store core pa value) = Unit {0}
 IsQuiet (Msr core reg value) = Unit {0}
 IsQuiet (Settle core) = Unit {0}
 IsQuiet (Isb core) = Unit {0}
-IsQuiet (Tlbi core from op shared operand) = ⊥
-IsQuiet (Dsb core kind) = ⊥
-IsQuiet (Deliver core) = ⊥
-IsQuiet (AccessOf core access) = ⊥
-IsQuiet (Prefetch core access) = ⊥
+IsQuiet _ = ⊥
 
 -- Stores, register writes and ISB leave the inbox and the rows of every core.
 abbrev pub QuietEventsKeepRows : Type 0

@@ -196,15 +196,9 @@ IsAnswered h log c a (Some r) = IsAnswer (case_of h log c a) r
 
 -- an event's answer is allowed behind a log; the other events have none
 abbrev pub IsAllowedFor : (header : Header) (log : List Step) (event : Event) (answer : Option Answer) → Type 0
-IsAllowedFor h log (Store core pa value) r = r ≡ None
-IsAllowedFor h log (Msr core reg value) r = r ≡ None
-IsAllowedFor h log (Settle core) r = r ≡ None
-IsAllowedFor h log (Isb core) r = r ≡ None
-IsAllowedFor h log (Tlbi core from op shared operand) r = r ≡ None
-IsAllowedFor h log (Dsb core kind) r = r ≡ None
-IsAllowedFor h log (Deliver core) r = r ≡ None
 IsAllowedFor h log (AccessOf core access) r = IsAnswered h log core access r
 IsAllowedFor h log (Prefetch core access) r = IsAnswered h log core access r
+IsAllowedFor h log _ r = r ≡ None
 
 -- a step is allowed behind a log
 abbrev pub IsAllowed : (header : Header) (log : List Step) (step : Step) → Type 0

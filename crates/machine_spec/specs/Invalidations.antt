@@ -20,15 +20,8 @@ is_at_el1 El2 = false
 
 -- the invalidation that an event issues, by the registers in force of the cores
 unfoldable pub issued_by : (registers : ℕ → Regs) (moment : ℕ) (event : Event) → Option Inval
-issued_by regs k (Store core pa value) = None
-issued_by regs k (Msr core reg value) = None
-issued_by regs k (Settle core) = None
-issued_by regs k (Isb core) = None
 issued_by regs k (Tlbi core from op shared operand) = Some (inval_of op shared (is_at_el1 from) operand (regs core) core k)
-issued_by regs k (Dsb core kind) = None
-issued_by regs k (Deliver core) = None
-issued_by regs k (Access core access) = None
-issued_by regs k (Prefetch core access) = None
+issued_by regs k _ = None
 
 -- the event of a step of a log
 abbrev pub event_at : (log : List Step) (step : ℕ) → Option Event
@@ -46,15 +39,8 @@ is_wide Sy = true
 
 -- An event completes an invalidation: a DSB of its issuer, ISH or SY where it is broadcast, of any kind where it is local.
 unfoldable pub completes : (event : Event) (inval : Inval) → Bool
-completes (Store core pa value) i = false
-completes (Msr core reg value) i = false
-completes (Settle core) i = false
-completes (Isb core) i = false
-completes (Tlbi core from op shared operand) i = false
 completes (Dsb core kind) i = (core == i.issuer) && (is_wide kind || not i.broadcast)
-completes (Deliver core) i = false
-completes (Access core access) i = false
-completes (Prefetch core access) i = false
+completes _ i = false
 
 -- an invalidation is complete before a moment
 pub record IsComplete (log : List Step) (before : ℕ) (inval : Inval) : Type 0 where

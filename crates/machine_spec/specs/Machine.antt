@@ -170,15 +170,12 @@ accessed h w c core a = record core { cache = (visited (seat_of h w c core) a).c
 
 -- what an event does to the inbox and the rows of a core
 unfoldable pub acted : (header : Header) (world : World) (number : ℕ) (core : Core) (event : Event) → Core
-acted h w c v (Store core pa value) = v
-acted h w c v (Msr core reg value) = v
-acted h w c v (Settle core) = v
-acted h w c v (Isb core) = v
 acted h w c v (Tlbi core from op shared operand) = mailed_by c v (issued_by (regs_in w) w.step (Tlbi core from op shared operand))
 acted h w c v (Dsb core kind) = finished v (Dsb core kind)
 acted h w c v (Deliver core) = if core == c then delivered v else v
 acted h w c v (AccessOf core access) = if core == c then accessed h w c v access else v
 acted h w c v (Prefetch core access) = if core == c then accessed h w c v access else v
+acted h w c v _ = v
 
 -- what an event does to a core: its registers by the rules of their queue, and the rest
 abbrev pub moved : (header : Header) (world : World) (event : Event) (number : ℕ) (core : Core) → Core
@@ -206,15 +203,9 @@ answer_in h w c a = (visited (seat_of h w c (core_of w c)) a).answer
 
 -- the answer of an event, which an access and a prefetch have
 unfoldable pub answer_to : (header : Header) (world : World) (event : Event) → Option Answer
-answer_to h w (Store core pa value) = None
-answer_to h w (Msr core reg value) = None
-answer_to h w (Settle core) = None
-answer_to h w (Isb core) = None
-answer_to h w (Tlbi core from op shared operand) = None
-answer_to h w (Dsb core kind) = None
-answer_to h w (Deliver core) = None
 answer_to h w (AccessOf core access) = Some (answer_in h w core access)
 answer_to h w (Prefetch core access) = Some (answer_in h w core access)
+answer_to h w _ = None
 
 abbrev pub step_of : (header : Header) (world : World) (event : Event) → Step
 step_of h w e = record { event = e; answer = answer_to h w e }

@@ -16,14 +16,7 @@ pub use Rattle.phys_mem.specs.Memory.{zeros, stored_at}
 -- a store is seen at once
 unfoldable pub stored : (memory : Memory) (event : Event) → Memory
 stored m (Store core pa value) = stored_at m pa value
-stored m (Msr core reg value) = m
-stored m (Settle core) = m
-stored m (Isb core) = m
-stored m (Tlbi core from op shared operand) = m
-stored m (Dsb core kind) = m
-stored m (Deliver core) = m
-stored m (Access core access) = m
-stored m (Prefetch core access) = m
+stored m _ = m
 
 -- memory after a log
 abbrev pub memory_after : (header : Header) (log : List Step) → Memory
@@ -65,15 +58,10 @@ queued b w = if nat_lt (length b.queue) most_queued then appended b w else appen
 
 -- what an event does to the registers of a core
 unfoldable pub banked : (core : ℕ) (bank : Bank) (event : Event) → Bank
-banked c b (Store core pa value) = b
 banked c b (Msr core reg value) = if core == c then queued b (reg, value) else b
 banked c b (Settle core) = if core == c then settled b else b
 banked c b (Isb core) = if core == c then drained b else b
-banked c b (Tlbi core from op shared operand) = b
-banked c b (Dsb core kind) = b
-banked c b (Deliver core) = b
-banked c b (Access core access) = b
-banked c b (Prefetch core access) = b
+banked c b _ = b
 
 abbrev pub no_bank : Bank
 no_bank = record { regs = zero_regs; queue = [] }

@@ -27,15 +27,9 @@ one_if true = 1
 one_if false = 0
 
 abbrev pub with_event : (summary : Summary) (event : Event) → Summary
-with_event s (Store core pa value) = s
-with_event s (Msr core reg value) = s
-with_event s (Settle core) = s
-with_event s (Isb core) = s
-with_event s (Tlbi core from op shared operand) = s
-with_event s (Dsb core kind) = s
-with_event s (Deliver core) = s
 with_event s (Access core access) = record s { accesses = s.accesses + 1 }
 with_event s (Prefetch core access) = record s { prefetches = s.prefetches + 1 }
+with_event s _ = s
 
 abbrev pub with_outcome : (summary : Summary) (outcome : Outcome) → Summary
 with_outcome s (Mapped pa perms mem sh) = record s { mapped = s.mapped + 1 }

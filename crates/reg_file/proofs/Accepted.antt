@@ -16,12 +16,14 @@ use Rattle.reg_file.specs.declared.refusals.RegRefusal.TheVariants.{TooLarge, No
 use Rattle.reg_file.specs.RegisterFile.{regs_of, regs_in, of_document, none_is, first_refused, all_regs, ◌>>=◌, numbers_in}
 
 -- neither is there
-apart : (reg : Reg) (field : Option Field) (more : Option UnsupportedField) → option_or (option_map (λ f. record { reg = reg; field = f }) field) more ≡ None → (field ≡ None) × (more ≡ None)
+apart : (reg : Reg) (field : Option Field) (more : Option UnsupportedField) → option_or (option_map (λ f. record { reg = reg; field = f }) field) more ≡ None
+    → (field ≡ None) × (more ≡ None)
 apart reg None more h = (refl, h)
 apart reg (Some f) more h = search (rules, h)
 
 -- neither the first register nor one of the others is refused
-first_passes : (regs : Regs) (reg : Reg) (more : List Reg) → first_refused regs (reg ∷ more) ≡ None → (refused_field reg (value_of regs reg) ≡ None) × (first_refused regs more ≡ None)
+first_passes : (regs : Regs) (reg : Reg) (more : List Reg) → first_refused regs (reg ∷ more) ≡ None
+    → (refused_field reg (value_of regs reg) ≡ None) × (first_refused regs more ≡ None)
 first_passes regs reg more h = apart reg (refused_field reg (value_of regs reg)) (first_refused regs more) h
 
 all_pass : (regs : Regs) → first_refused regs all_regs ≡ None → AreAccepted regs

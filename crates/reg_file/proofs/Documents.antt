@@ -18,7 +18,8 @@ small : (m n : ℕ) → n ≤ m → ltb m n ≡ false
 small m n h = grind (arith, nat_tests)
 
 -- a document's registers are those of its table
-pub of_table : (bytes text : List ℕ) (table : Members) → length bytes ≤ 65536 → IsUtf8 bytes → text ≡ bytes → parse_document text ≡ Some table → regs_of bytes ≡ regs_in table
+pub of_table : (bytes text : List ℕ) (table : Members) → length bytes ≤ 65536 → IsUtf8 bytes → text ≡ bytes → parse_document text ≡ Some table
+    → regs_of bytes ≡ regs_in table
 of_table bytes text table h u e p =
     let q : parse_document bytes ≡ Some table = rw e at p in
     rw (small 65536 (length bytes) h, is_utf8-from_IsUtf8 bytes u, q) refl

@@ -62,15 +62,26 @@ event_within n m s (Isb core) w = one_more n m s w
 event_within n m s (Tlbi core from op shared operand) w = one_more n m s w
 event_within n m s (Dsb core kind) w = one_more n m s w
 event_within n m s (Deliver core) w = one_more n m s w
-event_within n m s (Access core access) w = grows n m s (with_event s (Access core access)) (omega arith) (omega arith) (omega arith) (omega arith) (omega arith) (omega arith) (omega arith) (omega arith) w
-event_within n m s (Prefetch core access) w = grows n m s (with_event s (Prefetch core access)) (omega arith) (omega arith) (omega arith) (omega arith) (omega arith) (omega arith) (omega arith) (omega arith) w
+event_within n m s (Access core access) w =
+    grows n m s (with_event s (Access core access)) (omega arith) (omega arith) (omega arith) (omega arith) (omega arith) (omega arith) (omega arith)
+    (omega arith) w
+event_within n m s (Prefetch core access) w =
+    grows n m s (with_event s (Prefetch core access)) (omega arith) (omega arith) (omega arith) (omega arith) (omega arith) (omega arith) (omega arith)
+    (omega arith) w
 
 -- an outcome
 pub outcome_within : (n m : ℕ) (s : Summary) (o : Outcome) → Within n m s → Within (n + 1) m (with_outcome s o)
-outcome_within n m s (Mapped pa perms mem sh) w = grows n m s (with_outcome s (Mapped pa perms mem sh)) (omega arith) (omega arith) (omega arith) (omega arith) (omega arith) (omega arith) (omega arith) (omega arith) w
-outcome_within n m s (Faulted fault) w = grows n m s (with_outcome s (Faulted fault)) (omega arith) (omega arith) (omega arith) (omega arith) (omega arith) (omega arith) (omega arith) (omega arith) w
-outcome_within n m s (Absent stage level pa s1ptw) w = grows n m s (with_outcome s (Absent stage level pa s1ptw)) (omega arith) (omega arith) (omega arith) (omega arith) (omega arith) (omega arith) (omega arith) (omega arith) w
-outcome_within n m s Conflict w = grows n m s (with_outcome s Conflict) (omega arith) (omega arith) (omega arith) (omega arith) (omega arith) (omega arith) (omega arith) (omega arith) w
+outcome_within n m s (Mapped pa perms mem sh) w =
+    grows n m s (with_outcome s (Mapped pa perms mem sh)) (omega arith) (omega arith) (omega arith) (omega arith) (omega arith) (omega arith) (omega arith)
+    (omega arith) w
+outcome_within n m s (Faulted fault) w =
+    grows n m s (with_outcome s (Faulted fault)) (omega arith) (omega arith) (omega arith) (omega arith) (omega arith) (omega arith) (omega arith)
+    (omega arith) w
+outcome_within n m s (Absent stage level pa s1ptw) w =
+    grows n m s (with_outcome s (Absent stage level pa s1ptw)) (omega arith) (omega arith) (omega arith) (omega arith) (omega arith) (omega arith)
+    (omega arith) (omega arith) w
+outcome_within n m s Conflict w =
+    grows n m s (with_outcome s Conflict) (omega arith) (omega arith) (omega arith) (omega arith) (omega arith) (omega arith) (omega arith) (omega arith) w
 
 one_at_most : (n k : ℕ) (b : Bool) → k ≤ n → k + one_if b ≤ n + 1
 one_at_most n k true h = omega arith

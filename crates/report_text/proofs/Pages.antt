@@ -14,7 +14,8 @@ goes a b (Ok x) s e w before text h = (h.0 ++ s, appended_then before a b h.0 s 
 goes a b (Err x) s e w before text h = cc
 
 -- a part of it is
-pub fails : {T U E F : Type 0} (a b : Option (List ℕ)) (r : Result T E) (q : Result U F) (s left : List ℕ) → IsErr r → IsErr q → Wrote a b r s → Passes a b q s left
+pub fails : {T U E F : Type 0} (a b : Option (List ℕ)) (r : Result T E) (q : Result U F) (s left : List ℕ) → IsErr r → IsErr q → Wrote a b r s
+    → Passes a b q s left
 fails a b (Ok x) q s left e f w = cc
 fails a b (Err x) (Ok y) s left e f w = cc
 fails a b (Err x) (Err y) s left e f w =
@@ -51,7 +52,8 @@ still_waits (Err x) n w v s l e p =
     ap (λ (k : ℕ). take k v) l ∙ ap (take (length w)) (p.1.2 ∙ ap (λ (x : List ℕ). x ++ take p.0 s) (sym same)) ∙ take-append_seam w (take p.0 s)
 
 -- that is handed on, or a part of it
-pub stays_behind : {T U V E F G : Type 0} (a b : Option (List ℕ)) (p : Result T E) (q : Result U F) (r : Result V G) (n : ℕ) (w v left s : List ℕ) → n ≡ length w → IsErr p → IsErr q → IsErr r
+pub stays_behind : {T U V E F G : Type 0} (a b : Option (List ℕ)) (p : Result T E) (q : Result U F) (r : Result V G) (n : ℕ) (w v left s : List ℕ)
+    → n ≡ length w → IsErr p → IsErr q → IsErr r
     → Wrote (Some w) (Some v) p s → Passes a b q (take n v) left → Adds a b r w left s
 stays_behind a b p (Ok x) r n w v left s m e f g h k = cc
 stays_behind a b p (Err x) (Ok y) n w v left s m e f g h k = cc
@@ -59,12 +61,14 @@ stays_behind a b p (Err x) (Err y) n w v left s m e f g h k =
     λ before front i. started_in before b front s (k before front (subst (λ (t : List ℕ). Handed before a t front) (sym (still_waits p n w v s m e h)) i))
 
 -- nothing waits, and a text is written
-then_written : {T E : Type 0} (b c before : Option (List ℕ)) (r : Result T E) (front s : List ℕ) → Handed before b [] front → Wrote b c r s → Wrote before c r (front ++ s)
+then_written : {T E : Type 0} (b c before : Option (List ℕ)) (r : Result T E) (front s : List ℕ) → Handed before b [] front → Wrote b c r s
+    → Wrote before c r (front ++ s)
 then_written b c before r front s h k =
     goes_on {T = Unit {0}} before b c (Ok tt) r front s refl (subst (Appended before b) (sym (append-nil h.0) ∙ h.2) h.1) k
 
 -- what waited is handed on, and then the text is written
-pub goes_straight : {T U V E F G : Type 0} (a b c : Option (List ℕ)) (p : Result T E) (q : Result U F) (r : Result V G) (n : ℕ) (w v left s : List ℕ) → n ≡ length w → IsErr p → IsOk q
+pub goes_straight : {T U V E F G : Type 0} (a b c : Option (List ℕ)) (p : Result T E) (q : Result U F) (r : Result V G) (n : ℕ) (w v left s : List ℕ)
+    → n ≡ length w → IsErr p → IsOk q
     → Wrote (Some w) (Some v) p s → Passes a b q (take n v) left → left ≡ [] → Wrote b c r s → Adds a c r w left s
 goes_straight {T} {U} {V} {E} {F} {G} a b c p (Err x) r n w v left s m e f h k o l = cc
 goes_straight {T} {U} {V} {E} {F} {G} a b c p (Ok x) (Ok y) n w v left s m e f h k o l =

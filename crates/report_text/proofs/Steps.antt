@@ -36,7 +36,8 @@ steps_on n x more = refl
 
 -- the lines of one more step are a first part of what each longer log has
 report_parts : (log : List Step) (x : Step) (more : List Step)
-    → (steps_text 0 log ++ step_text (length log) x) ++ (steps_text (length log + 1) more ++ summary_text (summary (log ++ x ∷ more))) ≡ report_text (log ++ x ∷ more)
+    → (steps_text 0 log ++ step_text (length log) x) ++ (steps_text (length log + 1) more ++ summary_text (summary (log ++ x ∷ more)))
+        ≡ report_text (log ++ x ∷ more)
 report_parts log x more =
     let end : List ℕ = summary_text (summary (log ++ x ∷ more)) in
     let place : 0 + length log ≡ length log = omega arith in
@@ -47,11 +48,13 @@ report_parts log x more =
     ∙ sym (steps_then 0 log (x ∷ more)))
 
 -- a step that was put
-pub goes_on_by : {T E : Type 0} (a b : Option (List ℕ)) (r : Result T E) (old new : ReportState) (x : Step) → Adds a b r old.waits new.waits (step_text old.steps x)
+pub goes_on_by : {T E : Type 0} (a b : Option (List ℕ)) (r : Result T E) (old new : ReportState) (x : Step)
+    → Adds a b r old.waits new.waits (step_text old.steps x)
     → new.counted ≡ with_answer (with_event old.counted x.event) x.answer → new.steps ≡ old.steps + 1
     → (before : Option (List ℕ)) (log : List Step) → IsReportOf before a old log → GoesOn before b r new log x
 goes_on_by a b (Ok y) old new x p counted steps before log h = record {
-  text = subst (Handed before b new.waits) (ap (λ (k : ℕ). steps_text 0 log ++ step_text k x) h.steps ∙ sym (steps_more log x)) (p before (steps_text 0 log) h.text);
+  text = subst (Handed before b new.waits) (ap (λ (k : ℕ). steps_text 0 log ++ step_text k x) h.steps ∙ sym (steps_more log x))
+      (p before (steps_text 0 log) h.text);
   counted = counted ∙ ap (λ (s : Summary). with_answer (with_event s x.event) x.answer) h.counted ∙ summary_more log x;
   steps = steps ∙ ap (λ (k : ℕ). k + 1) h.steps ∙ sym (length-append log (x ∷ []));
 }
@@ -59,10 +62,13 @@ goes_on_by a b (Err y) old new x p counted steps before log h =
     λ more.
     let first : Started before b (steps_text 0 log ++ step_text (length log) x) =
     subst (λ (k : ℕ). Started before b (steps_text 0 log ++ step_text k x)) h.steps (p before (steps_text 0 log) h.text) in
-    subst (Started before b) (report_parts log x more) (started_in before b (steps_text 0 log ++ step_text (length log) x) (steps_text (length log + 1) more ++ summary_text (summary (log ++ x ∷ more))) first)
+    subst (Started before b) (report_parts log x more)
+        (started_in before b (steps_text 0 log ++ step_text (length log) x) (steps_text (length log + 1) more ++ summary_text (summary (log ++ x ∷ more)))
+        first)
 
 -- the summary line ends the report
-pub ends_by : {T E : Type 0} (a b : Option (List ℕ)) (r : Result T E) (old : ReportState) (left : List ℕ) → OnOk r (left ≡ []) → Adds a b r old.waits left (summary_text old.counted)
+pub ends_by : {T E : Type 0} (a b : Option (List ℕ)) (r : Result T E) (old : ReportState) (left : List ℕ) → OnOk r (left ≡ [])
+    → Adds a b r old.waits left (summary_text old.counted)
     → (before : Option (List ℕ)) (log : List Step) → IsReportOf before a old log → Wrote before b r (report_text log)
 ends_by a b (Ok x) old left e p before log h =
     let text : steps_text 0 log ++ summary_text old.counted ≡ report_text log = ap (λ (s : Summary). steps_text 0 log ++ summary_text s) h.counted in

@@ -30,16 +30,19 @@ abbrev pub walk1_then : (q : Asked) (left : ℕ) (step : Step Leaf1 Table1) → 
 walk1_then q left step = step_then (walk1_below q left) step
 
 -- the entry that the code makes is the one that the address selects
-pub entry_here : (u : Under) (left : ℕ) (t : Table1) (p : ℕ) → IsUnder u → p ≡ place_of u.sizes left t.address u.address → record { table = t; place = p; address = u.address; left = left } ≡ entry1 (asked_under u) left t
+pub entry_here : (u : Under) (left : ℕ) (t : Table1) (p : ℕ) → IsUnder u → p ≡ place_of u.sizes left t.address u.address
+    → record { table = t; place = p; address = u.address; left = left } ≡ entry1 (asked_under u) left t
 entry_here u left t p h e =
     let here : p ≡ place_of u.sizes left t.address (untagged u.access.now.va) = e ∙ ap (place_of u.sizes left t.address) h.address in
     λ i. record { table = t; place = here i; address = h.address i; left = left }
 
-walk1_from_asks : (q : Asked) (left : ℕ) (t : Table1) → walk1_from q left t ≡ ask (entry1 q left t) (λ i. walk1_then q left (step1 q (entry1 q left t) i.pa i.value))
+walk1_from_asks : (q : Asked) (left : ℕ) (t : Table1)
+    → walk1_from q left t ≡ ask (entry1 q left t) (λ i. walk1_then q left (step1 q (entry1 q left t) i.pa i.value))
 walk1_from_asks q zero t = refl
 walk1_from_asks q (suc left) t = refl
 
-pub asks_here : (q : Asked) (left : ℕ) (t : Table1) (e : Entry1) → e ≡ entry1 q left t → walk1_from q left t ≡ ask e (λ i. walk1_then q left (step1 q e i.pa i.value))
+pub asks_here : (q : Asked) (left : ℕ) (t : Table1) (e : Entry1) → e ≡ entry1 q left t
+    → walk1_from q left t ≡ ask e (λ i. walk1_then q left (step1 q e i.pa i.value))
 asks_here q left t e here = walk1_from_asks q left t ∙ ap (λ n. ask n (λ i. walk1_then q left (step1 q n i.pa i.value))) (sym here)
 
 pub walk1_below_less : (q : Asked) (left : ℕ) (t : Table1) → 0 < left → walk1_below q left t ≡ walk1_from q (left - 1) t
@@ -56,12 +59,14 @@ last_same [] (y ∷ ys) i j e = let f : [] ≡ ys ++ j ∷ [] = cc in none_behin
 last_same (x ∷ xs) [] i j e = let f : [] ≡ xs ++ i ∷ [] = cc in none_behind xs i (i ≡ j) f
 last_same (x ∷ xs) (y ∷ ys) i j e = let f : xs ++ i ∷ [] ≡ ys ++ j ∷ [] = cc in last_same xs ys i j f
 
-module _ {S : Type 0} (gives : S → ℤ → ℕ → List Item → Result ℕ Stop → S → Type 0) (q : Asked) (left : ℕ) (t : Table1) (e : Entry1) (here : e ≡ entry1 q left t) where
+module _ {S : Type 0} (gives : S → ℤ → ℕ → List Item → Result ℕ Stop → S → Type 0) (q : Asked) (left : ℕ) (t : Table1) (e : Entry1)
+    (here : e ≡ entry1 q left t) where
   abbrev pub value : Item → ℕ
   value i = i.value
 
   -- the supply stopped
-  pub word_stopped : (before after : S) (old new : List Item) (stop : Stop) (result : Result Leaf1 Stop) → Gave (gives before (level_of e.left) e.place) old new (Err stop) after → result ≡ Err stop → Walked1 gives q left t before old new result after
+  pub word_stopped : (before after : S) (old new : List Item) (stop : Stop) (result : Result Leaf1 Stop)
+      → Gave (gives before (level_of e.left) e.place) old new (Err stop) after → result ≡ Err stop → Walked1 gives q left t before old new result after
   word_stopped before after old new stop result g a = record {
     more = g.more;
     end = Err stop;
@@ -70,21 +75,26 @@ module _ {S : Type 0} (gives : S → ℤ → ℕ → List Item → Result ℕ St
     answer = a;
   }
 
-  module _ (before mid : S) (old middle : List Item) (v p : ℕ) (g : Gave (gives before (level_of e.left) e.place) old middle (Ok v) mid) (last : IsLastPlace middle p) where
+  module _ (before mid : S) (old middle : List Item) (v p : ℕ) (g : Gave (gives before (level_of e.left) e.place) old middle (Ok v) mid)
+      (last : IsLastPlace middle p) where
     -- the place of the word's own item
     place_is : p ≡ g.word.1.pa
     place_is =
-        let grown : middle ≡ (old ++ g.word.0) ++ g.word.1 ∷ [] = g.grown ∙ ap (λ more. old ++ more) g.word.2 ∙ sym (append_assoc old g.word.0 (g.word.1 ∷ [])) in
+        let grown : middle ≡ (old ++ g.word.0) ++ g.word.1 ∷ [] =
+            g.grown ∙ ap (λ more. old ++ more) g.word.2 ∙ sym (append_assoc old g.word.0 (g.word.1 ∷ [])) in
         last.3 ∙ ap (λ i. i.pa) (last_same last.0 (old ++ g.word.0) last.1 g.word.1 (sym last.2 ∙ grown))
 
     -- what follows the word follows on the supply's items
-    went : (rest : List Item) (end : Result (End Leaf1) Stop) (after : S) → Ran value (by_entry gives) (walk1_then q left (step1 q e p v)) mid rest end after → Ran value (by_entry gives) (walk1_from q left t) before (g.more ++ rest) end after
+    went : (rest : List Item) (end : Result (End Leaf1) Stop) (after : S) → Ran value (by_entry gives) (walk1_then q left (step1 q e p v)) mid rest end after
+        → Ran value (by_entry gives) (walk1_from q left t) before (g.more ++ rest) end after
     went rest end after h =
         let given : gives before (level_of e.left) e.place (g.word.0 ++ g.word.1 ∷ []) (Ok g.word.1.value) mid = rw (← g.word.2, g.word.3) g.given in
         let next : Ran value (by_entry gives) (walk1_then q left (step1 q e g.word.1.pa g.word.1.value)) mid rest end after = rw (← place_is, g.word.3) h in
-        subst (λ w. Ran value (by_entry gives) w before (g.more ++ rest) end after) (sym (asks_here q left t e here)) (inl (g.word.0, g.word.1, rest, mid, given, ap (λ more. more ++ rest) g.word.2, next))
+        subst (λ w. Ran value (by_entry gives) w before (g.more ++ rest) end after) (sym (asks_here q left t e here))
+            (inl (g.word.0, g.word.1, rest, mid, given, ap (λ more. more ++ rest) g.word.2, next))
 
-    ends : (d : End Leaf1) (result : Result Leaf1 Stop) → walk1_then q left (step1 q e p v) ≡ done d → result ≡ answer_of (Ok d) → Walked1 gives q left t before old middle result mid
+    ends : (d : End Leaf1) (result : Result Leaf1 Stop) → walk1_then q left (step1 q e p v) ≡ done d → result ≡ answer_of (Ok d)
+        → Walked1 gives q left t before old middle result mid
     ends d result w a = record {
       more = g.more ++ [];
       end = Ok d;
@@ -94,19 +104,23 @@ module _ {S : Type 0} (gives : S → ℤ → ℕ → List Item → Result ℕ St
     }
 
     -- the word is that of a leaf
-    pub word_reaches : (l : Leaf1) (result : Result Leaf1 Stop) → Reached l ≡ step1 q e p v → result ≡ Ok l → Walked1 gives q left t before old middle result mid
+    pub word_reaches : (l : Leaf1) (result : Result Leaf1 Stop) → Reached l ≡ step1 q e p v → result ≡ Ok l
+        → Walked1 gives q left t before old middle result mid
     word_reaches l result step a = ends (reaches l) result (ap (walk1_then q left) (sym step)) a
 
     -- the word is a fault
-    pub word_stops : (f : Fault) (result : Result Leaf1 Stop) → Stopped f ≡ step1 q e p v → result ≡ Err (FaultStop f) → Walked1 gives q left t before old middle result mid
+    pub word_stops : (f : Fault) (result : Result Leaf1 Stop) → Stopped f ≡ step1 q e p v → result ≡ Err (FaultStop f)
+        → Walked1 gives q left t before old middle result mid
     word_stops f result step a = ends (stops f) result (ap (walk1_then q left) (sym step)) a
 
     -- the word is that of a table
-    pub word_goes : (after : S) (next : Table1) (new : List Item) (result : Result Leaf1 Stop) → Down next ≡ step1 q e p v → 0 < left → Walked1 gives q (left - 1) next mid middle new result after → Walked1 gives q left t before old new result after
+    pub word_goes : (after : S) (next : Table1) (new : List Item) (result : Result Leaf1 Stop) → Down next ≡ step1 q e p v → 0 < left
+        → Walked1 gives q (left - 1) next mid middle new result after → Walked1 gives q left t before old new result after
     word_goes after next new result step l w = record {
       more = g.more ++ w.more;
       end = w.end;
       grown = w.grown ∙ ap (λ z. z ++ w.more) g.grown ∙ append_assoc old g.more w.more;
-      ran = went w.more w.end after (subst (λ k. Ran value (by_entry gives) k mid w.more w.end after) (sym (ap (walk1_then q left) (sym step) ∙ walk1_below_less q left next l)) w.ran);
+      ran = went w.more w.end after
+          (subst (λ k. Ran value (by_entry gives) k mid w.more w.end after) (sym (ap (walk1_then q left) (sym step) ∙ walk1_below_less q left next l)) w.ran);
       answer = w.answer;
     }

@@ -32,7 +32,8 @@ asks_base q h = sym (off_with (is_refused2 q.config q.ipa) h (done (stops (fault
 
 -- an IPA that is refused asks for nothing
 pub asks_nothing : (q : Asked2) → is_refused2 q.config q.ipa ≡ true → walk2 q ≡ done (stops (fault2 q Translation most_left))
-asks_nothing q h = sym (on_with (is_refused2 q.config q.ipa) h (done (stops (fault2 q Translation most_left))) (ask (base2 q.ipa) (λ i. walk2_behind q i.value)))
+asks_nothing q h =
+    sym (on_with (is_refused2 q.config q.ipa) h (done (stops (fault2 q Translation most_left))) (ask (base2 q.ipa) (λ i. walk2_behind q i.value)))
 
 module _ (r : Regime) (q : Asked2) (left table p : ℕ) (here : p ≡ place_of q.sizes left table q.ipa) (items : List Item) (at : ℕ) where
   abbrev pub Here : Stands Need Item (End Leaf2) → Type 0
@@ -61,8 +62,11 @@ module _ (r : Regime) (q : Asked2) (left table p : ℕ) (here : p ≡ place_of q
 
       -- it is that of a table
       pub kept_goes : (next : ℕ) → Down next ≡ step2 q left i.pa i.value → 0 < left → Here (on (fits r) (walk2_from q (left - 1) next) (drop (at + 1) items))
-      kept_goes next step few = kept_by ∙ ap (λ s. on (fits r) (walk2_then q left s) (drop (at + 1) items)) (sym step) ∙ ap (λ t. on (fits r) t (drop (at + 1) items)) (walk2_below_less q left next few)
+      kept_goes next step few =
+          kept_by ∙ ap (λ s. on (fits r) (walk2_then q left s) (drop (at + 1) items)) (sym step)
+          ∙ ap (λ t. on (fits r) t (drop (at + 1) items)) (walk2_below_less q left next few)
 
 -- items are left over behind a leaf
-pub left_over : (s : Stands Need Item (End Leaf2)) (l : Leaf2) (items : List Item) (at : ℕ) → at < length items → s ≡ ends (reaches l) (drop at items) → IsReplayed2 Other s
+pub left_over : (s : Stands Need Item (End Leaf2)) (l : Leaf2) (items : List Item) (at : ℕ) → at < length items → s ≡ ends (reaches l) (drop at items)
+    → IsReplayed2 Other s
 left_over s l items at h e = (λ m d. (let none : drop at items ≡ [] = cc in absurd (omega (arith, ap length none, length-drop at items))), λ w d. absurd cc)

@@ -33,7 +33,8 @@ word_at q left table place = record { stage = S2; left = left; place = place; s1
 abbrev pub walk2_then : (q : Asked2) (left : ℕ) (step : Step Leaf2 ℕ) → Ask Need Item (End Leaf2)
 walk2_then q left step = step_then (walk2_below q left) step
 
-walk2_from_asks : (q : Asked2) (left table : ℕ) → walk2_from q left table ≡ ask (word (word_at q left table (place_of q.sizes left table q.ipa))) (λ i. walk2_then q left (step2 q left i.pa i.value))
+walk2_from_asks : (q : Asked2) (left table : ℕ)
+    → walk2_from q left table ≡ ask (word (word_at q left table (place_of q.sizes left table q.ipa))) (λ i. walk2_then q left (step2 q left i.pa i.value))
 walk2_from_asks q zero table = refl
 walk2_from_asks q (suc left) table = refl
 
@@ -41,28 +42,38 @@ pub walk2_below_less : (q : Asked2) (left table : ℕ) → 0 < left → walk2_be
 walk2_below_less q zero table h = absurd (omega (arith, h))
 walk2_below_less q (suc left) table h = let e : suc left - 1 ≡ left = omega arith in rw e refl
 
-pub asks_here : (q : Asked2) (left table p : ℕ) → p ≡ place_of q.sizes left table q.ipa → walk2_from q left table ≡ ask (word (word_at q left table p)) (λ i. walk2_then q left (step2 q left i.pa i.value))
-asks_here q left table p here = walk2_from_asks q left table ∙ ap (λ w. ask (word (word_at q left table w)) (λ i. walk2_then q left (step2 q left i.pa i.value))) (sym here)
+pub asks_here : (q : Asked2) (left table p : ℕ) → p ≡ place_of q.sizes left table q.ipa
+    → walk2_from q left table ≡ ask (word (word_at q left table p)) (λ i. walk2_then q left (step2 q left i.pa i.value))
+asks_here q left table p here =
+    walk2_from_asks q left table ∙ ap (λ w. ask (word (word_at q left table w)) (λ i. walk2_then q left (step2 q left i.pa i.value))) (sym here)
 
 module _ (m : Told) (k : ℕ) (q : Asked2) (left table p : ℕ) (here : p ≡ place_of q.sizes left table q.ipa) where
   -- the word is lacking
-  pub word_lacks : (F : Type 0) (old new : List Item) (s : Result Leaf2 Stop) → new ≡ old → s ≡ result_of (lacks (word (word_at q left table p))) → Misses m p F → Walked (ReadsWord k m) m F (walk2_from q left table) old new s
+  pub word_lacks : (F : Type 0) (old new : List Item) (s : Result Leaf2 Stop) → new ≡ old → s ≡ result_of (lacks (word (word_at q left table p)))
+      → Misses m p F → Walked (ReadsWord k m) m F (walk2_from q left table) old new s
   word_lacks F old new s n a h = walked_lacks (ReadsWord k m) m F _ (word_at q left table p) _ old new s (asks_here q left table p here) n a h
 
   module _ (v : ℕ) (old mid : List Item) (grown : mid ≡ old ++ word_item k S2 (level_of left) p v ∷ []) (held : Holds m p v) where
-    word_ends : (F : Type 0) (d : End Leaf2) (s : Result Leaf2 Stop) → walk2_then q left (step2 q left p v) ≡ done d → s ≡ result_of (ended d) → Walked (ReadsWord k m) m F (walk2_from q left table) old mid s
-    word_ends F d s w a = walked_ends (ReadsWord k m) m F _ (word (word_at q left table p)) _ (word_item k S2 (level_of left) p v) d old mid s (asks_here q left table p here) grown (refl, held) w a
+    word_ends : (F : Type 0) (d : End Leaf2) (s : Result Leaf2 Stop) → walk2_then q left (step2 q left p v) ≡ done d → s ≡ result_of (ended d)
+        → Walked (ReadsWord k m) m F (walk2_from q left table) old mid s
+    word_ends F d s w a =
+        walked_ends (ReadsWord k m) m F _ (word (word_at q left table p)) _ (word_item k S2 (level_of left) p v) d old mid s (asks_here q left table p here)
+        grown (refl, held) w a
 
     -- the word is that of a leaf
-    pub word_reaches : (F : Type 0) (l : Leaf2) (s : Result Leaf2 Stop) → Reached l ≡ step2 q left p v → s ≡ Ok l → Walked (ReadsWord k m) m F (walk2_from q left table) old mid s
+    pub word_reaches : (F : Type 0) (l : Leaf2) (s : Result Leaf2 Stop) → Reached l ≡ step2 q left p v → s ≡ Ok l
+        → Walked (ReadsWord k m) m F (walk2_from q left table) old mid s
     word_reaches F l s step a = word_ends F (reaches l) s (ap (walk2_then q left) (sym step)) a
 
     -- the word is a fault
-    pub word_stops : (F : Type 0) (f : Fault) (s : Result Leaf2 Stop) → Stopped f ≡ step2 q left p v → s ≡ Err (FaultStop f) → Walked (ReadsWord k m) m F (walk2_from q left table) old mid s
+    pub word_stops : (F : Type 0) (f : Fault) (s : Result Leaf2 Stop) → Stopped f ≡ step2 q left p v → s ≡ Err (FaultStop f)
+        → Walked (ReadsWord k m) m F (walk2_from q left table) old mid s
     word_stops F f s step a = word_ends F (stops f) s (ap (walk2_then q left) (sym step)) a
 
     -- the word is that of a table
-    pub word_goes : (F G : Type 0) (next : ℕ) (new : List Item) (s : Result Leaf2 Stop) → Down next ≡ step2 q left p v → 0 < left → (F → G) → Walked (ReadsWord k m) m F (walk2_from q (left - 1) next) mid new s → Walked (ReadsWord k m) m G (walk2_from q left table) old new s
+    pub word_goes : (F G : Type 0) (next : ℕ) (new : List Item) (s : Result Leaf2 Stop) → Down next ≡ step2 q left p v → 0 < left → (F → G)
+        → Walked (ReadsWord k m) m F (walk2_from q (left - 1) next) mid new s → Walked (ReadsWord k m) m G (walk2_from q left table) old new s
     word_goes F G next new s step l f h =
         let w : walk2_then q left (step2 q left p v) ≡ walk2_from q (left - 1) next = ap (walk2_then q left) (sym step) ∙ walk2_below_less q left next l in
-        walked_goes (ReadsWord k m) m F G _ (word (word_at q left table p)) _ (word_item k S2 (level_of left) p v) _ old mid new s (asks_here q left table p here) grown (refl, held) w f h
+        walked_goes (ReadsWord k m) m F G _ (word (word_at q left table p)) _ (word_item k S2 (level_of left) p v) _ old mid new s
+            (asks_here q left table p here) grown (refl, held) w f h

@@ -40,7 +40,8 @@ level_most (suc (suc (suc zero))) h = omega (arith, ints)
 level_most (suc (suc (suc (suc n)))) h = absurd (omega (arith, h))
 
 -- a table with so many levels left, from the start level down
-pub table_within : (c : Config) (from : From2) (n : Sizes) (left : ℕ) → n ≡ sizes2 c → from.level ≡ level_of left → left ≤ n.start → n.start ≤ most_left → from.base < 2 ^ 52 → from.base % 8 ≡ 0 → IsTableOf c from
+pub table_within : (c : Config) (from : From2) (n : Sizes) (left : ℕ) → n ≡ sizes2 c → from.level ≡ level_of left → left ≤ n.start → n.start ≤ most_left
+    → from.base < 2 ^ 52 → from.base % 8 ≡ 0 → IsTableOf c from
 table_within c from n left e l w m b r =
     let few : left ≤ most_left = omega arith in
     record {
@@ -52,7 +53,8 @@ table_within c from n left e l w m b r =
     }
 
 -- the start table is a table of its stage
-pub table2_of : (c : Config) (from : From2) (n : Sizes) → n ≡ sizes2 c → from.level ≡ level_of n.start → n.start ≤ most_left → from.base < 2 ^ 52 → from.base % 8 ≡ 0 → IsTableOf c from
+pub table2_of : (c : Config) (from : From2) (n : Sizes) → n ≡ sizes2 c → from.level ≡ level_of n.start → n.start ≤ most_left → from.base < 2 ^ 52
+    → from.base % 8 ≡ 0 → IsTableOf c from
 table2_of c from n e l m b r = table_within c from n n.start e l (omega arith) m b r
 
 unwrapped : (o : Option ℕ) → ((l : ℕ) → o ≡ Some l → l ≤ 3) → unwrap_or o 0 ≤ most_left

@@ -47,7 +47,8 @@ base_top c s i h = both_top (stage_eq i.stage S1) (is_base i.what) _ (first_true
 pub none_top : (c : Config) (s : Side) (items : List Item) → length items ≡ 0 → EndsAtTop c s items → ⊥
 none_top c s items e t = absurd (omega (arith, e, ap length t.2, length-append t.0 (t.1 ∷ [])))
 
-by_first : {N I A : Type 0} (fit : N → I → Bool) (t : Ask N I A) (n : N) (k : I → Ask N I A) (i : I) (rest : List I) → t ≡ ask n k → fit n i ≡ true → on fit t (i ∷ rest) ≡ on fit (k i) rest
+by_first : {N I A : Type 0} (fit : N → I → Bool) (t : Ask N I A) (n : N) (k : I → Ask N I A) (i : I) (rest : List I) → t ≡ ask n k → fit n i ≡ true
+    → on fit t (i ∷ rest) ≡ on fit (k i) rest
 by_first fit t n k i rest e f = rw (e, f) refl
 
 module _ (c : Config) (a : Access) (items : List Item) (m : c.m ≡ true) (ok : is_refused1 c a ≡ false) where
@@ -58,7 +59,8 @@ module _ (c : Config) (a : Access) (items : List Item) (m : c.m ≡ true) (ok : 
   q = asked c true a
 
   asks : stage1 q ≡ ask base1 (λ i. stage1_behind q i.value)
-  asks = on_with c.m m (stage1_on q) (stage1_off q) ∙ off_with (is_refused1 c a) ok (done (stops (fault1 Translation most_left))) (ask base1 (λ i. stage1_behind q i.value))
+  asks = on_with c.m m (stage1_on q) (stage1_off q)
+      ∙ off_with (is_refused1 c a) ok (done (stops (fault1 Translation most_left))) (ask base1 (λ i. stage1_behind q i.value))
 
   -- the list is empty
   pub start_none : length items ≡ 0 → IsStoodOn c a items Within
@@ -73,10 +75,13 @@ module _ (c : Config) (a : Access) (items : List Item) (m : c.m ≡ true) (ok : 
       by_base = asks_by (fits r) (stage1 q) base1 (λ i. stage1_behind q i.value) asks items 0 i l e (sym f)
 
       -- the base is too large
-      pub start_large : true ≡ is_too_large (sizes1 c (side_of a.va)) i.value → (d : Fault) → d ≡ fault1 AddressSize most_left → IsStoodOn c a items (Refused d 1)
+      pub start_large : true ≡ is_too_large (sizes1 c (side_of a.va)) i.value → (d : Fault) → d ≡ fault1 AddressSize most_left
+          → IsStoodOn c a items (Refused d 1)
       start_large h d p = (
         omega (arith, l),
-        by_base ∙ ap (λ t. on (fits r) t (drop 1 items)) (on_with (is_too_large (sizes1 c (side_of a.va)) i.value) (sym h) (done (stops (fault1 AddressSize most_left))) (stage1_from q (sizes1 c (side_of a.va)).start record { address = i.value; bits = no_bits })) ∙ ap (λ z. ends (stops z) (drop 1 items)) (sym p),
+        by_base ∙ ap (λ t. on (fits r) t (drop 1 items))
+            (on_with (is_too_large (sizes1 c (side_of a.va)) i.value) (sym h) (done (stops (fault1 AddressSize most_left)))
+            (stage1_from q (sizes1 c (side_of a.va)).start record { address = i.value; bits = no_bits })) ∙ ap (λ z. ends (stops z) (drop 1 items)) (sym p),
       )
 
       module _ (h : false ≡ is_too_large (sizes1 c (side_of a.va)) i.value) where
@@ -84,7 +89,10 @@ module _ (c : Config) (a : Access) (items : List Item) (m : c.m ≡ true) (ok : 
         t = record { address = i.value; bits = no_bits }
 
         behind : (rest : List Item) → on (fits r) (stage1_behind q i.value) rest ≡ stands1 c a (sizes1 c (side_of a.va)).start t rest
-        behind rest = ap (λ w. on (fits r) w rest) (off_with (is_too_large (sizes1 c (side_of a.va)) i.value) (sym h) (done (stops (fault1 AddressSize most_left))) (stage1_from q (sizes1 c (side_of a.va)).start t))
+        behind rest =
+            ap (λ w. on (fits r) w rest)
+            (off_with (is_too_large (sizes1 c (side_of a.va)) i.value) (sym h) (done (stops (fault1 AddressSize most_left)))
+            (stage1_from q (sizes1 c (side_of a.va)).start t))
 
         here : stands_stage1 c a items ≡ stands1 c a (sizes1 c (side_of a.va)).start t (drop 1 items)
         here = by_base ∙ behind (drop 1 items)
@@ -108,18 +116,24 @@ module _ (c : Config) (a : Access) (items : List Item) (m : c.m ≡ true) (ok : 
         started Unfit d = here ∙ d
 
 -- stage 1 is off
-pub off_stands : (c : Config) (a : Access) (items : List Item) → c.m ≡ false → is_refused_off c a ≡ false → stands_stage1 c a items ≡ ends (reaches (off_leaf c a)) items
+pub off_stands : (c : Config) (a : Access) (items : List Item) → c.m ≡ false → is_refused_off c a ≡ false
+    → stands_stage1 c a items ≡ ends (reaches (off_leaf c a)) items
 off_stands c a items m ok =
     ap (λ w. on (fits (regime_of c (side_of a.va))) w items) (off_with c.m m (stage1_on (asked c true a)) (stage1_off (asked c true a)))
     ∙ ap (λ z. ends z items) (off_with (is_refused_off c a) ok (stops (fault1 AddressSize most_left)) (reaches (off_leaf c a)))
 
-refused_at : (m : Bool) (c : Config) (a : Access) (f : Fault) (items : List Item) → Err f ≡ (if m then begin1_on c a else (if is_refused_off c a then Err (refusal S1 false AddressSize) else Ok (Off (a.va % 2 ^ 52)))) → on (fits (regime_of c (side_of a.va))) (if m then stage1_on (asked c true a) else stage1_off (asked c true a)) items ≡ ends (stops f) items
+refused_at : (m : Bool) (c : Config) (a : Access) (f : Fault) (items : List Item)
+    → Err f ≡ (if m then begin1_on c a else (if is_refused_off c a then Err (refusal S1 false AddressSize) else Ok (Off (a.va % 2 ^ 52))))
+    → on (fits (regime_of c (side_of a.va))) (if m then stage1_on (asked c true a) else stage1_off (asked c true a)) items ≡ ends (stops f) items
 refused_at true c a f items h =
     let k = err_by (is_refused1 c a) (refusal S1 false Translation) f _ h in
-    ap (λ w. on (fits (regime_of c (side_of a.va))) w items) (on_with (is_refused1 c a) k.0 (done (stops (fault1 Translation most_left))) (ask base1 (λ i. stage1_behind (asked c true a) i.value))) ∙ ap (λ z. ends (stops z) items) (sym k.1)
+    ap (λ w. on (fits (regime_of c (side_of a.va))) w items)
+        (on_with (is_refused1 c a) k.0 (done (stops (fault1 Translation most_left))) (ask base1 (λ i. stage1_behind (asked c true a) i.value)))
+        ∙ ap (λ z. ends (stops z) items) (sym k.1)
 refused_at false c a f items h =
     let k = err_by (is_refused_off c a) (refusal S1 false AddressSize) f _ h in
-    ap (λ z. ends z items) (on_with (is_refused_off c a) k.0 (stops (fault1 AddressSize most_left)) (reaches (off_leaf c a))) ∙ ap (λ z. ends (stops z) items) (sym k.1)
+    ap (λ z. ends z items) (on_with (is_refused_off c a) k.0 (stops (fault1 AddressSize most_left)) (reaches (off_leaf c a)))
+        ∙ ap (λ z. ends (stops z) items) (sym k.1)
 
 -- the access is refused before the base
 pub refused_stands : (c : Config) (a : Access) (f : Fault) (items : List Item) → Err f ≡ begin1_of c a → stands_stage1 c a items ≡ ends (stops f) items

@@ -41,10 +41,12 @@ refused_begin2 c ipa p f h = err_by (is_refused2 c ipa) (refusal S2 p Translatio
 abbrev pub first2 : (regs : Regs) → From2
 first2 regs = record { base = start_base2 regs; level = level_of (sizes2 (config_of regs)).start }
 
-pub rooted2 : (regs : Regs) (p : Bool) (from : From2) → Ok from ≡ root2_of regs p → (is_too_large (sizes2 (config_of regs)) (start_base2 regs) ≡ false) × (from ≡ first2 regs)
+pub rooted2 : (regs : Regs) (p : Bool) (from : From2) → Ok from ≡ root2_of regs p
+    → (is_too_large (sizes2 (config_of regs)) (start_base2 regs) ≡ false) × (from ≡ first2 regs)
 rooted2 regs p from h = ok_by (is_too_large (sizes2 (config_of regs)) (start_base2 regs)) (refusal S2 p AddressSize) (first2 regs) from h
 
-pub refused_root2 : (regs : Regs) (p : Bool) (f : Fault) → Err f ≡ root2_of regs p → (is_too_large (sizes2 (config_of regs)) (start_base2 regs) ≡ true) × (f ≡ refusal S2 p AddressSize)
+pub refused_root2 : (regs : Regs) (p : Bool) (f : Fault) → Err f ≡ root2_of regs p
+    → (is_too_large (sizes2 (config_of regs)) (start_base2 regs) ≡ true) × (f ≡ refusal S2 p AddressSize)
 refused_root2 regs p f h = err_by (is_too_large (sizes2 (config_of regs)) (start_base2 regs)) (refusal S2 p AddressSize) f (first2 regs) h
 
 module _ (under : RegsAt) (m : Told) (p : Bool) (ipa : ℕ) where
@@ -60,18 +62,27 @@ module _ (under : RegsAt) (m : Told) (p : Bool) (ipa : ℕ) where
   word_reads (word w) i h = h
 
   -- the IPA is refused
-  pub walked_refused2 : (F : Type 0) (old new : List Item) (s : Result Leaf2 Stop) → is_refused2 (config_of under.regs) ipa ≡ true → new ≡ old → s ≡ Err (FaultStop (refusal S2 p Translation)) → Walked2 m F under p ipa old new s
+  pub walked_refused2 : (F : Type 0) (old new : List Item) (s : Result Leaf2 Stop) → is_refused2 (config_of under.regs) ipa ≡ true → new ≡ old
+      → s ≡ Err (FaultStop (refusal S2 p Translation)) → Walked2 m F under p ipa old new s
   walked_refused2 F old new s h n e =
-      subst (λ t. Walked (Reads2 under m) m F t old new s) (sym (on_with (is_refused2 (config_of under.regs) ipa) h (done (stops (fault2 q Translation most_left))) (ask (base2 ipa) (λ i. walk2_behind q i.value)))) (walked_done (Reads2 under m) m F (stops (fault2 q Translation most_left)) old new s n e)
+      subst (λ t. Walked (Reads2 under m) m F t old new s)
+          (sym (on_with (is_refused2 (config_of under.regs) ipa) h (done (stops (fault2 q Translation most_left)))
+          (ask (base2 ipa) (λ i. walk2_behind q i.value)))) (walked_done (Reads2 under m) m F (stops (fault2 q Translation most_left)) old new s n e)
 
   module _ (ok : is_refused2 (config_of under.regs) ipa ≡ false) (old mid : List Item) (kept : mid ≡ old ++ base ∷ []) where
     asks : walk2 q ≡ ask (base2 ipa) (λ i. walk2_behind q i.value)
     asks = off_with (is_refused2 (config_of under.regs) ipa) ok (done (stops (fault2 q Translation most_left))) (ask (base2 ipa) (λ i. walk2_behind q i.value))
 
     -- the base is too large
-    pub walked_large2 : (F : Type 0) (s : Result Leaf2 Stop) → is_too_large (sizes2 (config_of under.regs)) (start_base2 under.regs) ≡ true → s ≡ Err (FaultStop (refusal S2 p AddressSize)) → Walked2 m F under p ipa old mid s
-    walked_large2 F s h e = walked_ends (Reads2 under m) m F _ (base2 ipa) _ base (stops (fault2 q AddressSize most_left)) old mid s asks kept refl (on_with _ h _ _) e
+    pub walked_large2 : (F : Type 0) (s : Result Leaf2 Stop) → is_too_large (sizes2 (config_of under.regs)) (start_base2 under.regs) ≡ true
+        → s ≡ Err (FaultStop (refusal S2 p AddressSize)) → Walked2 m F under p ipa old mid s
+    walked_large2 F s h e =
+        walked_ends (Reads2 under m) m F _ (base2 ipa) _ base (stops (fault2 q AddressSize most_left)) old mid s asks kept refl (on_with _ h _ _) e
 
     -- the walk goes on from the base
-    pub walked_from2 : (F : Type 0) (new : List Item) (s : Result Leaf2 Stop) → is_too_large (sizes2 (config_of under.regs)) (start_base2 under.regs) ≡ false → Walked (ReadsWord under.moment m) m F (walk2_from q (sizes2 (config_of under.regs)).start (start_base2 under.regs)) mid new s → Walked2 m F under p ipa old new s
-    walked_from2 F new s h w = walked_goes (Reads2 under m) m F F _ (base2 ipa) _ base _ old mid new s asks kept refl (off_with _ h _ _) (λ f. f) (walked_weaker (ReadsWord under.moment m) (Reads2 under m) m F word_reads _ mid new s w)
+    pub walked_from2 : (F : Type 0) (new : List Item) (s : Result Leaf2 Stop) → is_too_large (sizes2 (config_of under.regs)) (start_base2 under.regs) ≡ false
+        → Walked (ReadsWord under.moment m) m F (walk2_from q (sizes2 (config_of under.regs)).start (start_base2 under.regs)) mid new s
+        → Walked2 m F under p ipa old new s
+    walked_from2 F new s h w =
+        walked_goes (Reads2 under m) m F F _ (base2 ipa) _ base _ old mid new s asks kept refl (off_with _ h _ _) (λ f. f)
+        (walked_weaker (ReadsWord under.moment m) (Reads2 under m) m F word_reads _ mid new s w)

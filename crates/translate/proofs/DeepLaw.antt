@@ -43,12 +43,16 @@ module _ {S : Type 0} (memory : S → Told) (faults : S → ℕ) (keeps : S → 
   stays_keeps : ((s : S) → keeps s s) → ((a b c : S) → keeps a b → keeps b c → keeps a c) → Keeps (by_entry gives) Stays
   stays_keeps here then = record {
     here = λ s. record { same_under = refl; same_reference = refl; same = refl; later = omega arith; kept = here s.supply.now };
-    then = λ a b d h k. record { same_under = k.same_under ∙ h.same_under; same_reference = k.same_reference ∙ h.same_reference; same = k.same ∙ h.same; later = omega (arith, h.later, k.later); kept = then a.supply.now b.supply.now d.supply.now h.kept k.kept };
+    then = λ a b d h k.
+        record { same_under = k.same_under ∙ h.same_under; same_reference = k.same_reference ∙ h.same_reference; same = k.same ∙ h.same;
+        later = omega (arith, h.later, k.later); kept = then a.supply.now b.supply.now d.supply.now h.kept k.kept };
     each = λ s e items r t h. record { same_under = h.same_under; same_reference = h.same_reference; same = h.same; later = h.later; kept = h.kept };
   }
 
   -- what a walk over the supply keeps of it
-  pub deep_stays : ((s : S) → keeps s s) → ((a b c : S) → keeps a b → keeps b c → keeps a c) → (under : RegsAt) (a : Access) (left : ℕ) (table : Table1) (s t : Deep S) (old new : List Item) (r : Result Leaf1 Stop) → Walked1 gives (asked (config_of under.regs) true a) left table s old new r t → Stays s t
+  pub deep_stays : ((s : S) → keeps s s) → ((a b c : S) → keeps a b → keeps b c → keeps a c)
+      → (under : RegsAt) (a : Access) (left : ℕ) (table : Table1) (s t : Deep S) (old new : List Item) (r : Result Leaf1 Stop)
+      → Walked1 gives (asked (config_of under.regs) true a) left table s old new r t → Stays s t
   deep_stays here then under a left table s t old new r w = ran_keeps (λ i. i.value) (by_entry gives) Stays (stays_keeps here then) _ s w.more w.end t w.ran
 
   module _ (under : RegsAt) (side : Side) (m : Told) (f0 : ℕ) where
@@ -63,24 +67,29 @@ module _ {S : Type 0} (memory : S → Told) (faults : S → ℕ) (keeps : S → 
     abbrev pub Tells : Deep S → Stop → Fed Need (End Leaf1) → Type 0
     Tells s x e = (Err x ≡ result_of e) × LacksFor m (Rose f0 (faults s.supply.now)) e
 
-    stop_tells : (s' : Deep S) (x : Stop) (f : ℕ) → f0 ≤ f → f ≤ faults s'.supply.now → (e : Fed Need (Result Item Fault)) → LacksFor m (Rose f (faults s'.supply.now)) e → StopTells x e → StopsBy stops (Tells s') x e
+    stop_tells : (s' : Deep S) (x : Stop) (f : ℕ) → f0 ≤ f → f ≤ faults s'.supply.now → (e : Fed Need (Result Item Fault))
+        → LacksFor m (Rose f (faults s'.supply.now)) e → StopTells x e → StopsBy stops (Tells s') x e
     stop_tells s' x f a b (ended (Ok i)) h t = t
     stop_tells s' x f a b (ended (Err d)) h t = (ap Err t, tt)
     stop_tells s' x f a b (lacks base1) h t = absurd t
     stop_tells s' x f a b (lacks (base2 _)) h t = absurd t
-    stop_tells s' x f a b (lacks (word w)) h t = (ap Err t, misses_weaker m w.place _ _ (rose_weaker f0 f (faults s'.supply.now) (faults s'.supply.now) a (omega arith)) h)
+    stop_tells s' x f a b (lacks (word w)) h t =
+        (ap Err t, misses_weaker m w.place _ _ (rose_weaker f0 f (faults s'.supply.now) (faults s'.supply.now) a (omega arith)) h)
 
-    kept_then : (s s' : Deep S) → Kept s → s'.under.now ≡ s.under.now → memory s'.supply.now ≡ memory s.supply.now → faults s.supply.now ≤ faults s'.supply.now → Kept s'
+    kept_then : (s s' : Deep S) → Kept s → s'.under.now ≡ s.under.now → memory s'.supply.now ≡ memory s.supply.now
+        → faults s.supply.now ≤ faults s'.supply.now → Kept s'
     kept_then s s' k u e l = record { under_is = u ∙ k.under_is; memory_is = e ∙ k.memory_is; more = omega (arith, l, k.more) }
 
-    word_law : (s : Deep S) (e : Entry1) (front : List Item) (i : Item) (s' : Deep S) → Kept s → by_entry gives s e (front ++ i ∷ []) (Ok i.value) s' → Took (Reads2 under m) (how e) (front ++ i ∷ []) (ended (Ok i)) × Kept s'
+    word_law : (s : Deep S) (e : Entry1) (front : List Item) (i : Item) (s' : Deep S) → Kept s → by_entry gives s e (front ++ i ∷ []) (Ok i.value) s'
+        → Took (Reads2 under m) (how e) (front ++ i ∷ []) (ended (Ok i)) × Kept s'
     word_law s e front i s' k h =
         let w = h.had side e refl refl in
         let j = last_same front w.0 i w.1 w.2 in
         let t : Took (Reads2 under m) (how e) (front ++ i ∷ []) (ended (Ok i)) = rw (← k.under_is, ← k.memory_is) (rw (← j) at w.4) in
         (t, kept_then s s' k h.same_under h.same h.later)
 
-    stop_law : (s : Deep S) (e : Entry1) (items : List Item) (x : Stop) (s' : Deep S) → Kept s → by_entry gives s e items (Err x) s' → (d : Fed Need (Result Item Fault)) × Took (Reads2 under m) (how e) items d × StopsBy stops (Tells s') x d
+    stop_law : (s : Deep S) (e : Entry1) (items : List Item) (x : Stop) (s' : Deep S) → Kept s → by_entry gives s e items (Err x) s'
+        → (d : Fed Need (Result Item Fault)) × Took (Reads2 under m) (how e) items d × StopsBy stops (Tells s') x d
     stop_law s e items x s' k h =
         let w = h.had side e refl refl in
         let t : Took (Reads2 under m) (how e) items w.0 = rw (← k.under_is, ← k.memory_is) w.1 in
@@ -89,18 +98,22 @@ module _ {S : Type 0} (memory : S → Told) (faults : S → ℕ) (keeps : S → 
     pub law : Walks stops (λ i. i.value) (by_entry gives) (Reads2 under m) how Kept Tells
     law = record { word = word_law; stop = stop_law }
 
-    told : (s' : Deep S) (end : Result (End Leaf1) Stop) (e : Fed Need (End Leaf1)) → TellsEnd (Tells s') end e → (answer_of end ≡ result_of e) × LacksFor m (Rose f0 (faults s'.supply.now)) e
+    told : (s' : Deep S) (end : Result (End Leaf1) Stop) (e : Fed Need (End Leaf1)) → TellsEnd (Tells s') end e
+        → (answer_of end ≡ result_of e) × LacksFor m (Rose f0 (faults s'.supply.now)) e
     told s' (Ok (stops d)) e h = (rw h refl, rw h tt)
     told s' (Ok (reaches l)) e h = (rw h refl, rw h tt)
     told s' (Err x) e h = h
 
   -- stage 1 over the supply is stage 1 with the stage 2 of its words
-  pub deep_walked : (under : RegsAt) (a : Access) (left : ℕ) (table : Table1) (s s' : Deep S) (old new : List Item) (r : Result Leaf1 Stop) → s.under.now ≡ under → Walked1 gives (asked (config_of under.regs) true a) left table s old new r s' → WalkedFrom1 (memory s.supply.now) (Rose (faults s.supply.now) (faults s'.supply.now)) under a left table old new r
+  pub deep_walked : (under : RegsAt) (a : Access) (left : ℕ) (table : Table1) (s s' : Deep S) (old new : List Item) (r : Result Leaf1 Stop)
+      → s.under.now ≡ under → Walked1 gives (asked (config_of under.regs) true a) left table s old new r s'
+      → WalkedFrom1 (memory s.supply.now) (Rose (faults s.supply.now) (faults s'.supply.now)) under a left table old new r
   deep_walked under a left table s s' old new r u w =
       let m = memory s.supply.now in
       let f0 = faults s.supply.now in
       let k : Kept under (side_of a.va) m f0 s = record { under_is = u; memory_is = refl; more = omega arith } in
-      let d = ran_finer stops (λ i. i.value) (by_entry gives) (Reads2 under m) (how under (side_of a.va) m f0) (Kept under (side_of a.va) m f0) (Tells under (side_of a.va) m f0) (law under (side_of a.va) m f0) _ s w.more w.end s' k w.ran in
+      let d = ran_finer stops (λ i. i.value) (by_entry gives) (Reads2 under m) (how under (side_of a.va) m f0) (Kept under (side_of a.va) m f0)
+          (Tells under (side_of a.va) m f0) (law under (side_of a.va) m f0) _ s w.more w.end s' k w.ran in
       let q = told under (side_of a.va) m f0 s' w.end d.0 d.2 in
       record { more = w.more; end = d.0; grown = w.grown; took = d.1; cause = q.1; answer = w.answer ∙ q.0 }
 
@@ -114,6 +127,7 @@ line_stop m F (lacks base1) Conflict h a c = h
 line_stop m F (lacks (base2 x)) Conflict h a c = h
 line_stop m F (lacks (word w)) Conflict h a c = absurd cc
 
-pub line_of : {L : Type 0} (m : Told) (F : Type 0) (e : Fed Need (End L)) (r : Result L Stop) → LacksFor m F e → r ≡ result_of e → IfErr r HasCode → IfErr r HasLineStop
+pub line_of : {L : Type 0} (m : Told) (F : Type 0) (e : Fed Need (End L)) (r : Result L Stop) → LacksFor m F e → r ≡ result_of e → IfErr r HasCode
+    → IfErr r HasLineStop
 line_of m F e (Ok l) h a c = tt
 line_of m F e (Err x) h a c = line_stop m F e x h a c

@@ -89,7 +89,9 @@ if_only r true t u h k = h
 if_only r false t u h k = k
 
 pub walk2_only : (r : Regime) (q : Asked2) → Only2 r (walk2 q)
-walk2_only r q = if_only r (is_refused2 q.config q.ipa) _ _ tt (λ i h. base_deep r q.ipa i h, λ i. if_only r (is_too_large q.sizes i.value) _ _ tt (from_only r q q.sizes.start i.value))
+walk2_only r q =
+    if_only r (is_refused2 q.config q.ipa) _ _ tt
+    (λ i h. base_deep r q.ipa i h, λ i. if_only r (is_too_large q.sizes i.value) _ _ tt (from_only r q q.sizes.start i.value))
 
 ended_needs : {A : Type 0} (s : Stands Need Item A) (x : A) (items : List Item) (n : Need) (B : Type 0) → s ≡ ends x items → s ≡ needs n → B
 ended_needs s x items n B h k = absurd cc
@@ -100,7 +102,8 @@ read_needs r e p (i ∷ items) n h =
     let d = needs_true _ (ends (Ok i) items) n h in
     ended_needs (ends (Ok i) items) (Ok i) items n (i ∷ items ≡ []) refl d.1
 
-if_read : (r : Regime) (b : Bool) (e : Entry1) (p : ℕ) (x : Result Item Fault) (items : List Item) (n : Need) → on (fits r) (cond b (read1 e p) (done x)) items ≡ needs n → items ≡ []
+if_read : (r : Regime) (b : Bool) (e : Entry1) (p : ℕ) (x : Result Item Fault) (items : List Item) (n : Need)
+    → on (fits r) (cond b (read1 e p) (done x)) items ≡ needs n → items ≡ []
 if_read r true e p x items n h = read_needs r e p items n h
 if_read r false e p x items n h = absurd cc
 
@@ -108,17 +111,21 @@ by_needs : (r : Regime) (e : Entry1) (d : End Leaf2) (items : List Item) (n : Ne
 by_needs r e (stops f) items n h = absurd cc
 by_needs r e (reaches l) items n h = if_read r (is_readable r.config l) e l.pa _ items n h
 
-later_deep : (r : Regime) (e : Entry1) (items : List Item) (n : Need) → NeedsLater (fits r) (walk2 (asked2 r true e.place)) (read1_by r.config e) items n → AllDeep items
+later_deep : (r : Regime) (e : Entry1) (items : List Item) (n : Need) → NeedsLater (fits r) (walk2 (asked2 r true e.place)) (read1_by r.config e) items n
+    → AllDeep items
 later_deep r e items n d =
     let none : d.1 ≡ [] = by_needs r e d.0 d.1 n d.5 in
     let same : items ≡ d.2 = d.3 ∙ ap (λ z. d.2 ++ z) none ∙ append-nil d.2 in
     subst AllDeep (sym same) (ends_deep r (walk2 (asked2 r true e.place)) (walk2_only r (asked2 r true e.place)) d.2 d.0 d.4)
 
-after_deep : (r : Regime) (e : Entry1) (items : List Item) (n : Need) → on (fits r) (after (walk2 (asked2 r true e.place)) (read1_by r.config e)) items ≡ needs n → AllDeep items
+after_deep : (r : Regime) (e : Entry1) (items : List Item) (n : Need)
+    → on (fits r) (after (walk2 (asked2 r true e.place)) (read1_by r.config e)) items ≡ needs n → AllDeep items
 after_deep r e items n h =
-    elim (on_after_needs (fits r) (walk2 (asked2 r true e.place)) (read1_by r.config e) items n h) as (λ _. AllDeep items) [ inl d ↦ needs_deep r (walk2 (asked2 r true e.place)) (walk2_only r (asked2 r true e.place)) items n d | inr d ↦ later_deep r e items n d ]
+    elim (on_after_needs (fits r) (walk2 (asked2 r true e.place)) (read1_by r.config e) items n h) as (λ _. AllDeep items)
+        [ inl d ↦ needs_deep r (walk2 (asked2 r true e.place)) (walk2_only r (asked2 r true e.place)) items n d | inr d ↦ later_deep r e items n d ]
 
-vm_deep : (r : Regime) (b : Bool) (e : Entry1) (items : List Item) (n : Need) → on (fits r) (cond b (after (walk2 (asked2 r true e.place)) (read1_by r.config e)) (read1 e e.place)) items ≡ needs n → AllDeep items
+vm_deep : (r : Regime) (b : Bool) (e : Entry1) (items : List Item) (n : Need)
+    → on (fits r) (cond b (after (walk2 (asked2 r true e.place)) (read1_by r.config e)) (read1 e e.place)) items ≡ needs n → AllDeep items
 vm_deep r true e items n h = after_deep r e items n h
 vm_deep r false e items n h = subst AllDeep (sym (read_needs r e e.place items n h)) tt
 

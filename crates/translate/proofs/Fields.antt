@@ -20,8 +20,10 @@ unfolding sizes2
 same_sizes2 c regs h = subst (λ z. sizes2 z ≡ sizes2 (config_of regs)) (sym h) refl
 
 -- a base that is not too large is a table
-pub root1_small : (regs : Regs) (s : Side) → is_too_large (sizes1 (config_of regs) s) (start_base1 regs s) ≡ false → Ok record { base = start_base1 regs s; level = level_of (sizes1 (config_of regs) s).start; tables = no_bits } ≡ root1_of regs s
+pub root1_small : (regs : Regs) (s : Side) → is_too_large (sizes1 (config_of regs) s) (start_base1 regs s) ≡ false
+    → Ok record { base = start_base1 regs s; level = level_of (sizes1 (config_of regs) s).start; tables = no_bits } ≡ root1_of regs s
 root1_small regs s h = rw h refl
 
-pub root2_small : (regs : Regs) (s1ptw : Bool) → is_too_large (sizes2 (config_of regs)) (start_base2 regs) ≡ false → Ok record { base = start_base2 regs; level = level_of (sizes2 (config_of regs)).start } ≡ root2_of regs s1ptw
+pub root2_small : (regs : Regs) (s1ptw : Bool) → is_too_large (sizes2 (config_of regs)) (start_base2 regs) ≡ false
+    → Ok record { base = start_base2 regs; level = level_of (sizes2 (config_of regs)).start } ≡ root2_of regs s1ptw
 root2_small regs s1ptw h = rw h refl

@@ -49,17 +49,22 @@ pub record Begins (c : Config) (a : Access) (side : Side) (level : ℤ) : Type 0
   pub side_is : side ≡ side_of a.va
   pub level_is : level ≡ level_of (sizes1 c (side_of a.va)).start
 
-begins_by : (c : Config) (a : Access) (side : Side) (level : ℤ) → c.m ≡ true → (is_refused1 c a ≡ false) × (On side level ≡ On (side_of a.va) (level_of (sizes1 c (side_of a.va)).start)) → Begins c a side level
+begins_by : (c : Config) (a : Access) (side : Side) (level : ℤ) → c.m ≡ true
+    → (is_refused1 c a ≡ false) × (On side level ≡ On (side_of a.va) (level_of (sizes1 c (side_of a.va)).start)) → Begins c a side level
 begins_by c a side level m h = let e = h.1 in record { on = m; accepted = h.0; side_is = cc; level_is = cc }
 
-begins_at : (m : Bool) (c : Config) (a : Access) (side : Side) (level : ℤ) → c.m ≡ m → Ok (On side level) ≡ (if m then begin1_on c a else (if is_refused_off c a then Err (refusal S1 false AddressSize) else Ok (Off (a.va % 2 ^ 52)))) → Begins c a side level
+begins_at : (m : Bool) (c : Config) (a : Access) (side : Side) (level : ℤ) → c.m ≡ m
+    → Ok (On side level) ≡ (if m then begin1_on c a else (if is_refused_off c a then Err (refusal S1 false AddressSize) else Ok (Off (a.va % 2 ^ 52))))
+    → Begins c a side level
 begins_at true c a side level e h = begins_by c a side level e (ok_by (is_refused1 c a) (refusal S1 false Translation) _ _ h)
 begins_at false c a side level e h = let k = ok_by (is_refused_off c a) (refusal S1 false AddressSize) _ _ h in let f = k.1 in absurd cc
 
 pub begins : (c : Config) (a : Access) (side : Side) (level : ℤ) → Ok (On side level) ≡ begin1_of c a → Begins c a side level
 begins c a side level h = begins_at c.m c a side level refl h
 
-is_off_at : (m : Bool) (c : Config) (a : Access) (ipa : ℕ) → c.m ≡ m → Ok (Off ipa) ≡ (if m then begin1_on c a else (if is_refused_off c a then Err (refusal S1 false AddressSize) else Ok (Off (a.va % 2 ^ 52)))) → (c.m ≡ false) × (is_refused_off c a ≡ false)
+is_off_at : (m : Bool) (c : Config) (a : Access) (ipa : ℕ) → c.m ≡ m
+    → Ok (Off ipa) ≡ (if m then begin1_on c a else (if is_refused_off c a then Err (refusal S1 false AddressSize) else Ok (Off (a.va % 2 ^ 52))))
+    → (c.m ≡ false) × (is_refused_off c a ≡ false)
 is_off_at true c a ipa e h = let k = ok_by (is_refused1 c a) (refusal S1 false Translation) _ _ h in let f = k.1 in absurd cc
 is_off_at false c a ipa e h = let k = ok_by (is_refused_off c a) (refusal S1 false AddressSize) _ _ h in (e, k.0)
 
@@ -71,10 +76,12 @@ is_off c a ipa h = is_off_at c.m c a ipa refl h
 abbrev pub first1 : (regs : Regs) (side : Side) → From1
 first1 regs s = record { base = start_base1 regs s; level = level_of (sizes1 (config_of regs) s).start; tables = no_bits }
 
-pub rooted1 : (regs : Regs) (s : Side) (from : From1) → Ok from ≡ root1_of regs s → (is_too_large (sizes1 (config_of regs) s) (start_base1 regs s) ≡ false) × (from ≡ first1 regs s)
+pub rooted1 : (regs : Regs) (s : Side) (from : From1) → Ok from ≡ root1_of regs s
+    → (is_too_large (sizes1 (config_of regs) s) (start_base1 regs s) ≡ false) × (from ≡ first1 regs s)
 rooted1 regs s from h = ok_by (is_too_large (sizes1 (config_of regs) s) (start_base1 regs s)) (refusal S1 false AddressSize) (first1 regs s) from h
 
-pub refused_root1 : (regs : Regs) (s : Side) (f : Fault) → Err f ≡ root1_of regs s → (is_too_large (sizes1 (config_of regs) s) (start_base1 regs s) ≡ true) × (f ≡ refusal S1 false AddressSize)
+pub refused_root1 : (regs : Regs) (s : Side) (f : Fault) → Err f ≡ root1_of regs s
+    → (is_too_large (sizes1 (config_of regs) s) (start_base1 regs s) ≡ true) × (f ≡ refusal S1 false AddressSize)
 refused_root1 regs s f h = err_by (is_too_large (sizes1 (config_of regs) s) (start_base1 regs s)) (refusal S1 false AddressSize) f (first1 regs s) h
 
 module _ (under : RegsAt) (a : Access) (m : Told) where
@@ -98,34 +105,56 @@ module _ (under : RegsAt) (a : Access) (m : Told) where
     asks = off_with (is_refused1 (config_of under.regs) a) ok (done (stops (fault1 Translation most_left))) (ask base1 (λ i. stage1_behind q i.value))
 
     -- the base is too large
-    pub walked_large1 : (F : Type 0) (s : Result Leaf1 Stop) → is_too_large (sizes1 (config_of under.regs) (side_of a.va)) (start_base1 under.regs (side_of a.va)) ≡ true → s ≡ Err (FaultStop (refusal S1 false AddressSize)) → WalkedOn1 m F under a mid s
+    pub walked_large1 : (F : Type 0) (s : Result Leaf1 Stop)
+        → is_too_large (sizes1 (config_of under.regs) (side_of a.va)) (start_base1 under.regs (side_of a.va)) ≡ true
+        → s ≡ Err (FaultStop (refusal S1 false AddressSize)) → WalkedOn1 m F under a mid s
     walked_large1 F s h e = walked_ends reads m F _ base1 _ first_item (stops (fault1 AddressSize most_left)) [] mid s asks kept refl (on_with _ h _ _) e
 
     -- the walk goes on from the base
-    pub walked_from1 : (F : Type 0) (new : List Item) (s : Result Leaf1 Stop) → is_too_large (sizes1 (config_of under.regs) (side_of a.va)) (start_base1 under.regs (side_of a.va)) ≡ false → WalkedFrom1 m F under a (sizes1 (config_of under.regs) (side_of a.va)).start record { address = start_base1 under.regs (side_of a.va); bits = no_bits } mid new s → WalkedOn1 m F under a new s
+    pub walked_from1 : (F : Type 0) (new : List Item) (s : Result Leaf1 Stop)
+        → is_too_large (sizes1 (config_of under.regs) (side_of a.va)) (start_base1 under.regs (side_of a.va)) ≡ false
+        → WalkedFrom1 m F under a (sizes1 (config_of under.regs) (side_of a.va)).start record
+        { address = start_base1 under.regs (side_of a.va); bits = no_bits } mid new s → WalkedOn1 m F under a new s
     walked_from1 F new s h w =
-        walked_goes reads m F F _ base1 _ first_item _ [] mid new s asks kept refl (off_with _ h _ _) (λ f. f) (walked_weaker (Reads2 under m) reads m F read_now _ mid new s w)
+        walked_goes reads m F F _ base1 _ first_item _ [] mid new s asks kept refl (off_with _ h _ _) (λ f. f)
+            (walked_weaker (Reads2 under m) reads m F read_now _ mid new s w)
 
   -- stage 1 is refused
-  refused_at : (F : Type 0) (old new : List Item) (f : Fault) (b : Bool) → Err f ≡ (if b then begin1_on (config_of under.regs) a else (if is_refused_off (config_of under.regs) a then Err (refusal S1 false AddressSize) else Ok (Off (a.va % 2 ^ 52)))) → new ≡ old → Walked reads m F (if b then stage1_on q else stage1_off q) old new (Err (FaultStop f))
+  refused_at : (F : Type 0) (old new : List Item) (f : Fault) (b : Bool)
+      → Err f ≡
+      (if b then begin1_on (config_of under.regs) a else
+      (if is_refused_off (config_of under.regs) a then Err (refusal S1 false AddressSize) else Ok (Off (a.va % 2 ^ 52)))) → new ≡ old
+      → Walked reads m F (if b then stage1_on q else stage1_off q) old new (Err (FaultStop f))
   refused_at F old new f true h n =
       let k = err_by (is_refused1 (config_of under.regs) a) (refusal S1 false Translation) f _ h in
-      subst (λ t. Walked reads m F t old new (Err (FaultStop f))) (sym (on_with (is_refused1 (config_of under.regs) a) k.0 (done (stops (fault1 Translation most_left))) (ask base1 (λ i. stage1_behind q i.value)))) (walked_done reads m F (stops (fault1 Translation most_left)) old new (Err (FaultStop f)) n (ap (λ x. Err (FaultStop x)) k.1))
+      subst (λ t. Walked reads m F t old new (Err (FaultStop f)))
+          (sym (on_with (is_refused1 (config_of under.regs) a) k.0 (done (stops (fault1 Translation most_left))) (ask base1 (λ i. stage1_behind q i.value))))
+          (walked_done reads m F (stops (fault1 Translation most_left)) old new (Err (FaultStop f)) n (ap (λ x. Err (FaultStop x)) k.1))
   refused_at F old new f false h n =
       let k = err_by (is_refused_off (config_of under.regs) a) (refusal S1 false AddressSize) f _ h in
-      subst (λ (t : End Leaf1). Walked reads m F (done t) old new (Err (FaultStop f))) (sym (on_with (is_refused_off (config_of under.regs) a) k.0 (stops (fault1 AddressSize most_left)) (reaches (off_leaf (config_of under.regs) a)))) (walked_done reads m F (stops (fault1 AddressSize most_left)) old new (Err (FaultStop f)) n (ap (λ x. Err (FaultStop x)) k.1))
+      subst (λ (t : End Leaf1). Walked reads m F (done t) old new (Err (FaultStop f)))
+          (sym (on_with (is_refused_off (config_of under.regs) a) k.0 (stops (fault1 AddressSize most_left)) (reaches (off_leaf (config_of under.regs) a))))
+          (walked_done reads m F (stops (fault1 AddressSize most_left)) old new (Err (FaultStop f)) n (ap (λ x. Err (FaultStop x)) k.1))
 
-  pub stage_refused : (F : Type 0) (new : List Item) (f : Fault) → Err f ≡ begin1_of (config_of under.regs) a → new ≡ [] → WalkedStage1 m F under a new (Err (FaultStop f))
+  pub stage_refused : (F : Type 0) (new : List Item) (f : Fault) → Err f ≡ begin1_of (config_of under.regs) a → new ≡ []
+      → WalkedStage1 m F under a new (Err (FaultStop f))
   stage_refused F new f h n = refused_at F [] new f (config_of under.regs).m h n
 
   -- stage 1 is off
-  pub stage_off : (F : Type 0) (new : List Item) → ((config_of under.regs).m ≡ false) × (is_refused_off (config_of under.regs) a ≡ false) → new ≡ [] → WalkedStage1 m F under a new (Ok None)
+  pub stage_off : (F : Type 0) (new : List Item) → ((config_of under.regs).m ≡ false) × (is_refused_off (config_of under.regs) a ≡ false) → new ≡ []
+      → WalkedStage1 m F under a new (Ok None)
   stage_off F new h n =
-      let s : stage1_off q ≡ done (reaches (off_leaf (config_of under.regs) a)) = ap done (off_with (is_refused_off (config_of under.regs) a) h.1 (stops (fault1 AddressSize most_left)) (reaches (off_leaf (config_of under.regs) a))) in
+      let s : stage1_off q ≡ done (reaches (off_leaf (config_of under.regs) a)) =
+          ap done (off_with (is_refused_off (config_of under.regs) a) h.1 (stops (fault1 AddressSize most_left))
+          (reaches (off_leaf (config_of under.regs) a))) in
       let t = off_with (config_of under.regs).m h.0 (stage1_on q) (stage1_off q) in
-      subst (λ t. Walked reads m F t [] new (Ok (off_leaf (config_of under.regs) a))) (sym t) (subst (λ t. Walked reads m F t [] new (Ok (off_leaf (config_of under.regs) a))) (sym s) (walked_done reads m F (reaches (off_leaf (config_of under.regs) a)) [] new (Ok (off_leaf (config_of under.regs) a)) n refl))
+      subst (λ t. Walked reads m F t [] new (Ok (off_leaf (config_of under.regs) a))) (sym t)
+          (subst (λ t. Walked reads m F t [] new (Ok (off_leaf (config_of under.regs) a))) (sym s)
+          (walked_done reads m F (reaches (off_leaf (config_of under.regs) a)) [] new (Ok (off_leaf (config_of under.regs) a)) n refl))
 
   -- stage 1 is on
-  pub stage_on : (F : Type 0) (new : List Item) (r : Result Leaf1 Stop) (s : Result (Option Leaf1) Stop) → (config_of under.regs).m ≡ true → leaf_answer (config_of under.regs) a s ≡ r → WalkedOn1 m F under a new r → WalkedStage1 m F under a new s
+  pub stage_on : (F : Type 0) (new : List Item) (r : Result Leaf1 Stop) (s : Result (Option Leaf1) Stop) → (config_of under.regs).m ≡ true
+      → leaf_answer (config_of under.regs) a s ≡ r → WalkedOn1 m F under a new r → WalkedStage1 m F under a new s
   stage_on F new r s h e w =
-      subst (λ t. Walked reads m F t [] new (leaf_answer (config_of under.regs) a s)) (sym (on_with (config_of under.regs).m h (stage1_on q) (stage1_off q))) (subst (λ r. Walked reads m F (stage1_on q) [] new r) (sym e) w)
+      subst (λ t. Walked reads m F t [] new (leaf_answer (config_of under.regs) a s)) (sym (on_with (config_of under.regs).m h (stage1_on q) (stage1_off q)))
+          (subst (λ r. Walked reads m F (stage1_on q) [] new r) (sym e) w)

@@ -36,7 +36,8 @@ module _ (c : Config) (a : Access) (left : ℕ) (t : Table1) (e : Entry1) (here 
   abbrev pub behind : Item → Ask Need Item (End Leaf1)
   behind i = finer stops (word_of r) (walk1_then q left (step1 q e i.pa i.value))
 
-  pub by_word : (rest : List Item) (s : Stands Need Item (Result Item Fault)) → on (fits r) (word_of r e) rest ≡ s → stands1 c a left t rest ≡ then_on s (λ x more. on (fits r) (go_on stops behind x) more)
+  pub by_word : (rest : List Item) (s : Stands Need Item (Result Item Fault)) → on (fits r) (word_of r e) rest ≡ s
+      → stands1 c a left t rest ≡ then_on s (λ x more. on (fits r) (go_on stops behind x) more)
   by_word rest s h =
       ap (λ w. on (fits r) (finer stops (word_of r) w) rest) (asks_here q left t e here)
       ∙ on_after (fits r) (word_of r e) (go_on stops behind) rest
@@ -49,11 +50,15 @@ module _ (c : Config) (a : Access) (left : ℕ) (t : Table1) (e : Entry1) (here 
     pub by_stopped : (f : Fault) → Stopped f ≡ step1 q e i.pa i.value → stands1 c a left t rest ≡ ends (stops f) more
     by_stopped f step = by_word rest _ h ∙ ap (λ s. on (fits r) (finer stops (word_of r) (walk1_then q left s)) more) (sym step)
 
-  pub by_down : (i : Item) (rest more : List Item) → on (fits r) (word_of r e) rest ≡ ends (Ok i) more → (next : Table1) → Down next ≡ step1 q e i.pa i.value → 0 < left → stands1 c a left t rest ≡ stands1 c a (left - 1) next more
-  by_down i rest more h next step few = by_word rest _ h ∙ ap (λ s. on (fits r) (finer stops (word_of r) (walk1_then q left s)) more) (sym step) ∙ ap (λ w. on (fits r) (finer stops (word_of r) w) more) (walk1_below_less q left next few)
+  pub by_down : (i : Item) (rest more : List Item) → on (fits r) (word_of r e) rest ≡ ends (Ok i) more → (next : Table1) → Down next ≡ step1 q e i.pa i.value
+      → 0 < left → stands1 c a left t rest ≡ stands1 c a (left - 1) next more
+  by_down i rest more h next step few =
+      by_word rest _ h ∙ ap (λ s. on (fits r) (finer stops (word_of r) (walk1_then q left s)) more) (sym step)
+      ∙ ap (λ w. on (fits r) (finer stops (word_of r) w) more) (walk1_below_less q left next few)
 
   -- what stands behind a table stands from here
-  pub lifted : (i : Item) (items rest more : List Item) → on (fits r) (word_of r e) rest ≡ ends (Ok i) more → (next : Table1) → Down next ≡ step1 q e i.pa i.value → 0 < left → (d : Stood1) → IsStood1 c a (left - 1) next items more d → IsStood1 c a left t items rest d
+  pub lifted : (i : Item) (items rest more : List Item) → on (fits r) (word_of r e) rest ≡ ends (Ok i) more → (next : Table1)
+      → Down next ≡ step1 q e i.pa i.value → 0 < left → (d : Stood1) → IsStood1 c a (left - 1) next items more d → IsStood1 c a left t items rest d
   lifted i items rest more h next step few (Found l at) d = (d.0, by_down i rest more h next step few ∙ d.1, d.2)
   lifted i items rest more h next step few (Refused f at) d = (d.0, by_down i rest more h next step few ∙ d.1)
   lifted i items rest more h next step few (AtTable from) d = (
@@ -65,19 +70,23 @@ module _ (c : Config) (a : Access) (left : ℕ) (t : Table1) (e : Entry1) (here 
   lifted i items rest more h next step few Unfit d = by_down i rest more h next step few ∙ d
 
 -- the walk goes on from the table in hand where no item is left
-pub goes_here : (c : Config) (a : Access) (left : ℕ) (t : Table1) (rest : List Item) (from : From1) → left ≤ most_left → rest ≡ [] → from ≡ from1_at left t → GoesOn c a left t rest from
+pub goes_here : (c : Config) (a : Access) (left : ℕ) (t : Table1) (rest : List Item) (from : From1) → left ≤ most_left → rest ≡ [] → from ≡ from1_at left t
+    → GoesOn c a left t rest from
 goes_here c a left t rest from few none e = λ more.
-    ap (λ z. stands1 c a left t (z ++ more)) none ∙ ap (λ n. stands1 c a n t more) (sym (left_below_of left few)) ∙ ap (λ f. stands1 c a (left_below f.level) (table_from f) more) (sym e)
+    ap (λ z. stands1 c a left t (z ++ more)) none ∙ ap (λ n. stands1 c a n t more) (sym (left_below_of left few))
+        ∙ ap (λ f. stands1 c a (left_below f.level) (table_from f) more) (sym e)
 
 -- the last item is that of a table
-pub ends_top : (c : Config) (s : Side) (items front : List Item) (i : Item) (at : ℕ) → items ≡ front ++ i ∷ drop at items → is_top c s i ≡ true → at ≡ length items → EndsAtTop c s items
+pub ends_top : (c : Config) (s : Side) (items front : List Item) (i : Item) (at : ℕ) → items ≡ front ++ i ∷ drop at items → is_top c s i ≡ true
+    → at ≡ length items → EndsAtTop c s items
 ends_top c s items front i at e h l = (front, i, e ∙ ap (λ z. front ++ i ∷ z) (rest_none at items l), h)
 
 untop : (b : Bool) → b ≡ false → b ≡ true → ⊥
 untop b h k = absurd cc
 
 -- the last item is another
-pub ends_untop : (c : Config) (s : Side) (items front : List Item) (i : Item) (at : ℕ) → items ≡ front ++ i ∷ drop at items → is_top c s i ≡ false → at ≡ length items → EndsAtTop c s items → ⊥
+pub ends_untop : (c : Config) (s : Side) (items front : List Item) (i : Item) (at : ℕ) → items ≡ front ++ i ∷ drop at items → is_top c s i ≡ false
+    → at ≡ length items → EndsAtTop c s items → ⊥
 ends_untop c s items front i at e h l t =
     let own : items ≡ front ++ i ∷ [] = e ∙ ap (λ z. front ++ i ∷ z) (rest_none at items l) in
     let same : i ≡ t.1 = last_same front t.0 i t.1 (sym own ∙ t.2) in

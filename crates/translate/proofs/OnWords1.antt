@@ -16,7 +16,8 @@ use Rattle.translate.specs.Parts.{unreadable}
 use Rattle.translate.specs.Standing.{is_word1}
 use Rattle.translate.proofs.Choices.{on_with, off_with}
 
-split_suc : (items : List Item) (at : ℕ) (i : Item) → at < length items → i ≡ get_or items at i → (front : List Item) × (items ≡ front ++ i ∷ drop (suc at) items)
+split_suc : (items : List Item) (at : ℕ) (i : Item) → at < length items → i ≡ get_or items at i
+    → (front : List Item) × (items ≡ front ++ i ∷ drop (suc at) items)
 split_suc [] at i l e = absurd (omega arith)
 split_suc (j ∷ items) zero i l e = ([], ap (λ z. z ∷ items) (sym e))
 split_suc (j ∷ items) (suc at) i l e =
@@ -25,7 +26,8 @@ split_suc (j ∷ items) (suc at) i l e =
     (j ∷ d.0, ap (λ z. j ∷ z) d.1)
 
 -- an item of a list has the items before it and those behind it
-pub split_at : (items : List Item) (at : ℕ) (i : Item) → at < length items → i ≡ get_or items at i → (front : List Item) × (items ≡ front ++ i ∷ drop (at + 1) items)
+pub split_at : (items : List Item) (at : ℕ) (i : Item) → at < length items → i ≡ get_or items at i
+    → (front : List Item) × (items ≡ front ++ i ∷ drop (at + 1) items)
 split_at items at i l e = rw add-one (split_suc items at i l e)
 
 first_true : (a b : Bool) → (a && b) ≡ true → a ≡ true
@@ -44,12 +46,18 @@ module _ (r : Regime) (e : Entry1) (items : List Item) where
 
   module _ (v : r.config.vm ≡ true) where
     -- with stage 2 on it stands by how stage 2 stands
-    pub word_deep : (s : Stands Need Item (End Leaf2)) → on (fits r) (walk2 (asked2 r true e.place)) items ≡ s → on (fits r) (word_of r e) items ≡ then_on s (λ d rest. on (fits r) (read1_by r.config e d) rest)
-    word_deep s h = ap (λ t. on (fits r) t items) (on_with r.config.vm v (after (walk2 (asked2 r true e.place)) (read1_by r.config e)) (read1 e e.place)) ∙ on_after (fits r) (walk2 (asked2 r true e.place)) (read1_by r.config e) items ∙ ap (λ z. then_on z (λ d rest. on (fits r) (read1_by r.config e d) rest)) h
+    pub word_deep : (s : Stands Need Item (End Leaf2)) → on (fits r) (walk2 (asked2 r true e.place)) items ≡ s
+        → on (fits r) (word_of r e) items ≡ then_on s (λ d rest. on (fits r) (read1_by r.config e d) rest)
+    word_deep s h =
+        ap (λ t. on (fits r) t items) (on_with r.config.vm v (after (walk2 (asked2 r true e.place)) (read1_by r.config e)) (read1 e e.place))
+        ∙ on_after (fits r) (walk2 (asked2 r true e.place)) (read1_by r.config e) items
+        ∙ ap (λ z. then_on z (λ d rest. on (fits r) (read1_by r.config e d) rest)) h
 
     module _ (l : Leaf2) (rest : List Item) (h : on (fits r) (walk2 (asked2 r true e.place)) items ≡ ends (reaches l) rest) where
       pub word_denied : (f : Fault) → is_readable r.config l ≡ false → f ≡ unreadable l → on (fits r) (word_of r e) items ≡ ends (Err f) rest
-      word_denied f d q = word_deep _ h ∙ ap (λ t. on (fits r) t rest) (off_with (is_readable r.config l) d (read1 e l.pa) (done (Err (unreadable l)))) ∙ ap (λ z. ends (Err z) rest) (sym q)
+      word_denied f d q =
+          word_deep _ h ∙ ap (λ t. on (fits r) t rest) (off_with (is_readable r.config l) d (read1 e l.pa) (done (Err (unreadable l))))
+          ∙ ap (λ z. ends (Err z) rest) (sym q)
 
       pub word_read : is_readable r.config l ≡ true → on (fits r) (word_of r e) items ≡ on (fits r) (read1 e l.pa) rest
       word_read d = word_deep _ h ∙ ap (λ t. on (fits r) t rest) (on_with (is_readable r.config l) d (read1 e l.pa) (done (Err (unreadable l))))

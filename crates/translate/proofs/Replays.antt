@@ -37,7 +37,8 @@ le_cases : (m n : ℕ) → m ≤ n → (m ≡ n) ⊎ (m < n)
 le_cases zero zero h = inl refl
 le_cases zero (suc n) h = inr (omega arith)
 le_cases (suc m) zero h = absurd (omega (arith, h))
-le_cases (suc m) (suc n) h = elim (le_cases m n (omega (arith, h))) as (λ _. (suc m ≡ suc n) ⊎ (suc m < suc n)) [ inl e ↦ inl (ap suc e) | inr l ↦ inr (omega (arith, l)) ]
+le_cases (suc m) (suc n) h =
+    elim (le_cases m n (omega (arith, h))) as (λ _. (suc m ≡ suc n) ⊎ (suc m < suc n)) [ inl e ↦ inl (ap suc e) | inr l ↦ inr (omega (arith, l)) ]
 
 module _ (c : Config) (a : Access) where
   abbrev pub r : Regime
@@ -47,7 +48,8 @@ module _ (c : Config) (a : Access) where
   q = asked c true a
 
   -- it ended with these items left over
-  pub ended_at : (items : List Item) (at : ℕ) (e : End Landing) (o : Outcome) → at ≤ length items → stands_whole c a items ≡ ends e (drop at items) → o ≡ outcome_of e → IsReplayed c a items (Ended at o)
+  pub ended_at : (items : List Item) (at : ℕ) (e : End Landing) (o : Outcome) → at ≤ length items → stands_whole c a items ≡ ends e (drop at items)
+      → o ≡ outcome_of e → IsReplayed c a items (Ended at o)
   ended_at items at e o l h p =
       let d = on_split (fits r) (after (stage1 q) (stage2_behind q)) items e (drop at items) h in
       let n : at ≡ length d.0 = omega (arith, l, ap length d.1, length-append d.0 (drop at items), length-drop at items) in
@@ -74,16 +76,20 @@ module _ (c : Config) (a : Access) where
   other_needs items n h t = (λ len o d. no_end_needs _ n d.0 d.2 h (whole_ends items len o d), λ m. t m.1)
 
   -- the whole stands by how stage 1 stands
-  pub by_stage1 : (items : List Item) (s : Stands Need Item (End Leaf1)) → stands_stage1 c a items ≡ s → stands_whole c a items ≡ then_on s (λ d rest. on (fits r) (stage2_behind q d) rest)
+  pub by_stage1 : (items : List Item) (s : Stands Need Item (End Leaf1)) → stands_stage1 c a items ≡ s
+      → stands_whole c a items ≡ then_on s (λ d rest. on (fits r) (stage2_behind q d) rest)
   by_stage1 items s h = on_after (fits r) (stage1 q) (stage2_behind q) items ∙ ap (λ z. then_on z (λ d rest. on (fits r) (stage2_behind q d) rest)) h
 
   module _ (items : List Item) (l : Leaf1) (rest : List Item) (h : stands_stage1 c a items ≡ ends (reaches l) rest) where
     -- stage 2 is off
     pub landed_at : c.vm ≡ false → stands_whole c a items ≡ ends (reaches (landed l)) rest
-    landed_at v = by_stage1 items _ h ∙ ap (λ t. on (fits r) t rest) (off_with c.vm v (after (walk2 (asked2 r false l.out)) (λ e. done (judged2 true a l e))) (done (reaches (landed l))))
+    landed_at v =
+        by_stage1 items _ h
+        ∙ ap (λ t. on (fits r) t rest) (off_with c.vm v (after (walk2 (asked2 r false l.out)) (λ e. done (judged2 true a l e))) (done (reaches (landed l))))
 
     -- stage 2 is on
-    pub by_output : c.vm ≡ true → (s : Stands Need Item (End Leaf2)) → on (fits r) (walk2 (asked2 r false l.out)) rest ≡ s → stands_whole c a items ≡ then_on s (λ e more. ends (judged2 true a l e) more)
+    pub by_output : c.vm ≡ true → (s : Stands Need Item (End Leaf2)) → on (fits r) (walk2 (asked2 r false l.out)) rest ≡ s
+        → stands_whole c a items ≡ then_on s (λ e more. ends (judged2 true a l e) more)
     by_output v s k =
         by_stage1 items _ h
         ∙ ap (λ t. on (fits r) t rest) (on_with c.vm v (after (walk2 (asked2 r false l.out)) (λ e. done (judged2 true a l e))) (done (reaches (landed l))))
@@ -91,41 +97,52 @@ module _ (c : Config) (a : Access) where
         ∙ ap (λ z. then_on z (λ e more. ends (judged2 true a l e) more)) k
 
   -- behind stage 1, items that are needed for the output leave no table of stage 1 last
-  pub output_untop : (items : List Item) (at out : ℕ) (n : Need) → at ≤ length items → (at ≡ length items → EndsAtTop c (side_of a.va) items → ⊥) → on (fits r) (walk2 (asked2 r false out)) (drop at items) ≡ needs n → EndsAtTop c (side_of a.va) items → ⊥
+  pub output_untop : (items : List Item) (at out : ℕ) (n : Need) → at ≤ length items → (at ≡ length items → EndsAtTop c (side_of a.va) items → ⊥)
+      → on (fits r) (walk2 (asked2 r false out)) (drop at items) ≡ needs n → EndsAtTop c (side_of a.va) items → ⊥
   output_untop items at out n l untop h t =
-      elim (le_cases at (length items) l) as (λ _. ⊥) [ inl e ↦ untop e t | inr less ↦ deep_end c (side_of a.va) items at less (needs_deep r (walk2 (asked2 r false out)) (walk2_only r (asked2 r false out)) (drop at items) n h) t ]
+      elim (le_cases at (length items) l) as (λ _. ⊥)
+          [ inl e ↦ untop e t | inr less ↦
+          deep_end c (side_of a.va) items at less (needs_deep r (walk2 (asked2 r false out)) (walk2_only r (asked2 r false out)) (drop at items) n h) t ]
 
-module _ (c : Config) (a : Access) (items : List Item) (at : ℕ) (o1 : Option Leaf1) (few : at ≤ length items) (h : stands_stage1 c a items ≡ ends (reaches (leaf1_or_off c a o1)) (drop at items)) where
+module _ (c : Config) (a : Access) (items : List Item) (at : ℕ) (o1 : Option Leaf1) (few : at ≤ length items)
+    (h : stands_stage1 c a items ≡ ends (reaches (leaf1_or_off c a o1)) (drop at items)) where
   -- stage 2 is off
   pub line_flat : c.vm ≡ false → (o : Outcome) → o ≡ finish_of c a o1 None → IsReplayed c a items (Ended at o)
   line_flat v o e = ended_at c a items at (reaches (landed (leaf1_or_off c a o1))) o few (landed_at c a items (leaf1_or_off c a o1) (drop at items) h v) e
 
   module _ (v : c.vm ≡ true) (out : ℕ) (e : out ≡ out_of a o1) where
-    by_out : (s : Stands Need Item (End Leaf2)) → on (fits (r c a)) (walk2 (asked2 (r c a) false out)) (drop at items) ≡ s → stands_whole c a items ≡ then_on s (λ d more. ends (judged2 true a (leaf1_or_off c a o1) d) more)
+    by_out : (s : Stands Need Item (End Leaf2)) → on (fits (r c a)) (walk2 (asked2 (r c a) false out)) (drop at items) ≡ s
+        → stands_whole c a items ≡ then_on s (λ d more. ends (judged2 true a (leaf1_or_off c a o1) d) more)
     by_out s k =
         let own : (leaf1_or_off c a o1).out ≡ out = sym (e ∙ out_same c a o1) in
         by_output c a items (leaf1_or_off c a o1) (drop at items) h v s (ap (λ x. on (fits (r c a)) (walk2 (asked2 (r c a) false x)) (drop at items)) own ∙ k)
 
-    pub line_found : (m : Leaf2) (len : ℕ) (o : Outcome) → len ≤ length items → on (fits (r c a)) (walk2 (asked2 (r c a) false out)) (drop at items) ≡ ends (reaches m) (drop len items) → o ≡ finish_of c a o1 (Some m) → IsReplayed c a items (Ended len o)
+    pub line_found : (m : Leaf2) (len : ℕ) (o : Outcome) → len ≤ length items
+        → on (fits (r c a)) (walk2 (asked2 (r c a) false out)) (drop at items) ≡ ends (reaches m) (drop len items) → o ≡ finish_of c a o1 (Some m)
+        → IsReplayed c a items (Ended len o)
     line_found m len o l k p = ended_at c a items len (judged2 true a (leaf1_or_off c a o1) (reaches m)) o l (by_out _ k) p
 
-    pub line_refused : (f : Fault) (len : ℕ) → len ≤ length items → on (fits (r c a)) (walk2 (asked2 (r c a) false out)) (drop at items) ≡ ends (stops f) (drop len items) → IsReplayed c a items (Ended len (Faulted f))
+    pub line_refused : (f : Fault) (len : ℕ) → len ≤ length items
+        → on (fits (r c a)) (walk2 (asked2 (r c a) false out)) (drop at items) ≡ ends (stops f) (drop len items) → IsReplayed c a items (Ended len (Faulted f))
     line_refused f len l k = ended_at c a items len (stops f) (Faulted f) l (by_out _ k) refl
 
-    pub line_needs : (n : Need) → (at ≡ length items → EndsAtTop c (side_of a.va) items → ⊥) → on (fits (r c a)) (walk2 (asked2 (r c a) false out)) (drop at items) ≡ needs n → IsReplayed c a items Other
+    pub line_needs : (n : Need) → (at ≡ length items → EndsAtTop c (side_of a.va) items → ⊥)
+        → on (fits (r c a)) (walk2 (asked2 (r c a) false out)) (drop at items) ≡ needs n → IsReplayed c a items Other
     line_needs n untop k = other_needs c a items n (by_out _ k) (output_untop c a items at out n few untop k)
 
     pub line_bad : on (fits (r c a)) (walk2 (asked2 (r c a) false out)) (drop at items) ≡ bad → IsReplayed c a items Other
     line_bad k = other_bad c a items (by_out _ k)
 
 module _ (c : Config) (a : Access) (items : List Item) where
-  pub on_refused : (f : Fault) (at : ℕ) → at ≤ length items → stands_stage1 c a items ≡ ends (stops f) (drop at items) → IsReplayed c a items (Ended at (Faulted f))
+  pub on_refused : (f : Fault) (at : ℕ) → at ≤ length items → stands_stage1 c a items ≡ ends (stops f) (drop at items)
+      → IsReplayed c a items (Ended at (Faulted f))
   on_refused f at l h = ended_at c a items at (stops f) (Faulted f) l (by_stage1 c a items _ h) refl
 
   pub on_more : (from : From1) → IsStoodOn c a items (AtTable from) → IsReplayed c a items (More from)
   on_more from d = (
     ((d.0.0, by_stage1 c a items _ d.0.1), d.1),
-    λ more. by_stage1 c a (items ++ more) _ (d.2 more) ∙ sym (on_after (fits (r c a)) (stage1_from (q c a) (left_below from.level) (table_from from)) (stage2_behind (q c a)) more),
+    λ more. by_stage1 c a (items ++ more) _ (d.2 more)
+        ∙ sym (on_after (fits (r c a)) (stage1_from (q c a) (left_below from.level) (table_from from)) (stage2_behind (q c a)) more),
   )
 
   pub on_needs : (n : Need) → stands_stage1 c a items ≡ needs n → (EndsAtTop c (side_of a.va) items → ⊥) → IsReplayed c a items Other

@@ -24,7 +24,8 @@ use Rattle.permissions.specs.Rights.{joined, is_uxn, is_allowed1}
 use Rattle.fault_codes.specs.declared.fault.Class.TheVariants.{AddressSize, AccessFlag, Permission}
 use Rattle.translate.specs.Standing.{is_table, is_top, is_word1}
 
-not_down : (b1 b2 b3 : Bool) (f1 f2 f3 : Fault) (l : Leaf1) (t : Table1) → Down t ≡ (if b1 then Stopped f1 else (if b2 then Stopped f2 else (if b3 then Stopped f3 else Reached l))) → ⊥
+not_down : (b1 b2 b3 : Bool) (f1 f2 f3 : Fault) (l : Leaf1) (t : Table1)
+    → Down t ≡ (if b1 then Stopped f1 else (if b2 then Stopped f2 else (if b3 then Stopped f3 else Reached l))) → ⊥
 not_down true b2 b3 f1 f2 f3 l t h = absurd cc
 not_down false true b3 f1 f2 f3 l t h = absurd cc
 not_down false false true f1 f2 f3 l t h = absurd cc
@@ -39,11 +40,14 @@ by_down q e p Invalid t h = absurd cc
 by_down q e p (Table next bits) t h = refl
 by_down q e p (Leaf out attr_index bits sh af global contiguous) t h =
     let l = leaf1_of q.regime e p record { out = out; attr_index = attr_index; sh = sh; bits = bits; global = global; contiguous = contiguous } in
-    absurd (not_down (is_too_large q.regime.stage1 out) (not (af || q.regime.config.ha1)) (q.judged && not (is_allowed1 l.perms (is_uxn bits e.table.bits) q.access.el q.access.kind q.access.pan q.regime.config.epan)) (fault1 AddressSize e.left) (fault1 AccessFlag e.left) (fault1 Permission e.left) l t h)
+    absurd (not_down (is_too_large q.regime.stage1 out) (not (af || q.regime.config.ha1))
+        (q.judged && not (is_allowed1 l.perms (is_uxn bits e.table.bits) q.access.el q.access.kind q.access.pan q.regime.config.epan))
+        (fault1 AddressSize e.left) (fault1 AccessFlag e.left) (fault1 Permission e.left) l t h)
 
 by_reached : (q : Asked) (e : Entry1) (p : ℕ) (k : Kind1) (l : Leaf1) → Reached l ≡ step1_by q e p k → is_table k ≡ false
 by_reached q e p Invalid l h = absurd cc
-by_reached q e p (Table next bits) l h = absurd (not_reached (is_too_large q.regime.stage1 next) (fault1 AddressSize e.left) record { address = next; bits = joined e.table.bits bits } l h)
+by_reached q e p (Table next bits) l h =
+    absurd (not_reached (is_too_large q.regime.stage1 next) (fault1 AddressSize e.left) record { address = next; bits = joined e.table.bits bits } l h)
 by_reached q e p (Leaf out attr_index bits sh af global contiguous) l h = refl
 
 step_down : (q : Asked) (e : Entry1) (p v : ℕ) (t : Table1) → Down t ≡ step1 q e p v → is_table (means1_of q.regime.config q.regime.side e.left v) ≡ true
@@ -104,7 +108,8 @@ module _ (c : Config) (s : Side) (left : ℕ) (i : Item) (few : left ≤ most_le
   table_top h = top_by (stage_eq i.stage S1) (is_base i.what) (is_table (means1_of c s (left_below i.level) i.value)) stage_is (kind_is ∙ h)
 
   pub leaf_top : is_table (means1_of c s left i.value) ≡ false → is_top c s i ≡ false
-  leaf_top h = untop_by (stage_eq i.stage S1) (is_base i.what) (is_table (means1_of c s (left_below i.level) i.value)) (word_no_base i.what word_is) (kind_is ∙ h)
+  leaf_top h =
+      untop_by (stage_eq i.stage S1) (is_base i.what) (is_table (means1_of c s (left_below i.level) i.value)) (word_no_base i.what word_is) (kind_is ∙ h)
 
 -- the word of a table is one, and that of a leaf none
 module _ (q : Asked) (e : Entry1) (i : Item) (few : e.left ≤ most_left) (w : is_word1 e.left i ≡ true) where

@@ -11,7 +11,8 @@ same c = elim c.if-len-eq-MOST_QUEUED.branch [ then-len-eq-MOST_QUEUED w ↦ sea
 
 pub invariant_of-self : goal.invariant_of-self
 invariant_of-self c = (
-  subst IsBank (sym (same c)) (is_queued (record { regs = c.self.inside.force; queue = c.self.inside.queue.items }) (c.args.reg, c.args.value) c.requires c.self.invariant.0),
+  subst IsBank (sym (same c))
+      (is_queued (record { regs = c.self.inside.force; queue = c.self.inside.queue.items }) (c.args.reg, c.args.value) c.requires c.self.invariant.0),
   elim c.if-len-eq-MOST_QUEUED.branch [ then-len-eq-MOST_QUEUED w ↦ search rules | else-len-eq-MOST_QUEUED w ↦ search rules ],
   elim c.if-len-eq-MOST_QUEUED.branch [ then-len-eq-MOST_QUEUED w ↦ search rules | else-len-eq-MOST_QUEUED w ↦ search rules ],
 )

@@ -23,5 +23,6 @@ returns-clause-machine c =
     let o = opens c.args.trace c.in_ok-phys.phys c.in_ok-seats.seats.items c.in-Ok.log.items c.ranges-2.result.now c.cores.result c.size.result c.policy.result
     c.in-Ok.ensures.items c.ranges-2.ensures.value c.cores.ensures.value c.size.ensures.value c.policy.ensures.value
     c.in_ok-phys.ensures.memory c.in_ok-seats.ensures.count c.in_ok-seats.ensures.each in
-    subst (λ l. world_of (length c.in-Ok.log.items) (memory_of c.in_ok-phys.phys) c.in_ok-seats.seats.items ≡ world_after c.args.trace.header (take (length l) c.args.trace.events))
+    subst (λ l. world_of (length c.in-Ok.log.items) (memory_of c.in_ok-phys.phys) c.in_ok-seats.seats.items
+        ≡ world_after c.args.trace.header (take (length l) c.args.trace.events))
     c.in-Ok.ensures.items o.0.world_is

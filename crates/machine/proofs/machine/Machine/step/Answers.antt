@@ -15,7 +15,8 @@ pub act-requires-clause-doable : goal.act-requires-clause-doable
 act-requires-clause-doable c =
     let s = c.self.inside in
     let e : Event = get_or c.events.result.now c.len-k.result (Store 0 0 0) in
-    let left : length s.log.items < length s.trace.events = subst (λ (v : MachineState). length v.log < length v.trace.events) (sym c.self.view_is) c.requires in
+    let left : length s.log.items < length s.trace.events =
+        subst (λ (v : MachineState). length v.log < length v.trace.events) (sym c.self.view_is) c.requires in
     let lt : c.len-k.result < length s.trace.events = omega (arith, left, c.len-k.ensures, s.log.ok.0) in
     let at : e ≡ get_or s.trace.events c.len-k.result e =
     ap (λ l. get_or l c.len-k.result (Store 0 0 0)) c.events.ensures.value ∙ get_or_default s.trace.events c.len-k.result (Store 0 0 0) e lt in
@@ -31,7 +32,8 @@ went_some : (c : After-push_reserved) → Goes c.self.inside.trace c.self.inside
 went_some c =
     let s = c.self.inside in
     let e : Event = event_some c in
-    let left : length s.log.items < length s.trace.events = subst (λ (v : MachineState). length v.log < length v.trace.events) (sym c.self.view_is) c.requires in
+    let left : length s.log.items < length s.trace.events =
+        subst (λ (v : MachineState). length v.log < length v.trace.events) (sym c.self.view_is) c.requires in
     let lt : c.len-k.result < length s.trace.events = omega (arith, left, c.len-k.ensures, s.log.ok.0) in
     let at : e ≡ get_or s.trace.events c.len-k.result e =
     ap (λ l. get_or l c.len-k.result (Store 0 0 0)) c.events.ensures.value ∙ get_or_default s.trace.events c.len-k.result (Store 0 0 0) e lt in
@@ -89,7 +91,8 @@ went_none : (c : After-push_quiet) → Goes c.self.inside.trace c.self.inside.lo
 went_none c =
     let s = c.self.inside in
     let e : Event = event_none c in
-    let left : length s.log.items < length s.trace.events = subst (λ (v : MachineState). length v.log < length v.trace.events) (sym c.self.view_is) c.requires in
+    let left : length s.log.items < length s.trace.events =
+        subst (λ (v : MachineState). length v.log < length v.trace.events) (sym c.self.view_is) c.requires in
     let lt : c.len-k.result < length s.trace.events = omega (arith, left, c.len-k.ensures, s.log.ok.0) in
     let at : e ≡ get_or s.trace.events c.len-k.result e =
     ap (λ l. get_or l c.len-k.result (Store 0 0 0)) c.events.ensures.value ∙ get_or_default s.trace.events c.len-k.result (Store 0 0 0) e lt in
