@@ -15,7 +15,8 @@ use Rattle.machine_spec.specs.Header.{Header}
 use Rattle.machine_spec.specs.Sets.{Cache}
 use Rattle.machine_spec.specs.Machine.{Visited, visited}
 use Rattle.machine_laws.proofs.NoRows.{fresh_answer, visited_fresh}
-use Rattle.cpu_model.specs.Cores.{CoreState, no_rows, Suits, seat_at, with_cache, HasRunLine}
+use Rattle.trails.specs.Printed.{printed}
+use Rattle.cpu_model.specs.Cores.{CoreState, no_rows, Suits, seat_at, with_cache}
 use Rattle.cpu_model.proofs.Levels.{fresh_run_line}
 
 -- a count that stands at 0 did not rise
@@ -50,7 +51,7 @@ module _ (c : CoreState) (m : Memory) (k : ℕ) (a : Access) (none : c.size ≡ 
 
 -- the outcome of a walk over memory has a line in a run
 pub has_run_line : (regs : Regs) (m : Memory) (a : Access) (k : ℕ) (items : List Item) (o : Outcome) → IsFresh regs a k (Some m) (Rose 0 0) items o
-    → HasLine o → HasRunLine o
+    → HasLine o → HasLine (printed true o)
 has_run_line regs m a k items o is h =
     let e = is m refl not_risen in
-    subst HasRunLine (sym e.1) (fresh_run_line m regs a k (subst HasLine e.1 h))
+    subst (λ p. HasLine (printed true p)) (sym e.1) (fresh_run_line m regs a k (subst HasLine e.1 h))

@@ -33,7 +33,7 @@ use Rattle.walk_spec.specs.Fresh.{given, fed_outcome, fresh_outcome}
 use Rattle.walk_spec.specs.Walked.{HasLine}
 use Rattle.walk_laws.proofs.Stepping.{Asks}
 use Rattle.walk_laws.proofs.Sound.{sound1}
-use Rattle.cpu_model.specs.Cores.{HasRunLine}
+use Rattle.trails.specs.Printed.{printed}
 
 -- a word of a level from 0 to 3, or a base
 abbrev IsLow : Need → Type 0
@@ -177,7 +177,7 @@ external_level (suc (suc zero)) h = omega arith
 external_level (suc (suc (suc zero))) h = omega arith
 external_level (suc (suc (suc (suc n)))) h = absurd (omega (arith, h))
 
-run_line_by : (e : Fed Need (End Landing)) → IsLowEnd e → HasLine (fed_outcome e) → HasRunLine (fed_outcome e)
+run_line_by : (e : Fed Need (End Landing)) → IsLowEnd e → HasLine (fed_outcome e) → HasLine (printed true (fed_outcome e))
 run_line_by (ended (stops f)) l h = h
 run_line_by (ended (reaches x)) l h = tt
 run_line_by (lacks base1) l h = h
@@ -185,7 +185,7 @@ run_line_by (lacks (base2 ipa)) l h = h
 run_line_by (lacks (word w)) l h = external_level w.left l
 
 -- the fresh walk's outcome has a line in a run
-pub fresh_run_line : (m : Memory) (regs : Regs) (a : Access) (k : ℕ) → HasLine (fresh_outcome m regs a k) → HasRunLine (fresh_outcome m regs a k)
+pub fresh_run_line : (m : Memory) (regs : Regs) (a : Access) (k : ℕ) → HasLine (fresh_outcome m regs a k) → HasLine (printed true (fresh_outcome m regs a k))
 fresh_run_line m regs a k h =
     run_line_by (fed_end (given regs (side_of a.va) m k) (walk (config_of regs) true a))
     (lacks_low (given regs (side_of a.va) m k) (walk (config_of regs) true a) (asks_low (config_of regs) a)) h

@@ -1,10 +1,6 @@
 -- A core apart from its inbox (this project's own rules).
 use Rattle.std.specs.Prelude.{◌≡◌, ◌≤◌, ℕ, [], length, All, None}
 use Rattle.sysregs.specs.Refused.{refused_field, AreAccepted}
-use Rattle.fault_codes.specs.Status.{HasLevel, HasStatus}
-use Rattle.fault_codes.specs.declared.fault.Class.TheVariants.{External}
-use Rattle.trails.specs.declared.outcome.Outcome.{Outcome}
-use Rattle.trails.specs.declared.outcome.Outcome.TheVariants.{Mapped, Faulted, Absent, Conflict}
 use Rattle.table_reads.specs.Memory.{Memory}
 use Rattle.trace_lang.specs.declared.header.Size.{Size}
 use Rattle.trace_lang.specs.declared.header.Policy.{Policy}
@@ -12,13 +8,6 @@ use Rattle.machine_spec.specs.Header.{Header}
 use Rattle.machine_spec.specs.Moments.{Bank, no_bank, most_queued}
 use Rattle.machine_spec.specs.Sets.{Cache}
 use Rattle.machine_spec.specs.Machine.{Seat}
-
--- an outcome that has a line in a run, where a word that memory lacks is a fault: its fault has a status code
-abbrev pub HasRunLine : (outcome : Outcome) → Type 0
-HasRunLine (Mapped pa perms mem sh) = Unit {0}
-HasRunLine (Faulted f) = HasStatus f
-HasRunLine (Absent s level pa s1ptw) = HasLevel External level
-HasRunLine Conflict = ⊥
 
 -- its number, the size of its caches and their policy, its registers with their queue, and its rows
 pub record CoreState : Type 0 where

@@ -1,12 +1,14 @@
 //! A core apart from its inbox.
-ghost use Rattle.std.specs.Prelude.{◌≡◌, ◌≤◌, fold, IfOk, None};
+ghost use Rattle.std.specs.Prelude.{◌≡◌, ◌≤◌, fold, IfOk, None, true};
 ghost use Rattle.sysregs.specs.Refused.{refused_field};
+ghost use Rattle.trails.specs.Printed.{printed};
+ghost use Rattle.walk_spec.specs.Walked.{HasLine};
 ghost use Rattle.phys_mem.specs.Words.{memory_of};
 ghost use Rattle.trace_lang.specs.declared.header.Size.TheVariants.{NoRows};
 ghost use Rattle.machine_spec.specs.Header.{Header};
 ghost use Rattle.machine_spec.specs.Moments.{written, settled, drained, queued};
 ghost use Rattle.machine_spec.specs.Machine.{killed, visited};
-ghost use Rattle.cpu_model.specs.Cores.{new_core, with_bank, with_cache, Suits, seat_at, HasRunLine};
+ghost use Rattle.cpu_model.specs.Cores.{new_core, with_bank, with_cache, Suits, seat_at};
 
 use crate::words::Words;
 use bitwords::NoMemory;
@@ -128,7 +130,7 @@ impl Cpu {
         ensures answer { (h : Header) → Suits h self.old → result ≡ (visited (seat_at h self.old (memory_of phys.now) moment) access.now).answer }
         ensures after { (h : Header) → Suits h self.old →
             self.new ≡ with_cache self.old (visited (seat_at h self.old (memory_of phys.now) moment) access.now).cache }
-        ensures line { HasRunLine result.outcome }
+        ensures line { HasLine (printed true result.outcome) }
     {
         let mut words = Words { phys };
         let mut first = Trail::none();

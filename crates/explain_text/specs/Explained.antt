@@ -3,10 +3,9 @@ use Rattle.std.specs.Prelude.{ℕ, List, [], ◌∷◌, ◌++◌, Bool, true, fa
 use Rattle.sysregs.specs.Registers.{asid_of, vmid_of}
 use Rattle.sysregs.specs.declared.regs.Regs.{Regs}
 use Rattle.permissions.specs.AccessNames.{el_text, kind_text}
-use Rattle.fault_codes.specs.Status.{HasStatus}
-use Rattle.fault_codes.specs.declared.fault.Class.TheVariants.{External}
 use Rattle.trails.specs.declared.item.Item.{Item}
 use Rattle.trails.specs.declared.outcome.Access.{Access}
+use Rattle.trails.specs.Printed.{printed}
 use Rattle.trails.specs.declared.outcome.Outcome.{Outcome}
 use Rattle.trails.specs.declared.outcome.Outcome.TheVariants.{Mapped, Faulted, Absent, Conflict}
 use Rattle.texts.specs.Texts.{joined_text, hex_text}
@@ -20,11 +19,6 @@ access_text word a asid vmid =
     (word ∷ codes " " ∷ hex_text a.va ∷ codes " " ∷ el_text a.el ∷ codes " " ∷ kind_text a.kind ∷ shown_if a.pan (codes " pan") ∷
     codes " asid " ∷ hex_text asid ∷ codes " vmid " ∷ hex_text vmid ∷ [])
 
--- the outcome that is printed: in a run a word that memory lacks is an external abort
-abbrev pub printed : (in_run : Bool) (outcome : Outcome) → Outcome
-printed true (Absent stage level pa s1ptw) = Faulted (record { stage = stage; level = level; class = External; s1ptw = s1ptw })
-printed _ outcome = outcome
-
 -- the line of an outcome
 abbrev pub line_of : (outcome : Outcome) → List ℕ
 line_of (Mapped pa perms mem share) = mapped_text pa perms mem share
@@ -35,13 +29,6 @@ line_of Conflict = codes "conflict fsc 0x30\n"
 -- the line of an outcome, in a run or not
 abbrev pub outcome_text : (in_run : Bool) (outcome : Outcome) → List ℕ
 outcome_text in_run outcome = line_of (printed in_run outcome)
-
--- an outcome can be printed: if it is a fault, it has a status code
-abbrev pub HasText : (outcome : Outcome) → Type 0
-HasText (Mapped _ _ _ _) = Unit {0}
-HasText (Faulted fault) = HasStatus fault
-HasText (Absent _ _ _ _) = Unit {0}
-HasText Conflict = Unit {0}
 
 -- the text of one access: its line, the items in order without their moments, and the outcome
 abbrev pub explain_text : (regs : Regs) (access : Access) (items : List Item) (outcome : Outcome) → List ℕ

@@ -3,6 +3,7 @@ pub use Rattle.sysregs.specs.Registers
 pub use Rattle.permissions.specs.Rights
 pub use Rattle.permissions.specs.AccessNames
 pub use Rattle.fault_codes.specs.Status
+pub use Rattle.trails.specs.Printed
 pub mod Written
 pub mod Texts
 pub mod Mapped

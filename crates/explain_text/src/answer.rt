@@ -3,7 +3,8 @@ ghost use Rattle.bitwords.specs.Causes.{HasCause};
 ghost use Rattle.sysregs.specs.Registers.{asid_of, vmid_of};
 ghost use Rattle.explain_text.specs.Written.{Wrote};
 ghost use Rattle.explain_text.specs.Texts.{item_text};
-ghost use Rattle.explain_text.specs.Explained.{access_text, outcome_text, explain_text, HasText};
+ghost use Rattle.explain_text.specs.Explained.{access_text, outcome_text, explain_text};
+ghost use Rattle.trails.specs.Printed.{HasText};
 
 use crate::lines::item_lines;
 use crate::outcomes::outcome_line;

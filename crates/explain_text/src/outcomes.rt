@@ -2,7 +2,8 @@ ghost use Rattle.std.specs.Prelude.{◌≡◌, codes};
 ghost use Rattle.bitwords.specs.Causes.{HasCause};
 ghost use Rattle.explain_text.specs.Written.{Wrote};
 ghost use Rattle.explain_text.specs.Mapped.{mapped_text};
-ghost use Rattle.explain_text.specs.Explained.{printed, outcome_text, HasText};
+ghost use Rattle.explain_text.specs.Explained.{outcome_text};
+ghost use Rattle.trails.specs.Printed.{printed, HasText};
 
 use crate::lines::{absent_line, fault_line};
 use crate::parts;

@@ -8,6 +8,10 @@ use Rattle.sysregs.specs.declared.regs.Reg.{Reg}
 use Rattle.sysregs.specs.declared.regs.Op.{Op}
 use Rattle.tlbi_ops.specs.declared.inval.Inval.{Inval}
 use Rattle.tlbi_ops.specs.Operands.{inval_of, reaches_core}
+use Rattle.trails.specs.declared.outcome.Outcome.{Outcome}
+use Rattle.trails.specs.declared.outcome.Outcome.TheVariants.{Mapped, Faulted, Absent, Conflict}
+use Rattle.trails.specs.Printed.{HasText}
+use Rattle.walk_spec.specs.Walked.{HasLine}
 use Rattle.trails.specs.declared.outcome.Access.{Access}
 use Rattle.trails.specs.declared.event.Barrier.{Barrier}
 use Rattle.trails.specs.declared.event.Origin.{Origin}
@@ -177,3 +181,10 @@ quiet_answer h w (Dsb core kind) is = refl
 quiet_answer h w (Deliver core) is = refl
 quiet_answer h w (AccessOf core access) is = absurd (none-some (core, access) (sym is))
 quiet_answer h w (Prefetch core access) is = absurd (none-some (core, access) (sym is))
+
+-- an outcome that has a line has a text
+pub line_text : (o : Outcome) → HasLine o → HasText o
+line_text (Mapped pa perms mem sh) h = tt
+line_text (Faulted f) h = h
+line_text (Absent s level pa s1ptw) h = tt
+line_text Conflict h = tt

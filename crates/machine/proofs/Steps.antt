@@ -24,7 +24,8 @@ use Rattle.machine_laws.proofs.Events.{each_at, each_length}
 use Rattle.machine_laws.proofs.Logs.{get-last}
 use Rattle.machine_laws.proofs.Theorem.{world_on, run_on}
 use Rattle.machine.specs.Seats.{SeatState, core_at, build_of, no_seat, new_seat, AreSeats, world_of, IsDoable}
-use Rattle.machine.specs.Runs.{IsTold, IsRun}
+use Rattle.trails.specs.Printed.{HasTextInRun}
+use Rattle.machine.specs.Runs.{IsRun}
 use Rattle.machine.proofs.Ranges.{has_word, same_zeros}
 
 -- AN EVENT OF A TRACE
@@ -88,7 +89,7 @@ module _ (h : Header) (m : Memory) (seats : List SeatState) (zero_memory : m ≡
   are_at_first c lt = ap build_of (each c (omega (arith, lt, count)))
 
 run_at_first : (t : Parts) (w : World) → w ≡ opened t.header → IsRun t [] w
-run_at_first t w e = record { within = omega arith; log_is = refl; world_is = e; told = All-nil (λ (s : Step). IsTold s.answer) }
+run_at_first t w e = record { within = omega arith; log_is = refl; world_is = e; texts = All-nil (λ (s : Step). HasTextInRun s.answer) }
 
 -- the same where a body names the parts by other, equal terms
 pub opens : (t : Parts) (p : Held) (seats : List SeatState) (log : List Step) (ranges : List (ℕ × ℕ)) (cores : ℕ) (size : Size) (policy : Policy) → log ≡ []
@@ -117,7 +118,7 @@ pub record Did (t : Parts) (m : Memory) (seats : List SeatState) (k : ℕ) (e : 
   pub cores : (h : Header) → AreSeats h seats → (c : ℕ) → c < length seats
       → core_at (get_or after c no_seat) ≡ moved h (world_of k m seats) e c (core_at (get_or seats c no_seat))
   pub builds : (c : ℕ) → c < length seats → build_of (get_or after c no_seat) ≡ build_of (get_or seats c no_seat)
-  pub told : IsTold a
+  pub text : HasTextInRun a
 
 -- what a step ensures
 pub record Goes (t : Parts) (log : List Step) (next : Memory) (after : List SeatState) (s : Step) : Type 0 where
@@ -187,7 +188,7 @@ module _ (laws : RunsAreAllowed) (t : Parts) (m : Memory) (seats : List SeatStat
     within = (let l = did.lt in rw one (omega (arith, l)));
     log_is = rw (one, more) run_next;
     world_is = rw (one, more) world_next;
-    told = All-push (λ (s : Step). IsTold s.answer) log done run.told did.told;
+    texts = All-push (λ (s : Step). HasTextInRun s.answer) log done run.texts did.text;
   })
 
   pub goes : Goes t log next after (record { event = e; answer = a })

@@ -5,9 +5,8 @@ use Rattle.trails.specs.declared.event.Event.TheVariants.{Store, Msr, Settle, Is
 use Rattle.trails.specs.declared.outcome.Access.{Access}
 use Rattle.trails.specs.declared.step.Answer.{Answer}
 use Rattle.trails.specs.declared.step.Step.{Step}
-use Rattle.cpu_model.specs.Cores.{HasRunLine}
+use Rattle.trails.specs.Printed.{HaveTexts}
 use Rattle.trace_lang.specs.Traces.{Parts}
-use Rattle.machine_spec.specs.Allowed.{is_conflict}
 use Rattle.machine_spec.specs.Machine.{World, world_after, run_of}
 use Rattle.phys_mem.specs.Words.{Held, memory_of}
 use Rattle.machine.specs.Seats.{SeatState, world_of}
@@ -29,18 +28,9 @@ asked_of (AccessOf core access) = Some (core, access)
 asked_of (Prefetch core access) = Some (core, access)
 asked_of _ = None
 
--- an outcome that is no conflict has a line
-abbrev pub IsTold : (answer : Option Answer) → Type 0
-IsTold None = Unit {0}
-IsTold (Some r) = is_conflict r.outcome ≡ false → HasRunLine r.outcome
-
--- each outcome of a log that is no conflict has a line
-abbrev pub AreTold : (log : List Step) → Type 0
-AreTold log = All (λ s. IsTold s.answer) log
-
 -- log and machine are those of the first events of the trace
 pub record IsRun (t : Parts) (log : List Step) (w : World) : Type 0 where
   pub within : length log ≤ length t.events
   pub log_is : log ≡ run_of t.header (take (length log) t.events)
   pub world_is : w ≡ world_after t.header (take (length log) t.events)
-  pub told : AreTold log
+  pub texts : HaveTexts log

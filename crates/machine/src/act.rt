@@ -10,7 +10,8 @@ ghost use Rattle.machine_spec.specs.Invalidations.{is_at_el1};
 ghost use Rattle.machine_spec.specs.Machine.{mailed_by, finished, moved, answer_to};
 ghost use Rattle.machine_laws.specs.Headline.{core_named};
 ghost use Rattle.machine.specs.Seats.{core_at, build_of, no_seat, AreSeats, world_of, IsDoable};
-ghost use Rattle.machine.specs.Runs.{asked_of, IsTold};
+ghost use Rattle.trails.specs.Printed.{HasTextInRun};
+ghost use Rattle.machine.specs.Runs.{asked_of};
 
 use crate::seat::Seat;
 use phys_mem::Phys;
@@ -92,7 +93,7 @@ pub fn answer(phys: &Phys, seats: &mut [Seat], moment: u32, core: u8, access: &A
         c < length seats.old → core_at (slice_index_or seats.new c no_seat)
         ≡ moved h (world_of moment (memory_of phys.now) seats.old) e c (core_at (slice_index_or seats.old c no_seat)) }
     ensures builds { (c : ℕ) → c < length seats.old → build_of (slice_index_or seats.new c no_seat) ≡ build_of (slice_index_or seats.old c no_seat) }
-    ensures told { IsTold (Some result) }
+    ensures text { HasTextInRun (Some result) }
 {
     seats[core as usize].access(phys, moment, access)
 }

@@ -10,7 +10,8 @@ ghost use Rattle.trace_lang.specs.Traces.{RangesFitBehind, IsTrace};
 ghost use Rattle.machine_spec.specs.Allowed.{IsAllowed};
 ghost use Rattle.machine_spec.specs.Machine.{run_of, world_after};
 ghost use Rattle.machine.specs.Seats.{no_seat, new_seat};
-ghost use Rattle.machine.specs.Runs.{AreTold, machine_of};
+ghost use Rattle.trails.specs.Printed.{HaveTexts};
+ghost use Rattle.machine.specs.Runs.{machine_of};
 
 use crate::act::{act, answer, asked};
 use crate::seat::Seat;
@@ -145,7 +146,7 @@ impl Machine {
             × IsAllowed self.old.trace.header self.old.log s }
         ensures run { self.new.log ≡ run_of self.old.trace.header (take (length self.new.log) self.old.trace.events) }
         ensures machine { machine_of self.new ≡ world_after self.old.trace.header (take (length self.new.log) self.old.trace.events) }
-        ensures lines { AreTold self.new.log }
+        ensures texts { HaveTexts self.new.log }
     {
         runs_are_allowed();
         let k = self.log.len();

@@ -1,14 +1,16 @@
 //! A core with its inbox.
-ghost use Rattle.std.specs.Prelude.{◌≡◌, fold, filter, IfOk, None};
+ghost use Rattle.std.specs.Prelude.{◌≡◌, fold, filter, IfOk, None, true};
 ghost use Rattle.sysregs.specs.Refused.{refused_field};
 ghost use Rattle.trails.specs.declared.event.Event.TheVariants.{Dsb};
+ghost use Rattle.trails.specs.Printed.{printed};
+ghost use Rattle.walk_spec.specs.Walked.{HasLine};
 ghost use Rattle.phys_mem.specs.Words.{memory_of};
 ghost use Rattle.trace_lang.specs.declared.header.Size.TheVariants.{NoRows};
 ghost use Rattle.machine_spec.specs.Header.{Header};
 ghost use Rattle.machine_spec.specs.Moments.{settled, drained, queued};
 ghost use Rattle.machine_spec.specs.Invalidations.{is_wide, completes};
 ghost use Rattle.machine_spec.specs.Machine.{killed, delivered, mailed, finished, visited};
-ghost use Rattle.cpu_model.specs.Cores.{Suits, seat_at, with_cache as core_with_cache, HasRunLine};
+ghost use Rattle.cpu_model.specs.Cores.{Suits, seat_at, with_cache as core_with_cache};
 ghost use Rattle.machine.specs.Seats.{core_at, build_of, new_seat, with_bank, with_cache};
 
 use bitwords::NoMemory;
@@ -155,7 +157,7 @@ impl Seat {
         ensures core { (h : Header) → Suits h self.old.core →
             core_at self.new ≡ with_cache (core_at self.old) (visited (seat_at h self.old.core (memory_of phys.now) moment) access.now).cache }
         ensures build { build_of self.new ≡ build_of self.old }
-        ensures line { HasRunLine result.outcome }
+        ensures line { HasLine (printed true result.outcome) }
     {
         self.cpu.access(phys, moment, access)
     }

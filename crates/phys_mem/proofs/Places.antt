@@ -43,8 +43,18 @@ one_place first (r ∷ ranges) p q k h a b e f =
     let more : All IsWhole ranges = All-tail IsWhole r ranges h in
     elim (cases_Bool (holds_word r p)) [
       | inl here ↦ elim (cases_Bool (holds_word r q)) [
-        | inl too ↦ grind (arith, nat_tests, here, too, same_Some (first + (p - r.0) / 8) k (grind (arith, here, e)), same_Some (first + (q - r.0) / 8) k
-        (grind (arith, too, f)), a, b, one.start)
+        | inl too ↦ grind (
+          arith,
+          nat_tests,
+          here,
+          too,
+          same_Some (first + (p - r.0) / 8) k (grind (arith, here, e)),
+          same_Some (first + (q - r.0) / 8) k
+              (grind (arith, too, f)),
+          a,
+          b,
+          one.start,
+        )
         | inr other ↦ let later : first + r.1 / 8 ≤ k = (index_within (first + r.1 / 8) ranges q k more (grind (arith, other, f))).0 in
             absurd (grind (arith, nat_tests, here, later, same_Some (first + (p - r.0) / 8) k (grind (arith, here, e)), one.length))
       ]

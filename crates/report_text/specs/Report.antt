@@ -9,7 +9,8 @@ use Rattle.trails.specs.declared.step.Answer.{Answer}
 use Rattle.trails.specs.declared.step.Step.{Step}
 use Rattle.texts.specs.Texts.{joined_text}
 use Rattle.explain_text.specs.Texts.{item_text}
-use Rattle.explain_text.specs.Explained.{access_text, printed, outcome_text, HasText}
+use Rattle.explain_text.specs.Explained.{access_text, outcome_text}
+use Rattle.trails.specs.Printed.{printed, HasText}
 use Rattle.machine_spec.specs.Summary.{Summary, summary}
 
 -- the line of an event, as `event 8 core 0 access 0x40201abc el1 read asid 0x0 vmid 0x0`: the number of its step, counted
@@ -67,12 +68,3 @@ summary_text s = outcomes_text s ++ marks_text s
 -- the report of a log: the lines of each step in order, and the summary line
 abbrev pub report_text : (log : List Step) → List ℕ
 report_text log = steps_text 0 log ++ summary_text (summary log)
-
--- an answer can be printed: if its outcome is a fault, or a word that memory lacks, it has a status code
-abbrev pub IsPrintable : (answer : Option Answer) → Type 0
-IsPrintable None = Unit {0}
-IsPrintable (Some a) = HasText (printed true a.outcome)
-
--- each answer of a log can be printed
-abbrev pub ArePrintable : (log : List Step) → Type 0
-ArePrintable log = All (λ s. IsPrintable s.answer) log

@@ -1,8 +1,10 @@
 ghost use Rattle.std.specs.Prelude.{◌≡◌, ◌≤◌, ◌++◌, length, true};
 ghost use Rattle.bitwords.specs.Causes.{HasCause};
 ghost use Rattle.explain_text.specs.Written.{Wrote};
-ghost use Rattle.explain_text.specs.Explained.{printed, outcome_text, HasText};
-ghost use Rattle.report_text.specs.Report.{event_text, second_text, answer_text, step_text, outcomes_text, marks_text, summary_text, IsPrintable};
+ghost use Rattle.explain_text.specs.Explained.{outcome_text};
+ghost use Rattle.trails.specs.Printed.{printed, HasText};
+ghost use Rattle.report_text.specs.Report.{event_text, second_text, answer_text, step_text, outcomes_text, marks_text, summary_text};
+ghost use Rattle.trails.specs.Printed.{HasTextInRun};
 
 use crate::counts::Counts;
 use explain_text::{Sink, WriteFailed, item_lines, outcome_line, put_access};
@@ -93,7 +95,7 @@ fn event_lines<O: Sink>(
 
 /// The lines of a step, of which only an access and a prefetch have some.
 pub fn step_lines<O: Sink>(out: &mut O, number: u64, step: &Step) -> Result<(), WriteFailed>
-    requires { IsPrintable step.now.answer }
+    requires { HasTextInRun step.now.answer }
     ensures text { Wrote (O.written out.old) (O.written out.new) result (step_text number step.now) }
     ensures cause { HasCause (O.faults out.old) (O.faults out.new) result }
 {

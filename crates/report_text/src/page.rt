@@ -1,7 +1,8 @@
 ghost use Rattle.std.specs.Prelude.{◌≡◌, ◌≤◌, [], Some, OnOk, take};
 ghost use Rattle.bitwords.specs.Causes.{HasCause};
 ghost use Rattle.explain_text.specs.Written.{Wrote};
-ghost use Rattle.report_text.specs.Report.{step_text, summary_text, IsPrintable};
+ghost use Rattle.report_text.specs.Report.{step_text, summary_text};
+ghost use Rattle.trails.specs.Printed.{HasTextInRun};
 ghost use Rattle.report_text.specs.Waits.{Adds, Passes};
 
 use crate::counts::Counts;
@@ -79,7 +80,7 @@ pub fn put_step<O: Sink>(
     number: u64,
     step: &Step,
 ) -> Result<(), WriteFailed>
-    requires { IsPrintable step.now.answer }
+    requires { HasTextInRun step.now.answer }
     ensures text { Adds (O.written out.old) (O.written out.new) result page.old.bytes.items page.new.bytes.items (step_text number step.now) }
     ensures cause { HasCause (O.faults out.old) (O.faults out.new) result }
 {

@@ -2,7 +2,8 @@ ghost use Rattle.std.specs.Prelude.{◌≡◌, ◌<◌, ◌+◌, ◌^◌, List, 
 ghost use Rattle.bitwords.specs.Causes.{HasCause};
 ghost use Rattle.trails.specs.declared.step.Step.{Step as TheStep};
 ghost use Rattle.explain_text.specs.Written.{Wrote};
-ghost use Rattle.report_text.specs.Report.{report_text, IsPrintable};
+ghost use Rattle.report_text.specs.Report.{report_text};
+ghost use Rattle.trails.specs.Printed.{HasTextInRun};
 ghost use Rattle.report_text.specs.Reports.{IsReportOf, GoesOn};
 
 use crate::counts::Counts;
@@ -51,7 +52,7 @@ impl Report {
 
     /// Writes the lines of the next step. After an error a first part of the report was written.
     pub fn step<O: Sink>(&mut self, out: &mut O, step: &Step) -> Result<(), WriteFailed>
-        requires printable { IsPrintable step.now.answer }
+        requires printable { HasTextInRun step.now.answer }
         requires few { self.old.steps < 2 ^ 32 }
         ensures text { (before : Option (List ℕ)) (log : List TheStep) → IsReportOf before (O.written out.old) self.old log →
             GoesOn before (O.written out.new) result self.new log step.now }

@@ -1,6 +1,6 @@
 ghost use Rattle.std.specs.Prelude.{◌≡◌, ◌≤◌, ◌+◌, length, true, OnOk, IfOk};
-ghost use Rattle.explain_text.specs.Explained.{printed, HasText};
-ghost use Rattle.report_text.specs.Report.{IsPrintable, ArePrintable};
+ghost use Rattle.trails.specs.Printed.{printed, HasText};
+ghost use Rattle.trails.specs.Printed.{HasTextInRun, HaveTexts};
 
 use attributes::{Device, MemType, Share};
 use bitflags::Flags;
@@ -133,7 +133,7 @@ fn answer(asid: u16, vmid: u16, outcome: Outcome, first: Trail) -> Answer
 
 fn accessed(core: u8, access: Access, answer: Answer) -> Step
     requires { HasText (printed true answer.outcome) }
-    ensures { IsPrintable result.answer }
+    ensures { HasTextInRun result.answer }
 {
     Step {
         event: Event::Access { core, access },
@@ -142,7 +142,7 @@ fn accessed(core: u8, access: Access, answer: Answer) -> Step
 }
 
 fn first_access() -> Step
-    ensures { IsPrintable result.answer }
+    ensures { HasTextInRun result.answer }
 {
     let answer = Answer {
         evicted: 3,
@@ -152,7 +152,7 @@ fn first_access() -> Step
 }
 
 fn prefetch() -> Step
-    ensures { IsPrintable result.answer }
+    ensures { HasTextInRun result.answer }
 {
     let access = Access {
         va: 0,
@@ -172,7 +172,7 @@ fn prefetch() -> Step
 }
 
 fn aborted() -> Step
-    ensures { IsPrintable result.answer }
+    ensures { HasTextInRun result.answer }
 {
     let access = Access {
         kind: Kind::Write,
@@ -187,7 +187,7 @@ fn aborted() -> Step
 }
 
 fn conflict() -> Step
-    ensures { IsPrintable result.answer }
+    ensures { HasTextInRun result.answer }
 {
     let answer = Answer {
         second: Some(word()),
@@ -199,7 +199,7 @@ fn conflict() -> Step
 
 /// A step that is not answered.
 fn quiet(event: Event) -> Step
-    ensures { IsPrintable result.answer }
+    ensures { HasTextInRun result.answer }
 {
     Step {
         event,
@@ -208,9 +208,9 @@ fn quiet(event: Event) -> Step
 }
 
 fn put(log: &mut Vec<Step>, step: Step) -> Result<(), AllocError>
-    requires step { IsPrintable step.answer }
-    requires log { ArePrintable log.old.items }
-    ensures log { OnOk result (ArePrintable log.new.items) }
+    requires step { HasTextInRun step.answer }
+    requires log { HaveTexts log.old.items }
+    ensures log { OnOk result (HaveTexts log.new.items) }
     ensures length { OnOk result (length log.new.items ≡ length log.old.items + 1) }
 {
     log.push(step)?;
@@ -219,7 +219,7 @@ fn put(log: &mut Vec<Step>, step: Step) -> Result<(), AllocError>
 
 /// A log with an answer of each kind.
 fn six_steps(alloc: Global) -> Result<Vec<Step>, AllocError>
-    ensures { IfOk result (λ log. ArePrintable log.items × (length log.items ≤ 6)) }
+    ensures { IfOk result (λ log. HaveTexts log.items × (length log.items ≤ 6)) }
 {
     let mut log = Vec::new(alloc);
     put(
@@ -240,7 +240,7 @@ fn six_steps(alloc: Global) -> Result<Vec<Step>, AllocError>
 
 /// Writes the report of a log.
 fn report<O: Sink>(alloc: Global, out: &mut O, log: &[Step]) -> Result<(), WriteFailed>
-    requires printable { ArePrintable log.now }
+    requires printable { HaveTexts log.now }
     requires length { length log.now ≤ 500 }
 {
     let mut report = Report::new(alloc);
@@ -265,7 +265,7 @@ fn reports_a_run(rt: HostRuntime) -> Result<(), AllocError> {
 
 /// A log whose report is handed on in three pieces: each access has 156 bytes.
 fn many_accesses(alloc: Global) -> Result<Vec<Step>, AllocError>
-    ensures { IfOk result (λ log. ArePrintable log.items × (length log.items ≤ 500)) }
+    ensures { IfOk result (λ log. HaveTexts log.items × (length log.items ≤ 500)) }
 {
     let mut log = Vec::new(alloc);
     for _made in 0..500u16 {

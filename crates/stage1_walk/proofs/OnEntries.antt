@@ -81,7 +81,7 @@ module _ {S : Type 0} (gives : S → ℤ → ℕ → List Item → Result ℕ St
     place_is : p ≡ g.word.1.pa
     place_is =
         let grown : middle ≡ (old ++ g.word.0) ++ g.word.1 ∷ [] =
-            g.grown ∙ ap (λ more. old ++ more) g.word.2 ∙ sym (append_assoc old g.word.0 (g.word.1 ∷ [])) in
+        g.grown ∙ ap (λ more. old ++ more) g.word.2 ∙ sym (append_assoc old g.word.0 (g.word.1 ∷ [])) in
         last.3 ∙ ap (λ i. i.pa) (last_same last.0 (old ++ g.word.0) last.1 g.word.1 (sym last.2 ∙ grown))
 
     -- what follows the word follows on the supply's items
@@ -91,7 +91,7 @@ module _ {S : Type 0} (gives : S → ℤ → ℕ → List Item → Result ℕ St
         let given : gives before (level_of e.left) e.place (g.word.0 ++ g.word.1 ∷ []) (Ok g.word.1.value) mid = rw (← g.word.2, g.word.3) g.given in
         let next : Ran value (by_entry gives) (walk1_then q left (step1 q e g.word.1.pa g.word.1.value)) mid rest end after = rw (← place_is, g.word.3) h in
         subst (λ w. Ran value (by_entry gives) w before (g.more ++ rest) end after) (sym (asks_here q left t e here))
-            (inl (g.word.0, g.word.1, rest, mid, given, ap (λ more. more ++ rest) g.word.2, next))
+        (inl (g.word.0, g.word.1, rest, mid, given, ap (λ more. more ++ rest) g.word.2, next))
 
     ends : (d : End Leaf1) (result : Result Leaf1 Stop) → walk1_then q left (step1 q e p v) ≡ done d → result ≡ answer_of (Ok d)
         → Walked1 gives q left t before old middle result mid

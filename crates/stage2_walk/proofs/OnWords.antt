@@ -76,4 +76,4 @@ module _ (m : Told) (k : ℕ) (q : Asked2) (left table p : ℕ) (here : p ≡ pl
     word_goes F G next new s step l f h =
         let w : walk2_then q left (step2 q left p v) ≡ walk2_from q (left - 1) next = ap (walk2_then q left) (sym step) ∙ walk2_below_less q left next l in
         walked_goes (ReadsWord k m) m F G _ (word (word_at q left table p)) _ (word_item k S2 (level_of left) p v) _ old mid new s
-            (asks_here q left table p here) grown (refl, held) w f h
+        (asks_here q left table p here) grown (refl, held) w f h

@@ -1,5 +1,5 @@
 -- What a TLBI gives (DDI 0487, the TLBI instructions and AArch64.TLBI): its ASID, its addresses, and whom it reaches.
-use Rattle.std.specs.Prelude.{ℕ, ◌+◌, ◌-◌, ◌*◌, ◌^◌, Bool, true, false, ◌==◌, ◌&&◌, ◌||◌, min, if◌then◌else◌, Option}
+use Rattle.std.specs.Prelude.{ℕ, ◌+◌, ◌-◌, ◌*◌, ◌^◌, Bool, ◌==◌, ◌&&◌, ◌||◌, min, if◌then◌else◌, Option}
 use Rattle.std.specs.Prelude.{Some, None}
 use Rattle.bitwords.specs.Fields.{bits_of, bit}
 use Rattle.sysregs.specs.declared.regs.Regs.{Regs}

@@ -4,3 +4,4 @@ pub use Rattle.permissions.specs.Rights
 pub use Rattle.attributes.specs.Memory
 pub use Rattle.fault_codes.specs.Status
 pub mod Lengths
+pub mod Printed

@@ -52,8 +52,11 @@ granule_least g h = grind arith
 address_page : (g w : ℕ) → IsGranule g → address_in g w g % 2 ^ 12 ≡ 0
 address_page g w h =
     let l = granule_least g h in
-    elim (eqb g 16) as (λ b. cond b (bits_of w 15 12 * 2 ^ 48 + bits_of w 47 g * 2 ^ g) (bits_of w 47 g * 2 ^ g) % 2 ^ 12 ≡ 0) [ true ↦
-    sum_multiple (bits_of w 15 12) (bits_of w 47 g) 48 g (omega arith) l | false ↦ multiple (bits_of w 47 g) g 12 l ]
+    elim (eqb g 16) as (λ b. cond b (bits_of w 15 12 * 2 ^ 48 + bits_of w 47 g * 2 ^ g) (bits_of w 47 g * 2 ^ g) % 2 ^ 12 ≡ 0) [
+      | true ↦
+          sum_multiple (bits_of w 15 12) (bits_of w 47 g) 48 g (omega arith) l
+      | false ↦ multiple (bits_of w 47 g) g 12 l
+    ]
 
 -- which words are tables, by their lowest bits and level
 table2_where : {S : Type 0} (k : S → Kind2) (nothing pointer mapping : S) (b0 b1 b2 b3 : Bool) (a next : ℕ) →

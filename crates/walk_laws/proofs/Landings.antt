@@ -55,8 +55,11 @@ module _ (r : Regime) (f : IsOfFields r) (a b : Access) where
               let o : l.out / 2 ^ m.class ≡ other / 2 ^ m.class = goes_to_piece_same l.out l.class m.class (untagged a.va) (untagged b.va) here (rw k at s) in
               let v = step_after (fits r) (SameRegion r) (walk2 (asked2 r false l.out)) (walk2 (asked2 r false other)) (λ e. done (judged2 false a l e)) (λ e.
               done (judged2 false b (moved1 l (untagged b.va)) e)) front _ _ (d.shift o) in
-              rw t.0 (step_on (fits r) (SameRegion r) _ _ front [] _ _ _ _ v (ap (λ z. done (reaches z)) e, ap (λ z. done (reaches (moved z (untagged b.va)))) e
-              ∙ sym (ap (λ z. done (reaches z)) (piece_again m d.here))))),
+              rw t.0 (step_on (fits r) (SameRegion r) _ _ front [] _ _ _ _ v (
+                ap (λ z. done (reaches z)) e,
+                ap (λ z. done (reaches (moved z (untagged b.va)))) e
+                    ∙ sym (ap (λ z. done (reaches z)) (piece_again m d.here)),
+              ))),
         )
 
     output : (vm : Bool) (items : List Item) → Takes (fits r) (Output vm a l) items (done (reaches n)) → Goes vm items

@@ -68,138 +68,138 @@ pub record Twins {L T : Type 0} (fits : Need → Item → Bool) (alike : Need �
   pub shrinks : (below left : ℕ) (i : Item) → below < left → m.class below i ≤ m.low left
 
 module _ {L T : Type 0} (fits : Need → Item → Bool) (alike : Need → Need → Item → Type 0) (d d' : Descent L T) (m : Measure T) (law : Twins fits alike d d' m)
-    where
-  abbrev Ends : List Item → Ask Need Item (End L) → Type 0
-  Ends items u = Closes m.own items u
+  where
+    abbrev Ends : List Item → Ask Need Item (End L) → Type 0
+    Ends items u = Closes m.own items u
 
-  -- The walk has taken the items up to a word, the last of them, and the other walk goes in step where the two addresses
-  -- agree as far as this word speaks.
-  pub record Way (left : ℕ) (t : T) (items : List Item) (u : Ask Need Item (End L)) : Type 0 where
-    pub at : ℕ
-    pub table : T
-    pub item : Item
-    pub most : at ≤ left
-    pub fed : (front : List Item) × Takes fits (d.had at table) front (done (Ok item))
-    pub left_as : u ≡ behind d at table item
-    pub is_last : (i : Item) → LastIs items i → m.own i → i ≡ item
-    pub shift : (k : ℕ) → m.sound left t → k ≤ m.class at item → m.same k →
-        InStep fits alike (levels d left t) (levels d' left t) items u (behind d' at table item)
+    -- The walk has taken the items up to a word, the last of them, and the other walk goes in step where the two addresses
+    -- agree as far as this word speaks.
+    pub record Way (left : ℕ) (t : T) (items : List Item) (u : Ask Need Item (End L)) : Type 0 where
+      pub at : ℕ
+      pub table : T
+      pub item : Item
+      pub most : at ≤ left
+      pub fed : (front : List Item) × Takes fits (d.had at table) front (done (Ok item))
+      pub left_as : u ≡ behind d at table item
+      pub is_last : (i : Item) → LastIs items i → m.own i → i ≡ item
+      pub shift : (k : ℕ) → m.sound left t → k ≤ m.class at item → m.same k →
+          InStep fits alike (levels d left t) (levels d' left t) items u (behind d' at table item)
 
-  in_step_here : (left : ℕ) (t : T) (front rest : List Item) (j : Item) (u u' : Ask Need Item (End L)) →
-      InStep fits alike (d.had left t) (d'.had left t) front (done (Ok j)) (done (Ok j)) →
-      InStep fits alike (behind d left t j) (behind d' left t j) rest u u' → InStep fits alike (levels d left t) (levels d' left t) (front ++ rest) u u'
-  in_step_here left t front rest j u u' w s =
-      rw (levels_is d left t, levels_is d' left t)
-      (step_on fits alike _ _ front rest _ _ _ _
-      (step_after fits alike (d.had left t) (d'.had left t) (onward (beneath d left) (d.step left t)) (onward (beneath d' left) (d'.step left t)) front _ _ w)
-      s)
+    in_step_here : (left : ℕ) (t : T) (front rest : List Item) (j : Item) (u u' : Ask Need Item (End L)) →
+        InStep fits alike (d.had left t) (d'.had left t) front (done (Ok j)) (done (Ok j)) →
+        InStep fits alike (behind d left t j) (behind d' left t j) rest u u' → InStep fits alike (levels d left t) (levels d' left t) (front ++ rest) u u'
+    in_step_here left t front rest j u u' w s =
+        rw (levels_is d left t, levels_is d' left t)
+        (step_on fits alike _ _ front rest _ _ _ _
+        (step_after fits alike (d.had left t) (d'.had left t) (onward (beneath d left) (d.step left t)) (onward (beneath d' left) (d'.step left t)) front _ _ w)
+        s)
 
-  -- the word was the last item
-  way_here : (left : ℕ) (t : T) (front : List Item) (j : Item) (u : Ask Need Item (End L)) → Takes fits (d.had left t) front (done (Ok j)) →
-      u ≡ behind d left t j → Way left t (front ++ []) u
-  way_here left t front j u h e =
-      record {
-        at = left;
-        table = t;
-        item = j;
-        most = omega arith;
-        fed = (front, h);
-        left_as = e;
-        is_last = λ i l o. (let q : done (Ok j) ≡ done (Ok i) = law.whole left t front (done (Ok j)) i h (rw append-nil at l) o in cc);
-        shift = λ k s n q. in_step_here left t front [] j u (behind d' left t j) (law.words left t front j k s h n q) (e, refl);
-      }
+    -- the word was the last item
+    way_here : (left : ℕ) (t : T) (front : List Item) (j : Item) (u : Ask Need Item (End L)) → Takes fits (d.had left t) front (done (Ok j)) →
+        u ≡ behind d left t j → Way left t (front ++ []) u
+    way_here left t front j u h e =
+        record {
+          at = left;
+          table = t;
+          item = j;
+          most = omega arith;
+          fed = (front, h);
+          left_as = e;
+          is_last = λ i l o. (let q : done (Ok j) ≡ done (Ok i) = law.whole left t front (done (Ok j)) i h (rw append-nil at l) o in cc);
+          shift = λ k s n q. in_step_here left t front [] j u (behind d' left t j) (law.words left t front j k s h n q) (e, refl);
+        }
 
-  -- the word was a table
-  way_below : (left : ℕ) (t next : T) (front rest : List Item) (j : Item) (u : Ask Need Item (End L)) → Takes fits (d.had (suc left) t) front (done (Ok j)) →
-      d.step (suc left) t j ≡ Down next → ((i : Item) → LastIs (front ++ rest) i → LastIs rest i) → Way left next rest u → Way (suc left) t (front ++ rest) u
-  way_below left t next front rest j u h down l w =
-      let most = w.most in
-      record {
-        at = w.at;
-        table = w.table;
-        item = w.item;
-        most = omega (arith, most);
-        fed = w.fed;
-        left_as = w.left_as;
-        is_last = λ i e o. w.is_last i (l i e) o;
-        shift = λ k s n q. (let v = law.tables (suc left) t j next down in
-            let a = law.shrinks w.at (suc left) w.item (omega (arith, most)) in
-            let b = law.least (suc left) j in
-            in_step_here (suc left) t front rest j u _ (law.words (suc left) t front j k s h (omega (arith, a, b, n)) q)
-            (rw (down, v.0) (w.shift k (v.1 left) n q)));
-      }
+    -- the word was a table
+    way_below : (left : ℕ) (t next : T) (front rest : List Item) (j : Item) (u : Ask Need Item (End L)) → Takes fits (d.had (suc left) t) front (done (Ok j)) →
+        d.step (suc left) t j ≡ Down next → ((i : Item) → LastIs (front ++ rest) i → LastIs rest i) → Way left next rest u → Way (suc left) t (front ++ rest) u
+    way_below left t next front rest j u h down l w =
+        let most = w.most in
+        record {
+          at = w.at;
+          table = w.table;
+          item = w.item;
+          most = omega (arith, most);
+          fed = w.fed;
+          left_as = w.left_as;
+          is_last = λ i e o. w.is_last i (l i e) o;
+          shift = λ k s n q. (let v = law.tables (suc left) t j next down in
+              let a = law.shrinks w.at (suc left) w.item (omega (arith, most)) in
+              let b = law.least (suc left) j in
+              in_step_here (suc left) t front rest j u _ (law.words (suc left) t front j k s h (omega (arith, a, b, n)) q)
+              (rw (down, v.0) (w.shift k (v.1 left) n q)));
+        }
 
-  not_first : (left : ℕ) (t : T) (f : Result Item Fault → Ask Need Item (End L)) (items : List Item) (u : Ask Need Item (End L)) →
-      InFirst fits (d.had left t) f items u → Ends items u → ⊥
-  not_first left t f items u w (inl l) = let e = w.3 in let q : done (reaches l.0) ≡ after (ask w.0 w.1) f = sym l.1 ∙ e in cc
-  not_first left t f items u w (inr i) = let q : ask w.0 w.1 ≡ done (Ok i.0) = law.whole left t items (ask w.0 w.1) i.0 w.2 i.1 i.2 in cc
+    not_first : (left : ℕ) (t : T) (f : Result Item Fault → Ask Need Item (End L)) (items : List Item) (u : Ask Need Item (End L)) →
+        InFirst fits (d.had left t) f items u → Ends items u → ⊥
+    not_first left t f items u w (inl l) = let e = w.3 in let q : done (reaches l.0) ≡ after (ask w.0 w.1) f = sym l.1 ∙ e in cc
+    not_first left t f items u w (inr i) = let q : ask w.0 w.1 ≡ done (Ok i.0) = law.whole left t items (ask w.0 w.1) i.0 w.2 i.1 i.2 in cc
 
-  not_fault : (left : ℕ) (t : T) (f : Fault) (front : List Item) (u : Ask Need Item (End L)) → Takes fits (d.had left t) front (done (Err f)) →
-      u ≡ done (stops f) → Ends (front ++ []) u → ⊥
-  not_fault left t f front u h e (inl l) = let q : done (reaches l.0) ≡ done (stops f) = sym l.1 ∙ e in cc
-  not_fault left t f front u h e (inr i) = let q : done (Err f) ≡ done (Ok i.0) = law.whole left t front (done (Err f)) i.0 h (rw append-nil at i.1) i.2 in cc
+    not_fault : (left : ℕ) (t : T) (f : Fault) (front : List Item) (u : Ask Need Item (End L)) → Takes fits (d.had left t) front (done (Err f)) →
+        u ≡ done (stops f) → Ends (front ++ []) u → ⊥
+    not_fault left t f front u h e (inl l) = let q : done (reaches l.0) ≡ done (stops f) = sym l.1 ∙ e in cc
+    not_fault left t f front u h e (inr i) = let q : done (Err f) ≡ done (Ok i.0) = law.whole left t front (done (Err f)) i.0 h (rw append-nil at i.1) i.2 in cc
 
-  closes_rest : (front : List Item) (r : Item) (rest : List Item) (u : Ask Need Item (End L)) → Ends (front ++ r ∷ rest) u → Ends (r ∷ rest) u
-  closes_rest front r rest u (inl l) = inl l
-  closes_rest front r rest u (inr i) = inr (i.0, last_back front r rest i.0 i.1, i.2)
+    closes_rest : (front : List Item) (r : Item) (rest : List Item) (u : Ask Need Item (End L)) → Ends (front ++ r ∷ rest) u → Ends (r ∷ rest) u
+    closes_rest front r rest u (inl l) = inl l
+    closes_rest front r rest u (inr i) = inr (i.0, last_back front r rest i.0 i.1, i.2)
 
-  -- a word with further items behind it was a table
-  by_step : (left : ℕ) (t : T) (front : List Item) (r : Item) (rest : List Item) (j : Item) (u : Ask Need Item (End L)) (s : Step L T) →
-      d.step (suc left) t j ≡ s → Takes fits (d.had (suc left) t) front (done (Ok j)) →
-      ((next : T) → Takes fits (levels d left next) (r ∷ rest) u → Way left next (r ∷ rest) u) → Takes fits (step_then (levels d left) s) (r ∷ rest) u →
-      Way (suc left) t (front ++ r ∷ rest) u
-  by_step left t front r rest j u (Down next) e h deeper w = way_below left t next front (r ∷ rest) j u h e (λ i l. last_back front r rest i l) (deeper next w)
-  by_step left t front r rest j u (Reached l) e h deeper w = absurd w
-  by_step left t front r rest j u (Stopped f) e h deeper w = absurd w
+    -- a word with further items behind it was a table
+    by_step : (left : ℕ) (t : T) (front : List Item) (r : Item) (rest : List Item) (j : Item) (u : Ask Need Item (End L)) (s : Step L T) →
+        d.step (suc left) t j ≡ s → Takes fits (d.had (suc left) t) front (done (Ok j)) →
+        ((next : T) → Takes fits (levels d left next) (r ∷ rest) u → Way left next (r ∷ rest) u) → Takes fits (step_then (levels d left) s) (r ∷ rest) u →
+        Way (suc left) t (front ++ r ∷ rest) u
+    by_step left t front r rest j u (Down next) e h deeper w = way_below left t next front (r ∷ rest) j u h e (λ i l. last_back front r rest i l) (deeper next w)
+    by_step left t front r rest j u (Reached l) e h deeper w = absurd w
+    by_step left t front r rest j u (Stopped f) e h deeper w = absurd w
 
-  -- the last level has no tables
-  none_below : (t : T) (r : Item) (rest : List Item) (j : Item) (u : Ask Need Item (End L)) (s : Step L T) →
-      Takes {N = Need} fits (step_then (λ _. done (stops d.last)) s) (r ∷ rest) u → ⊥
-  none_below t r rest j u (Down next) w = w
-  none_below t r rest j u (Reached l) w = w
-  none_below t r rest j u (Stopped f) w = w
+    -- the last level has no tables
+    none_below : (t : T) (r : Item) (rest : List Item) (j : Item) (u : Ask Need Item (End L)) (s : Step L T) →
+        Takes {N = Need} fits (step_then (λ _. done (stops d.last)) s) (r ∷ rest) u → ⊥
+    none_below t r rest j u (Down next) w = w
+    none_below t r rest j u (Reached l) w = w
+    none_below t r rest j u (Stopped f) w = w
 
-  way_zero : (t : T) (a : Result Item Fault) (front rest : List Item) (u : Ask Need Item (End L)) → Takes fits (d.had 0 t) front (done a) →
-      Takes fits (onward (λ _. done (stops d.last)) (d.step 0 t) a) rest u → Ends (front ++ rest) u → Way 0 t (front ++ rest) u
-  way_zero t (Err f) front [] u h w c = absurd (not_fault 0 t f front u h w c)
-  way_zero t (Err f) front (r ∷ rest) u h w c = absurd w
-  way_zero t (Ok j) front [] u h w c = way_here 0 t front j u h w
-  way_zero t (Ok j) front (r ∷ rest) u h w c = absurd (none_below t r rest j u (d.step 0 t j) w)
+    way_zero : (t : T) (a : Result Item Fault) (front rest : List Item) (u : Ask Need Item (End L)) → Takes fits (d.had 0 t) front (done a) →
+        Takes fits (onward (λ _. done (stops d.last)) (d.step 0 t) a) rest u → Ends (front ++ rest) u → Way 0 t (front ++ rest) u
+    way_zero t (Err f) front [] u h w c = absurd (not_fault 0 t f front u h w c)
+    way_zero t (Err f) front (r ∷ rest) u h w c = absurd w
+    way_zero t (Ok j) front [] u h w c = way_here 0 t front j u h w
+    way_zero t (Ok j) front (r ∷ rest) u h w c = absurd (none_below t r rest j u (d.step 0 t j) w)
 
-  way_suc : (left : ℕ) (t : T) (a : Result Item Fault) (front rest : List Item) (u : Ask Need Item (End L)) →
-      ((next : T) (r : Item) (rest : List Item) → Takes fits (levels d left next) (r ∷ rest) u → Ends (r ∷ rest) u → Way left next (r ∷ rest) u) →
-      Takes fits (d.had (suc left) t) front (done a) → Takes fits (onward (levels d left) (d.step (suc left) t) a) rest u → Ends (front ++ rest) u →
-      Way (suc left) t (front ++ rest) u
-  way_suc left t (Err f) front [] u deeper h w c = absurd (not_fault (suc left) t f front u h w c)
-  way_suc left t (Err f) front (r ∷ rest) u deeper h w c = absurd w
-  way_suc left t (Ok j) front [] u deeper h w c = way_here (suc left) t front j u h w
-  way_suc left t (Ok j) front (r ∷ rest) u deeper h w c =
-      by_step left t front r rest j u (d.step (suc left) t j) refl h (λ next v. deeper next r rest v (closes_rest front r rest u c)) w
+    way_suc : (left : ℕ) (t : T) (a : Result Item Fault) (front rest : List Item) (u : Ask Need Item (End L)) →
+        ((next : T) (r : Item) (rest : List Item) → Takes fits (levels d left next) (r ∷ rest) u → Ends (r ∷ rest) u → Way left next (r ∷ rest) u) →
+        Takes fits (d.had (suc left) t) front (done a) → Takes fits (onward (levels d left) (d.step (suc left) t) a) rest u → Ends (front ++ rest) u →
+        Way (suc left) t (front ++ rest) u
+    way_suc left t (Err f) front [] u deeper h w c = absurd (not_fault (suc left) t f front u h w c)
+    way_suc left t (Err f) front (r ∷ rest) u deeper h w c = absurd w
+    way_suc left t (Ok j) front [] u deeper h w c = way_here (suc left) t front j u h w
+    way_suc left t (Ok j) front (r ∷ rest) u deeper h w c =
+        by_step left t front r rest j u (d.step (suc left) t j) refl h (λ next v. deeper next r rest v (closes_rest front r rest u c)) w
 
-  abbrev Second : ℕ → T → List Item → Ask Need Item (End L) → Type 0
-  Second left t items u = InSecond fits (d.had left t) (onward (beneath d left) (d.step left t)) items u
+    abbrev Second : ℕ → T → List Item → Ask Need Item (End L) → Type 0
+    Second left t items u = InSecond fits (d.had left t) (onward (beneath d left) (d.step left t)) items u
 
-  -- walks down the levels go in step, as far as the last word speaks
-  pub way : (left : ℕ) (t : T) (items : List Item) (u : Ask Need Item (End L)) → Takes fits (levels d left t) items u → Ends items u → Way left t items u
-  way zero t items u h c =
-      elim (takes_after fits (d.had 0 t) (onward (λ _. done (stops d.last)) (d.step 0 t)) items u h) as (λ _. Way 0 t items u) [
-        | inl w ↦ absurd (not_first 0 t _ items u w c)
-        | inr w ↦ rw w.3 (way_zero t w.0 w.1 w.2 u w.4 w.5 (rw w.3 at c))
-      ]
-  way (suc left) t items u h c =
-      elim (takes_after fits (d.had (suc left) t) (onward (levels d left) (d.step (suc left) t)) items u h) as (λ _. Way (suc left) t items u) [
-        | inl w ↦ absurd (not_first (suc left) t _ items u w c)
-        | inr w ↦ rw w.3 (way_suc left t w.0 w.1 w.2 u (λ next r rest v e. way left next (r ∷ rest) u v e) w.4 w.5 (rw w.3 at c))
-      ]
+    -- walks down the levels go in step, as far as the last word speaks
+    pub way : (left : ℕ) (t : T) (items : List Item) (u : Ask Need Item (End L)) → Takes fits (levels d left t) items u → Ends items u → Way left t items u
+    way zero t items u h c =
+        elim (takes_after fits (d.had 0 t) (onward (λ _. done (stops d.last)) (d.step 0 t)) items u h) as (λ _. Way 0 t items u) [
+          | inl w ↦ absurd (not_first 0 t _ items u w c)
+          | inr w ↦ rw w.3 (way_zero t w.0 w.1 w.2 u w.4 w.5 (rw w.3 at c))
+        ]
+    way (suc left) t items u h c =
+        elim (takes_after fits (d.had (suc left) t) (onward (levels d left) (d.step (suc left) t)) items u h) as (λ _. Way (suc left) t items u) [
+          | inl w ↦ absurd (not_first (suc left) t _ items u w c)
+          | inr w ↦ rw w.3 (way_suc left t w.0 w.1 w.2 u (λ next r rest v e. way left next (r ∷ rest) u v e) w.4 w.5 (rw w.3 at c))
+        ]
 
-  no_leaf_had : (left : ℕ) (t : T) (b : Ask Need Item (Result Item Fault)) (f : Item → Ask Need Item (End L)) (l : L) → ((i : Item) → b ≡ done (Ok i) → ⊥) →
-      after b (go_on stops f) ≡ done (reaches l) → ⊥
-  no_leaf_had left t (ask n k) f l w h = absurd cc
-  no_leaf_had left t (done (Err d)) f l w h = absurd cc
-  no_leaf_had left t (done (Ok i)) f l w h = w i refl
+    no_leaf_had : (left : ℕ) (t : T) (b : Ask Need Item (Result Item Fault)) (f : Item → Ask Need Item (End L)) (l : L) → ((i : Item) → b ≡ done (Ok i) → ⊥) →
+        after b (go_on stops f) ≡ done (reaches l) → ⊥
+    no_leaf_had left t (ask n k) f l w h = absurd cc
+    no_leaf_had left t (done (Err d)) f l w h = absurd cc
+    no_leaf_had left t (done (Ok i)) f l w h = w i refl
 
-  -- no leaf without a word
-  pub no_leaf : (left : ℕ) (t : T) (l : L) → beneath d left t ≡ done (reaches l) → ⊥
-  no_leaf zero t l h = absurd cc
-  no_leaf (suc left) t l h = no_leaf_had left t (d.had left t) (λ i. step_then (beneath d left) (d.step left t i)) l (λ i e. law.none left t i (sym e))
-      (rw (levels_is d left t) at h)
+    -- no leaf without a word
+    pub no_leaf : (left : ℕ) (t : T) (l : L) → beneath d left t ≡ done (reaches l) → ⊥
+    no_leaf zero t l h = absurd cc
+    no_leaf (suc left) t l h = no_leaf_had left t (d.had left t) (λ i. step_then (beneath d left) (d.step left t i)) l (λ i e. law.none left t i (sym e))
+        (rw (levels_is d left t) at h)

@@ -120,8 +120,10 @@ goes_to_piece_same out k m x y e h =
     ] refl h
 
 pub smaller_left : (k m : ℕ) → smaller k m ≤ k
-smaller_left k m = elim (nat_le k m) as (λ b. nat_le k m ≡ b → cond b k m ≤ k) [ true ↦ (λ t. omega arith)
-    | false ↦ (λ t. omega (arith, leb-false k m t)) ] refl
+smaller_left k m = elim (nat_le k m) as (λ b. nat_le k m ≡ b → cond b k m ≤ k) [
+  | true ↦ (λ t. omega arith)
+  | false ↦ (λ t. omega (arith, leb-false k m t))
+] refl
 
 -- an address of the region of one in range is in range
 pub in_range : (x y k input : ℕ) → k ≤ input → x / 2 ^ k ≡ y / 2 ^ k → x < 2 ^ input → y < 2 ^ input

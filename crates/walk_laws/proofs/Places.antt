@@ -83,14 +83,18 @@ counted_fits (Some m) n left pa h = run_fits (run_at n.granule left) (class_of n
 pub class_by_least : (m : Option (ℕ × Bool)) (n : Sizes) (left pa : ℕ) → IsGranule n.granule → class_of n.granule left ≤ class_by m n left pa
 class_by_least m n left pa h = let w =
     run_within n.granule left h in rw (class_by_is m n left pa)
-    (elim (counted_by m n left pa) as (λ b. class_of n.granule left ≤ cond b (run_class n.granule left) (class_of n.granule left)) [ true ↦ w.0
-    | false ↦ omega arith ])
+    (elim (counted_by m n left pa) as (λ b. class_of n.granule left ≤ cond b (run_class n.granule left) (class_of n.granule left)) [
+      | true ↦ w.0
+      | false ↦ omega arith
+    ])
 
 pub class_by_most : (m : Option (ℕ × Bool)) (n : Sizes) (left pa : ℕ) → IsGranule n.granule → class_by m n left pa ≤ run_class n.granule left
 class_by_most m n left pa h = let w =
     run_within n.granule left h in rw (class_by_is m n left pa)
-    (elim (counted_by m n left pa) as (λ b. cond b (run_class n.granule left) (class_of n.granule left) ≤ run_class n.granule left) [ true ↦ omega arith
-    | false ↦ w.0 ])
+    (elim (counted_by m n left pa) as (λ b. cond b (run_class n.granule left) (class_of n.granule left) ≤ run_class n.granule left) [
+      | true ↦ omega arith
+      | false ↦ w.0
+    ])
 
 -- no word covers more than the input range
 pub class_by_fits : (m : Option (ℕ × Bool)) (n : Sizes) (left pa : ℕ) → class_of n.granule left ≤ n.input → class_by m n left pa ≤ n.input
@@ -124,7 +128,7 @@ alike_page n left pa m p p' h a =
     elim (counted_by m n left pa) as (λ b. (b ≡ true → p' / line_of n.granule left ≡ p / line_of n.granule left) → (b ≡ false → p' ≡ p) →
     p' / 2 ^ 12 ≡ p / 2 ^ 12) [
       | true ↦ (λ s t. coarser p' p (3 + run_bits n.granule left) 12 (line_within n.granule left h) (sym (by_line n.granule left p') ∙ s refl
-      ∙ by_line n.granule left p))
+          ∙ by_line n.granule left p))
       | false ↦ (λ s t. ap (λ z. z / 2 ^ 12) (t refl))
     ] a.line a.same
 

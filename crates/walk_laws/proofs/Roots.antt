@@ -69,8 +69,17 @@ module _ {L : Type 0} (fits : Need → Item → Bool) (own : Item → Type 0) (o
   behind_base b [] u true e f w c = absurd (no_close b o.excess u f w c)
   behind_base b (k ∷ rest) u true e f w c = absurd w
   behind_base b rest u false e f w c =
-      record { base = b; rest = rest; split = refl; accepted = refl; fit = f; within = e; taken = w; closes = closes_behind b rest u f c;
-          is_last = λ i l v. last_behind b rest i f l v }
+      record {
+        base = b;
+        rest = rest;
+        split = refl;
+        accepted = refl;
+        fit = f;
+        within = e;
+        taken = w;
+        closes = closes_behind b rest u f c;
+        is_last = λ i l v. last_behind b rest i f l v;
+      }
 
   -- a stage whose items end at a leaf, or with a word, has taken a base
   pub from_root : (refused : Bool) (items : List Item) (u : Ask Need Item (End L)) → Takes fits (rooted o walk refused) items u → Closes (WordOf own) items u →

@@ -36,17 +36,21 @@ of_fields c s = record { stage1 = refl; stage2 = refl }
 pub stage2_shifts : Stage2Shifts
 stage2_shifts c s p x y items l h m =
     let t = takes_ends (fits (regime_of c s)) (walk2 (asked2 (regime_of c s) p x)) items _ h in
-    let i = (reached2 (regime_of c s) p x y (of_fields c s) items l t).shift m in
-    (step_stands (fits (regime_of c s)) (SameRegion (regime_of c s)) _ _ items _ _ i, step_met (fits (regime_of c s)) (region_met (regime_of c s)) _ _ items _ _
-    i)
+    let i = (reached2 (regime_of c s) p x y (of_fields c s) items l t).shift m in (
+      step_stands (fits (regime_of c s)) (SameRegion (regime_of c s)) _ _ items _ _ i,
+      step_met (fits (regime_of c s)) (region_met (regime_of c s)) _ _ items _ _
+          i,
+    )
 
 pub table2_shifts : Table2Shifts
 table2_shifts c s p x y items left value next e m h same =
     let t = tables2_in_step (regime_of c s) p x y (of_fields c s) items e.item left next (rw e.last (last_here e.front e.item)) e.what e.level (rw e.has m) same
     h in
-    let n : NeedsWord (on (fits (regime_of c s)) t.1 []) = needs_word (fits (regime_of c s)) t.1 t.4 in
-    (rw (step_stands (fits (regime_of c s)) (SameRegion (regime_of c s)) _ _ items _ _ t.2) n, step_met (fits (regime_of c s)) (region_met (regime_of c s)) _ _
-    items _ _ t.2)
+    let n : NeedsWord (on (fits (regime_of c s)) t.1 []) = needs_word (fits (regime_of c s)) t.1 t.4 in (
+      rw (step_stands (fits (regime_of c s)) (SameRegion (regime_of c s)) _ _ items _ _ t.2) n,
+      step_met (fits (regime_of c s)) (region_met (regime_of c s)) _ _
+          items _ _ t.2,
+    )
 
 side_by : (b b' : Bool) → b ≡ b' → (if b then High else Low) ≡ (if b' then High else Low)
 side_by b b' h = ap (λ z. if z then High else Low) h
@@ -85,9 +89,11 @@ walk_shifts c a b items n m h bits ok =
     let i = d.shift same ok in
     let e : side_of a.va ≡ side_of b.va = same_side a.va b.va n.class (omega (arith, l)) same in
     let q : lands_at (moved n (untagged b.va)) ≡ lands_at (moved n b.va) = ap lands_at (moved_untagged n b.va l) in
-    subst (Shifted c false a b items (λ z. z ≡ lands_at (moved n b.va))) e
-    (step_stands (fits (regime_of c (side_of a.va))) (SameRegion (regime_of c (side_of a.va))) _ _ items _ _ i
-    ∙ q, step_met (fits (regime_of c (side_of a.va))) (region_met (regime_of c (side_of a.va))) _ _ items _ _ i)
+    subst (Shifted c false a b items (λ z. z ≡ lands_at (moved n b.va))) e (
+      step_stands (fits (regime_of c (side_of a.va))) (SameRegion (regime_of c (side_of a.va))) _ _ items _ _ i
+          ∙ q,
+      step_met (fits (regime_of c (side_of a.va))) (region_met (regime_of c (side_of a.va))) _ _ items _ _ i,
+    )
 
 pub table1_shifts : Table1Shifts
 table1_shifts c j a b items left value next bits e m h equal ok =
@@ -98,6 +104,8 @@ table1_shifts c j a b items left value next bits e m h equal ok =
     let t = d.shift same ok in
     let q : side_of a.va ≡ side_of b.va = same_side a.va b.va (class_of (sizes1 c (side_of a.va)).granule left) (omega (arith, l)) same in
     let n : IsOpen (on (fits (regime_of c (side_of a.va))) t.1 []) = is_open (fits (regime_of c (side_of a.va))) t.1 t.4 in
-    subst (Shifted c j a b items IsOpen) q
-    (rw (step_stands (fits (regime_of c (side_of a.va))) (SameRegion (regime_of c (side_of a.va))) _ _ items _ _ t.2) n, step_met
-    (fits (regime_of c (side_of a.va))) (region_met (regime_of c (side_of a.va))) _ _ items _ _ t.2)
+    subst (Shifted c j a b items IsOpen) q (
+      rw (step_stands (fits (regime_of c (side_of a.va))) (SameRegion (regime_of c (side_of a.va))) _ _ items _ _ t.2) n,
+      step_met
+          (fits (regime_of c (side_of a.va))) (region_met (regime_of c (side_of a.va))) _ _ items _ _ t.2,
+    )

@@ -96,9 +96,11 @@ sized2_input c = refl
 pub sound2 : (r : Regime) (x : ℕ) → IsOfFields r → is_refused2 r.config x ≡ false → AreSound r.stage2 × (x < 2 ^ r.stage2.input)
 unfolding is_refused2
 sound2 r x f h =
-    let t = not_false _ h in
-    (rw f.stage2 (sound2_by r.config (first_of_and _ _ t)), rw (f.stage2, sized2_input r.config)
-    (ltb-true x (2 ^ input_size r.config.t2sz) (second_of_and _ _ t)))
+    let t = not_false _ h in (
+      rw f.stage2 (sound2_by r.config (first_of_and _ _ t)),
+      rw (f.stage2, sized2_input r.config)
+          (ltb-true x (2 ^ input_size r.config.t2sz) (second_of_and _ _ t)),
+    )
 
 in_range_with : (s : Bool) (x y input : ℕ) → not (s && nat_lt x (2 ^ input)) ≡ false → (x < 2 ^ input → y < 2 ^ input) → not (s && nat_lt y (2 ^ input)) ≡ false
 in_range_with true x y input h f = let l : x < 2 ^ input = ltb-true x (2 ^ input) (not_false _ h) in let m = f l in grind (arith, nat_tests)

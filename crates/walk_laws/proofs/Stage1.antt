@@ -75,8 +75,14 @@ module _ (r : Regime) (left : ℕ) (i : Item) where
   turn_leaf out attr_index sh bits af global contiguous true off e b n = fault AddressSize (λ j a t. rw (e, b) refl)
   turn_leaf out attr_index sh bits af global contiguous false true e b n = fault AccessFlag (λ j a t. rw (e, b, n) refl)
   turn_leaf out attr_index sh bits af global contiguous false false e b n =
-      leaf record { out = out; attr_index = attr_index; sh = sh; bits = bits; global = global;
-          contiguous = contiguous } (rw e refl) (λ j a t. rw (e, b, n) refl)
+      leaf record {
+        out = out;
+        attr_index = attr_index;
+        sh = sh;
+        bits = bits;
+        global = global;
+        contiguous = contiguous;
+      } (rw e refl) (λ j a t. rw (e, b, n) refl)
 
   turn_by : (kind : Kind1) → means1_of r.config r.side left i.value ≡ kind → Turn1 r left i
   unfolding step1
@@ -254,8 +260,10 @@ judged_end c j a left uxn l =
 
 judged_not_down : (c : Config) (j : Bool) (a : Access) (left : ℕ) (uxn : Bool) (l : Leaf1) (next : Table1) → judged1 c j a left uxn l ≡ Down next → ⊥
 judged_not_down c j a left uxn l next h =
-    elim (judged_end c j a left uxn l) as (λ _. ⊥) [ inl e ↦ (let q : Reached l ≡ Down next = sym e ∙ h in cc)
-        | inr e ↦ (let q : Stopped (fault1 Permission left) ≡ Down next = sym e ∙ h in cc) ]
+    elim (judged_end c j a left uxn l) as (λ _. ⊥) [
+      | inl e ↦ (let q : Reached l ≡ Down next = sym e ∙ h in cc)
+      | inr e ↦ (let q : Stopped (fault1 Permission left) ≡ Down next = sym e ∙ h in cc)
+    ]
 
 module _ (r : Regime) (j : Bool) where
   -- the word of a level, what it leads to, and the levels that are left
@@ -440,8 +448,13 @@ module _ (r : Regime) (j : Bool) (a b : Access) where
         left_as = w.left_as;
         is_last = λ i l q v. w.is_last i (o.is_last i l v) q;
         shift = λ k l q ny. (let c = aligned_start r.stage1 o.base.value (granule1 r f) (base_fits r o.base o.fit).1 in
-            rw (o.accepted, ny) (o.fit, o.fit, refl, rw o.within
-            (rw (stage1_levels r j a r.stage1.start (root1 o.base.value), stage1_levels r j b r.stage1.start (root1 o.base.value)) (w.shift k c l q))));
+            rw (o.accepted, ny) (
+              o.fit,
+              o.fit,
+              refl,
+              rw o.within
+                  (rw (stage1_levels r j a r.stage1.start (root1 o.base.value), stage1_levels r j b r.stage1.start (root1 o.base.value)) (w.shift k c l q)),
+            ));
       }
 
   -- Stage 1 that has taken items up to a word or a leaf goes in step with that of another access of the word's region.
@@ -466,8 +479,10 @@ module _ (r : Regime) (a b : Access) where
   at_leaf f items l w (table next bits al d) =
       let e : done (reaches l) ≡ beneath (down1 r false a) w.left record { address = next; bits = joined w.table.bits bits } = w.left_as
       ∙ rw (d false a w.table) refl in
-      absurd (no_leaf (fits r) (SameRegion r) (down1 r false a) (down1 r false b) (measure1 r false a b) (law1 r false f a b) w.left record { address = next;
-          bits = joined w.table.bits bits } l (sym e))
+      absurd (no_leaf (fits r) (SameRegion r) (down1 r false a) (down1 r false b) (measure1 r false a b) (law1 r false f a b) w.left record {
+        address = next;
+        bits = joined w.table.bits bits;
+      } l (sym e))
   at_leaf f items l w (fault k d) = (let e : done (reaches l) ≡ done (stops (fault1 k w.left)) = w.left_as ∙ rw (d false a w.table) refl in absurd cc)
   at_leaf f items l w (leaf v m d) =
       let e : done (reaches l) ≡ done (reaches (leaf1_of r (entry1 (under r false a) w.left w.table) w.item.pa v)) = w.left_as ∙ rw (d false a w.table) refl in

@@ -55,8 +55,16 @@ module _ (r : Regime) (left : ℕ) (i : Item) where
   turn_leaf out mem_attr xn sh read write af dbm contiguous true off e b n = fault AddressSize (λ p x. rw (e, b) refl)
   turn_leaf out mem_attr xn sh read write af dbm contiguous false true e b n = fault AccessFlag (λ p x. rw (e, b, n) refl)
   turn_leaf out mem_attr xn sh read write af dbm contiguous false false e b n =
-      leaf record { out = out; mem_attr = mem_attr; xn = xn; sh = sh; read = read; write = write; dbm = dbm;
-          contiguous = contiguous } (rw e refl) (λ p x. rw (e, b, n) refl)
+      leaf record {
+        out = out;
+        mem_attr = mem_attr;
+        xn = xn;
+        sh = sh;
+        read = read;
+        write = write;
+        dbm = dbm;
+        contiguous = contiguous;
+      } (rw e refl) (λ p x. rw (e, b, n) refl)
 
   turn_by : (kind : Kind2) → means2_of r.config left i.value ≡ kind → Turn2 r left i
   unfolding step2
@@ -172,8 +180,12 @@ module _ (r : Regime) (p : Bool) (x y : ℕ) where
         InStep (fits r) (SameRegion r) (walk2 (asked2 r p x)) (walk2 (asked2 r p y)) items u (behind2 y left item)
 
   abbrev root2 : Root
-  root2 = record { need = base2 x; is_large = is_too_large r.stage2; refusal = fault2 (asked2 r p x) Translation most_left;
-      excess = fault2 (asked2 r p x) AddressSize most_left }
+  root2 = record {
+    need = base2 x;
+    is_large = is_too_large r.stage2;
+    refusal = fault2 (asked2 r p x) Translation most_left;
+    excess = fault2 (asked2 r p x) AddressSize most_left;
+  }
 
   abbrev from2 : ℕ → Ask Need Item (End Leaf2)
   from2 = walk2_from (asked2 r p x) r.stage2.start
@@ -191,15 +203,23 @@ module _ (r : Regime) (p : Bool) (x y : ℕ) where
         item = w.item;
         sound = s.0;
         most = c;
-        fit = (place_of r.stage2 w.at w.table x, w.table,
-            (one_taken r (word_at S2 w.at (place_of r.stage2 w.at w.table x) p x w.table) w.fed.0 w.item w.fed.1).1);
+        fit = (
+          place_of r.stage2 w.at w.table x,
+          w.table,
+          (one_taken r (word_at S2 w.at (place_of r.stage2 w.at w.table x) p x w.table) w.fed.0 w.item w.fed.1).1,
+        );
         left_as = w.left_as;
         is_last = λ i l q. w.is_last i (o.is_last i l q) tt;
         shift = λ k l q. (let ny = range2 r x y k f (omega (arith, c, l)) q o.accepted in
             let a = aligned_start r.stage2 o.base.value (granule2 r f) (base_fits r x o.base o.fit).1 in
-            rw (o.accepted, ny) (o.fit, same_base r x y o.base
-            ∙ o.fit, refl, rw o.within (rw (walk2_levels r p x r.stage2.start o.base.value, walk2_levels r p y r.stage2.start o.base.value)
-            (w.shift k a l q))));
+            rw (o.accepted, ny) (
+              o.fit,
+              same_base r x y o.base
+                  ∙ o.fit,
+              refl,
+              rw o.within (rw (walk2_levels r p x r.stage2.start o.base.value, walk2_levels r p y r.stage2.start o.base.value)
+                  (w.shift k a l q)),
+            ));
       }
 
   -- Stage 2 that has taken items up to a word or a leaf goes in step with that of another IPA of the word's region.

@@ -173,9 +173,14 @@ module _ (r : Regime) (j : Bool) where
         omega (arith, d, s, k),
         λ same ok. (
             let st = step_after (fits r) (SameRegion r) (stage1_on (under r j a)) (stage1_on (under r j b)) (stage2_behind (under r j a))
-            (stage2_behind (under r j b)) items _ _ (w.shift (class_of r.stage1.granule left) (omega (arith, c, k)) same ok) in
-            (Behind a u, Behind b (behind1 r j a b b w.left w.table w.item), st, h, opens_behind a b w.left w.table w.item next bits m' (turn1 r w.left w.item)
-            (rw w.left_as at h))),
+            (stage2_behind (under r j b)) items _ _ (w.shift (class_of r.stage1.granule left) (omega (arith, c, k)) same ok) in (
+              Behind a u,
+              Behind b (behind1 r j a b b w.left w.table w.item),
+              st,
+              h,
+              opens_behind a b w.left w.table w.item next bits m' (turn1 r w.left w.item)
+                  (rw w.left_as at h),
+            )),
       )
 
   opened_by : (m : Bool) (a b : Access) (items : List Item) (i : Item) (left next : ℕ) (bits : TableBits) → IsOfFields r → r.side ≡ side_of a.va →

@@ -41,8 +41,10 @@ unfolding on_worked_walks
 serves_the_run = walk_shifts user (kernel_read 0x40201abc) tagged_write run_items (run_landing 0x11abc) refl refl refl refl
 
 -- a table covers an entry of its level around the address, and a page of a run the run
-names_the_regions : regions user false tagged_write run_items ≡ None ∷ Some record { class = 39; start = 0 } ∷ Some record { class = 30;
-    start = 1 } ∷ Some record { class = 21; start = 0x201 } ∷ Some record { class = 16; start = 0x4020 } ∷ []
+names_the_regions : regions user false tagged_write run_items ≡ None ∷ Some record { class = 39; start = 0 } ∷ Some record {
+  class = 30;
+  start = 1;
+} ∷ Some record { class = 21; start = 0x201 } ∷ Some record { class = 16; start = 0x4020 } ∷ []
 unfolding on_worked_walks
 names_the_regions = refl
 
@@ -78,8 +80,15 @@ goes_on_behind_a_table_of_stage_1 : IsOpen (stands guest true (kernel_read 0x402
 unfolding on_worked_walks
 goes_on_behind_a_table_of_stage_1 =
     table1_shifts guest true (kernel_read 0x40201abc) (kernel_read 0x402ff000) (front_items ++ item S1 2 0x3008 0x4003 ∷ []) 1 0x4003 0x4000 record
-        { no_el0 = false; read_only = false; pxn = false; uxn = false } record { front = front_items; item = item S1 2 0x3008 0x4003; last = refl; is_of = refl;
-        what = refl; level = refl; has = refl } refl tt refl refl
+    { no_el0 = false; read_only = false; pxn = false; uxn = false } record {
+      front = front_items;
+      item = item S1 2 0x3008 0x4003;
+      last = refl;
+      is_of = refl;
+      what = refl;
+      level = refl;
+      has = refl;
+    } refl tt refl refl
 
 -- another IPA below the table of stage 2 needs a word in it
 goes_on_behind_a_table_of_stage_2 : NeedsWord (stands2 guest Low true 0x1ff000 (descent S2 1 0x8000 ((0x8000, 0x9003) ∷ (0x9000, 0xa003) ∷ [])))
@@ -87,9 +96,15 @@ goes_on_behind_a_table_of_stage_2 : NeedsWord (stands2 guest Low true 0x1ff000 (
     (descent S2 1 0x8000 ((0x8000, 0x9003) ∷ (0x9000, 0xa003) ∷ [])))
 unfolding on_worked_walks
 goes_on_behind_a_table_of_stage_2 =
-    table2_shifts guest Low true 0x1008 0x1ff000 (descent S2 1 0x8000 ((0x8000, 0x9003) ∷ (0x9000, 0xa003) ∷ [])) 1 0xa003 0xa000 record
-        { front = descent S2 1 0x8000 ((0x8000, 0x9003) ∷ []); item = item S2 2 0x9000 0xa003; last = refl; is_of = refl; what = refl; level = refl;
-        has = refl } refl tt refl
+    table2_shifts guest Low true 0x1008 0x1ff000 (descent S2 1 0x8000 ((0x8000, 0x9003) ∷ (0x9000, 0xa003) ∷ [])) 1 0xa003 0xa000 record {
+      front = descent S2 1 0x8000 ((0x8000, 0x9003) ∷ []);
+      item = item S2 2 0x9000 0xa003;
+      last = refl;
+      is_of = refl;
+      what = refl;
+      level = refl;
+      has = refl;
+    } refl tt refl
 
 -- a page of stage 2 in a run of sixteen, which stands second
 abbrev stage_2_items : List Item

@@ -15,8 +15,11 @@ pub on_after : {N I A B : Type 0} (fits : N → I → Bool) (t : Ask N I A) (f :
 on_after fits (done a) f items = refl
 on_after fits (ask n k) f [] = refl
 on_after fits (ask n k) f (i ∷ items) =
-    elim (fits n i) as (λ b. cond b (on fits (after (k i) f) items) bad ≡ then_on (cond b (on fits (k i) items) bad) (λ a rest. on fits (f a) rest)) [ true ↦
-    on_after fits (k i) f items | false ↦ refl ]
+    elim (fits n i) as (λ b. cond b (on fits (after (k i) f) items) bad ≡ then_on (cond b (on fits (k i) items) bad) (λ a rest. on fits (f a) rest)) [
+      | true ↦
+          on_after fits (k i) f items
+      | false ↦ refl
+    ]
 
 -- a walk that has ended takes no more
 pub on_ends_append : {N I A : Type 0} (fits : N → I → Bool) (t : Ask N I A) (items more : List I) (a : A) (rest : List I) → on fits t items ≡ ends a rest →
@@ -24,8 +27,11 @@ pub on_ends_append : {N I A : Type 0} (fits : N → I → Bool) (t : Ask N I A) 
 on_ends_append fits (done b) items more a rest h = cc
 on_ends_append fits (ask n k) [] more a rest h = cc
 on_ends_append fits (ask n k) (i ∷ items) more a rest h =
-    elim (fits n i) as (λ b. cond b (on fits (k i) items) bad ≡ ends a rest → cond b (on fits (k i) (items ++ more)) bad ≡ ends a (rest ++ more)) [ true ↦
-    (λ e. on_ends_append fits (k i) items more a rest e) | false ↦ (λ e. cc) ] h
+    elim (fits n i) as (λ b. cond b (on fits (k i) items) bad ≡ ends a rest → cond b (on fits (k i) (items ++ more)) bad ≡ ends a (rest ++ more)) [
+      | true ↦
+          (λ e. on_ends_append fits (k i) items more a rest e)
+      | false ↦ (λ e. cc)
+    ] h
 
 -- an item that does not fit is not mended by further items
 pub on_bad_append : {N I A : Type 0} (fits : N → I → Bool) (t : Ask N I A) (items more : List I) → on fits t items ≡ bad → on fits t (items ++ more) ≡ bad
@@ -92,4 +98,4 @@ pub on_after_needs : {N I A B : Type 0} (fits : N → I → Bool) (t : Ask N I A
     on fits (after t f) items ≡ needs n → (on fits t items ≡ needs n) ⊎ NeedsLater fits t f items n
 on_after_needs fits t f items n h =
     elim (after_needs fits f (on fits t items) n (sym (on_after fits t f items) ∙ h)) as (λ _. (on fits t items ≡ needs n) ⊎ NeedsLater fits t f items n)
-        [ inl e ↦ inl e | inr d ↦ (let s = on_split fits t items d.0 d.1 d.2 in inr (d.0, d.1, s.0, s.1, s.2, d.3)) ]
+    [ inl e ↦ inl e | inr d ↦ (let s = on_split fits t items d.0 d.1 d.2 in inr (d.0, d.1, s.0, s.1, s.2, d.3)) ]

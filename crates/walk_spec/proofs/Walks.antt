@@ -43,8 +43,14 @@ module _ {L : Type 0} (reads : Need → Item → Type 0) (m : Told) where
       (old mid new : List Item) (r : Result L Stop) → t ≡ ask n k → mid ≡ old ++ i ∷ [] → reads n i → k i ≡ t' → (F → G) → Walked reads m F t' mid new r →
       Walked reads m G t old new r
   walked_goes F G t n k i t' old mid new r e a h w f d =
-      record { more = i ∷ d.more; end = d.end; grown = d.grown ∙ ap (λ l. l ++ d.more) a ∙ append_assoc old (i ∷ []) d.more; took = rw e (h, rw w d.took);
-      cause = lacks_weaker m F G f d.end d.cause; answer = d.answer }
+      record {
+        more = i ∷ d.more;
+        end = d.end;
+        grown = d.grown ∙ ap (λ l. l ++ d.more) a ∙ append_assoc old (i ∷ []) d.more;
+        took = rw e (h, rw w d.took);
+        cause = lacks_weaker m F G f d.end d.cause;
+        answer = d.answer;
+      }
 
 -- what was read more strictly was read
 pub walked_weaker : {L : Type 0} (reads reads' : Need → Item → Type 0) (m : Told) (F : Type 0) → ((n : Need) (i : Item) → reads n i → reads' n i) →

@@ -1,10 +1,11 @@
-use Rattle.std.proofs.Common.{◌≡◌, get_or, set, sym, ap, ◌∙◌, Some}
+use Rattle.std.proofs.Common.{◌≡◌, get_or, set, sym, ap, ◌∙◌, Some, true}
 use Rattle.trails.specs.declared.event.Event.{Event}
 use Rattle.trails.specs.declared.event.Event.TheVariants.{Access as AccessOf, Prefetch}
+use Rattle.trails.specs.Printed.{printed}
 use Rattle.phys_mem.specs.Words.{memory_of}
 use Rattle.machine_spec.specs.Machine.{World, Seat, seat_of, moved, visited, answer_to}
 use Rattle.machine.specs.Seats.{core_at, no_seat, world_of, with_cache}
-use Rattle.machine.proofs.Acts.{one_at, core_in, suits, seat_is, access_own, access_other, prefetch_own, prefetch_other, by_asked}
+use Rattle.machine.proofs.Acts.{one_at, core_in, suits, seat_is, access_own, access_other, prefetch_own, prefetch_other, by_asked, line_text}
 use Rattle.machine.proofs.act.answer.Goals as goal
 
 pub returns-clause-answer : goal.returns-clause-answer
@@ -35,3 +36,6 @@ returns-clause-cores c h e is are d lt =
     (one_at core_at (moved h w (AccessOf j a)) s j x c.access.new.self c.requires (visit ∙ access_own h w j a _) (λ k v ne. access_other h w j a k v ne) d)
     (one_at core_at (moved h w (Prefetch j a)) s j x c.access.new.self c.requires (visit ∙ prefetch_own h w j a _) (λ k v ne. prefetch_other h w j a k v ne)
         d) e is
+
+pub returns-clause-text : goal.returns-clause-text
+returns-clause-text c = line_text (printed true c.access.result.outcome) c.access.ensures.line

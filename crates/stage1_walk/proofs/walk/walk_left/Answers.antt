@@ -15,7 +15,7 @@ loop-word-preserved g c =
     let i = c.loop-word.invariant in
     let gave = c.in_ok-word.ensures.gave in
     let n : length c.word_of.new.trail ≤ length c.loop-word.trail + most_per_word =
-        omega (arith, ap length gave.grown, length-append c.loop-word.trail gave.more, gave.most) in
+    omega (arith, ap length gave.grown, length-append c.loop-word.trail gave.more, gave.most) in
     let s = c.in-Down.ensures.sound in
     let here = entry_here c.args.under.now c.loop-word.left c.loop-word.table c.place.result c.requires.under c.place.ensures.value in record {
       left = omega (arith, i.left);

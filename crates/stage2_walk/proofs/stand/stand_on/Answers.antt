@@ -22,13 +22,13 @@ returns-then-not-fits_start c = λ s.
     let e = asks_base (asked_under c.args.under.now) c.requires.accepted in
     let l : c.args.at < length c.args.items.now = omega arith in
     asks_off (fits (regime_under c.args.under.now s)) _ _ _ e c.args.items.now c.args.at c.item_at-item.result l c.item_at-item.ensures
-        (sym (c.if-not-fits_start.ensures s c.args.under.now.ipa))
+    (sym (c.if-not-fits_start.ensures s c.args.under.now.ipa))
 
 pub returns : goal.returns
 returns c = λ s.
     let e = asks_base (asked_under c.args.under.now) c.requires.accepted in
     let l : c.args.at < length c.args.items.now = omega arith in
     let by =
-        asks_by (fits (regime_under c.args.under.now s)) _ _ _ e c.args.items.now c.args.at c.item_at-item.result l c.item_at-item.ensures
-        (sym (c.if-not-fits_start.ensures s c.args.under.now.ipa)) in
+    asks_by (fits (regime_under c.args.under.now s)) _ _ _ e c.args.items.now c.args.at c.item_at-item.result l c.item_at-item.ensures
+    (sym (c.if-not-fits_start.ensures s c.args.under.now.ipa)) in
     subst (λ z. IsStood2 c.args.under.now.config.now c.args.items.now c.stand_behind.result z) (sym by) (c.stand_behind.ensures s)

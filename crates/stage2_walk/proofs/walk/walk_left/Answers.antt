@@ -25,17 +25,17 @@ loop-word-preserved g c =
       most = omega (arith, i.most, n, s.0);
       walked = λ k new r w. i.walked k new r
           (word_goes _ _ _ _ _ c.place-place.result c.place-place.ensures.value _ _ _ h.0 h.1 _ _ _ _ _ c.in-Down.ensures.value s.0
-              (rose_weaker _ _ _ _ l (omega arith)) w);
+          (rose_weaker _ _ _ _ l (omega arith)) w);
     }
 
 pub returns-in-Reached-clause-walked : goal.returns-in-Reached-clause-walked
 returns-in-Reached-clause-walked g c =
     let h = rw c.loop-word.invariant.same at c.in_ok-word.ensures.read in
     c.loop-word.invariant.walked _ _ _
-        (word_reaches _ _ _ _ _ c.place-place.result c.place-place.ensures.value _ _ _ h.0 h.1 _ _ _ c.in-Reached.ensures.value refl)
+    (word_reaches _ _ _ _ _ c.place-place.result c.place-place.ensures.value _ _ _ h.0 h.1 _ _ _ c.in-Reached.ensures.value refl)
 
 pub returns-in-Stopped-clause-walked : goal.returns-in-Stopped-clause-walked
 returns-in-Stopped-clause-walked g c =
     let h = rw c.loop-word.invariant.same at c.in_ok-word.ensures.read in
     c.loop-word.invariant.walked _ _ _
-        (word_stops _ _ _ _ _ c.place-place.result c.place-place.ensures.value _ _ _ h.0 h.1 _ _ _ c.in-Stopped.ensures.value refl)
+    (word_stops _ _ _ _ _ c.place-place.result c.place-place.ensures.value _ _ _ h.0 h.1 _ _ _ c.in-Stopped.ensures.value refl)

@@ -3,8 +3,14 @@ use Rattle.texts.proofs.Onto.{drop_room, digits_start, digit_put, last_put, room
 use Rattle.texts.proofs.line.digits_before.Goals as goal
 
 pub loop-left-init : goal.loop-left-init
-loop-left-init c = record { counted = refl; few = omega arith; size = search rules; room = (search rules); more = λ e. omega arith;
-    same = digits_start c.args.most c.args.radix c.args.n _ (omega arith) }
+loop-left-init c = record {
+  counted = refl;
+  few = omega arith;
+  size = search rules;
+  room = (search rules);
+  more = λ e. omega arith;
+  same = digits_start c.args.most c.args.radix c.args.n _ (omega arith);
+}
 
 pub loop-left-preserved : goal.loop-left-preserved
 loop-left-preserved c = record {

@@ -49,7 +49,7 @@ went_some c =
       len = c.answer.auto.seats;
       cores = λ h are. c.answer.ensures.cores h e is are;
       builds = c.answer.ensures.builds;
-      told = c.answer.ensures.told;
+      text = c.answer.ensures.text;
     })
 
 pub invariant_of-self : goal.invariant_of-self
@@ -71,8 +71,8 @@ returns-in-Some-clause-log c = let g = went_some c in rw (← c.self.view_is, c.
 pub returns-in-Some-clause-run : goal.returns-in-Some-clause-run
 returns-in-Some-clause-run c = let g = went_some c in rw (← c.self.view_is, c.push_reserved.ensures.items) g.kept.log_is
 
-pub returns-in-Some-clause-lines : goal.returns-in-Some-clause-lines
-returns-in-Some-clause-lines c = let g = went_some c in rw c.push_reserved.ensures.items g.kept.told
+pub returns-in-Some-clause-texts : goal.returns-in-Some-clause-texts
+returns-in-Some-clause-texts c = let g = went_some c in rw c.push_reserved.ensures.items g.kept.texts
 
 pub returns-in-Some-clause-machine : goal.returns-in-Some-clause-machine
 returns-in-Some-clause-machine c =
@@ -107,7 +107,7 @@ went_none c =
       len = c.act.auto.seats;
       cores = c.act.ensures.cores;
       builds = c.act.ensures.builds;
-      told = tt;
+      text = tt;
     })
 
 pub invariant_of-self-in-None : goal.invariant_of-self-in-None
@@ -129,8 +129,8 @@ returns-in-None-clause-log c = let g = went_none c in rw (← c.self.view_is, c.
 pub returns-in-None-clause-run : goal.returns-in-None-clause-run
 returns-in-None-clause-run c = let g = went_none c in rw (← c.self.view_is, c.push_quiet.ensures.items) g.kept.log_is
 
-pub returns-in-None-clause-lines : goal.returns-in-None-clause-lines
-returns-in-None-clause-lines c = let g = went_none c in rw c.push_quiet.ensures.items g.kept.told
+pub returns-in-None-clause-texts : goal.returns-in-None-clause-texts
+returns-in-None-clause-texts c = let g = went_none c in rw c.push_quiet.ensures.items g.kept.texts
 
 pub returns-in-None-clause-machine : goal.returns-in-None-clause-machine
 returns-in-None-clause-machine c =
