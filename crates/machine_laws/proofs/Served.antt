@@ -85,7 +85,8 @@ old_last k [] m h e = none_some m e
 old_last k (x ∷ ms) m h e = old_case k x ms m (last_first ms) (is_first x) refl e h (old_last k ms m h.1)
 
 -- there is no item of stage 1 among items of stage 2
-second_case : (x : Mark) (ms : List Mark) (m : Mark) (o : Option Mark) (b : Bool) → last_first ms ≡ o → b ≡ false → option_or o (cond b (Some x) None) ≡ Some m →
+second_case : (x : Mark) (ms : List Mark) (m : Mark) (o : Option Mark) (b : Bool) → last_first ms ≡ o → b ≡ false
+    → option_or o (cond b (Some x) None) ≡ Some m →
     (last_first ms ≡ Some m → ⊥) → ⊥
 second_case x ms m (Some y) b e n f rec = rec (e ∙ f)
 second_case x ms m None true e n f rec = both_ways true n refl
