@@ -267,7 +267,8 @@ module _ (serves : ServesWell) (makes : MakesWell) (h : Header) (none : h.size �
           let all : AllFacts h (run_of h es) (world_after h es) = facts_of_run serves makes h es parts.0 in
           rw (run_on h es e, world_on h es e) (
             bare_next (world_after h es) e all.count b.0,
-            each_more (λ l t. IsFreshFor h l t.event t.answer) (run_of h es) (step_of h (world_after h es) e) b.1 (fresh_one h (run_of h es) (world_after h es) all none b.0 e parts.1),
+            each_more (λ l t. IsFreshFor h l t.event t.answer) (run_of h es) (step_of h (world_after h es) e) b.1
+                (fresh_one h (run_of h es) (world_after h es) all none b.0 e parts.1),
           )
 
 -- where every run has the facts of the machine

@@ -1,6 +1,6 @@
 -- Answers that are not allowed. Each law says what is wrong with an answer to an access by a core behind a log, whatever the rest
 -- of it is, so that no change of what is allowed lets it through unseen. They are this project's own.
-use Rattle.std.specs.Prelude.{◌≡◌, ℕ, ℤ, Bool, true, false, List, take, Some, None}
+use Rattle.std.specs.Prelude.{◌≡◌, ◌⊎◌, ℕ, ℤ, Bool, true, false, List, take, Some, None}
 use Rattle.std.specs.List.{Contains}
 use Rattle.sysregs.specs.Registers.{config_of, asid_of, vmid_of}
 use Rattle.sysregs.specs.Sides.{side_of}
@@ -23,8 +23,12 @@ use Rattle.machine_spec.specs.Allowed.{is_conflict, IsAnswer, case_of, Ends, IsA
 abbrev pub IsWrong : (header : Header) (log : List Step) (core : ℕ) (access : Access) (answer : Answer) → Type 0
 IsWrong h log c a r = IsAnswer (case_of h log c a) r → ⊥
 
--- What may not stand on the trail of an answer that is no conflict: a word that memory didn't hold at the item's moment, a base
--- that the register didn't give then, and an item that was read under other register fields or another VMID than those of now.
+-- an item stands on a trail of an answer, of which a conflict has two
+abbrev pub IsShown : (answer : Answer) (item : Item) → Type 0
+IsShown r i = Contains r.first i ⊎ ((second : List Item) × (r.second ≡ Some second) × Contains second i)
+
+-- What may not stand on a trail: a word that memory didn't hold at the item's moment, a base that the register didn't give then, and
+-- an item that was read under other register fields or another VMID than those of now.
 pub record ItemsAreTrue (h : Header) (log : List Step) (c : ℕ) (a : Access) (r : Answer) (i : Item) : Type 0 where
   pub word : i.what ≡ Word → (memory_after h (take i.moment log) i.pa ≡ Some i.value → ⊥) → IsWrong h log c a r
   pub base : i.what ≡ Base → (base_by (regs_at log c i.moment) (side_of a.va) i.stage ≡ i.value → ⊥) → IsWrong h log c a r
@@ -46,7 +50,7 @@ pub record ConflictsAreTrue (h : Header) (log : List Step) (c : ℕ) (a : Access
 
 -- No answer may have another ASID or VMID than that of now, and none has `old` and `stale` exchanged.
 pub record AnswersAreTrue (h : Header) (log : List Step) (c : ℕ) (a : Access) (r : Answer) : Type 0 where
-  pub items : is_conflict r.outcome ≡ false → (i : Item) → Contains r.first i → ItemsAreTrue h log c a r i
+  pub items : (i : Item) → IsShown r i → ItemsAreTrue h log c a r i
   pub outcomes : is_conflict r.outcome ≡ false → OutcomesAreTrue h log c a r
   pub conflicts : r.outcome ≡ Conflict → ConflictsAreTrue h log c a r
   pub asid : (r.asid ≡ asid_of (regs_after c log) → ⊥) → IsWrong h log c a r
