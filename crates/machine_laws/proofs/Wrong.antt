@@ -1,5 +1,5 @@
 -- What an allowed answer promises of each item of its trail, and of its outcome.
-use Rattle.std.proofs.Common.{◌≡◌, ℕ, Bool, true, false, List, [], ◌∷◌, ◌++◌, take, refl, sym, ap, ◌∙◌, subst, Option, Some, None, inl, inr}
+use Rattle.std.proofs.Common.{◌≡◌, ℕ, Bool, true, false, not, List, [], ◌∷◌, ◌++◌, take, refl, sym, ap, ◌∙◌, subst, Option, Some, None, inl, inr}
 use Rattle.std.specs.Prelude.{ℤ, All, ◌⊎◌}
 use Rattle.std.proofs.lemmas.List.Elements.{All-contains, All-nil, All-cons}
 use Rattle.std.proofs.lemmas.Option.{same_Some}
@@ -14,10 +14,11 @@ use Rattle.trails.specs.declared.outcome.Outcome.{Outcome}
 use Rattle.trails.specs.declared.outcome.Outcome.TheVariants.{Mapped, Faulted, Absent, Conflict}
 use Rattle.trails.specs.declared.step.Answer.{Answer}
 use Rattle.trails.specs.declared.step.Step.{Step}
-use Rattle.walk_spec.specs.Ask.{Ask, done, ask, Stands, needs, ends, on}
-use Rattle.walk_spec.specs.Needs.{Regime, Need, base1, base2, word, fits, regime_of}
+use Rattle.walk_spec.specs.Ask.{lacks, Ask, done, ask, Stands, needs, ends, on}
+use Rattle.walk_spec.specs.Needs.{WordNeed, Regime, Need, base1, base2, word, fits, regime_of}
 use Rattle.walk_spec.specs.Steps.{End}
 use Rattle.walk_spec.specs.BothStages.{Landing, walk, outcome_of}
+use Rattle.walk_spec.specs.Fresh.{fed_outcome}
 use Rattle.walk_laws.specs.Shift.{stands}
 use Rattle.machine_spec.specs.Header.{Header}
 use Rattle.machine_spec.specs.Moments.{memory_after, regs_after}
@@ -129,6 +130,17 @@ module _ (q : Case) (xs : List Item) (second : Option (List Item)) where
 same_end : (d e : End Landing) → ◌≡◌ {A = Stands Need Item (End Landing)} (ends d []) (ends e []) → outcome_of d ≡ outcome_of e
 same_end d e h = let same : d ≡ e = cc in ap outcome_of same
 
+ends_needs : (e : End Landing) (n : Need) → ◌≡◌ {A = Stands Need Item (End Landing)} (ends e []) (needs n) → ⊥
+ends_needs e n h = absurd cc
+
+same_need : (m n : WordNeed) → ◌≡◌ {A = Stands Need Item (End Landing)} (needs (word m)) (needs (word n))
+    → fed_outcome (lacks (word m)) ≡ fed_outcome (lacks (word n))
+same_need m n h = let same : m ≡ n = cc in ap (λ k. fed_outcome (lacks (word k))) same
+
+turned : (b c : Bool) → b ≡ c → not b ≡ c → ⊥
+turned true c e f = let w : true ≡ false = e ∙ sym f in absurd cc
+turned false c e f = let w : false ≡ true = e ∙ sym f in absurd cc
+
 -- OUTCOMES
 
 module _ (q : Case) (xs : List Item) (second : Option (List Item)) where
@@ -140,6 +152,14 @@ module _ (q : Case) (xs : List Item) (second : Option (List Item)) where
       let clash : ◌≡◌ {A = Stands Need Item (End Landing)} (needs (word r.need)) (ends e []) = sym r.walk_needs ∙ at in
       absurd cc
   end_is Conflict e r one at = absurd cc
+
+  -- one where the walk needs a word names this word
+  need_is : (o : Outcome) (n : WordNeed) → IsRight q xs second o → is_conflict o ≡ false → stands (config_now q) true q.access xs ≡ needs (word n)
+      → o ≡ fed_outcome (lacks (word n))
+  need_is (Mapped pa perms mem sh) n r one at = absurd (ends_needs r.end (word n) (sym r.walk_ends ∙ at))
+  need_is (Faulted f) n r one at = absurd (ends_needs r.end (word n) (sym r.walk_ends ∙ at))
+  need_is (Absent s level pa s1ptw) n r one at = r.is ∙ same_need r.need n (sym r.walk_needs ∙ at)
+  need_is Conflict n r one at = absurd cc
 
   alone_is : (o : Outcome) → IsRight q xs second o → is_conflict o ≡ false → second ≡ None
   alone_is (Mapped pa perms mem sh) r one = r.alone
@@ -200,6 +220,7 @@ module _ (h : Header) (log : List Step) (c : ℕ) (a : Access) (r : Answer) wher
   outcomes_true : is_conflict r.outcome ≡ false → OutcomesAreTrue h log c a r
   outcomes_true one = record {
     of_walk = λ e at wrong ok. wrong (end_is here r.first r.second r.outcome e ok.right one at);
+    of_need = λ n at wrong ok. wrong (need_is here r.first r.second r.outcome n ok.right one at);
     lacking = λ s l p w v is there ok. none_some v (sym (lacks_at here r.first r.second s l p w (right is ok)) ∙ there);
     alone = λ wrong ok. wrong (alone_is here r.first r.second r.outcome ok.right one);
   }
@@ -217,6 +238,8 @@ module _ (h : Header) (log : List Step) (c : ℕ) (a : Access) (r : Answer) wher
     conflicts = conflicts_true;
     asid = λ wrong ok. wrong (ok.asid_is ∙ now_is asid_of);
     vmid = λ wrong ok. wrong (ok.vmid_is ∙ now_is vmid_of);
+    old = λ right ok. turned r.old _ right.old_is ok.old_is;
+    stale = λ right ok. turned r.stale _ right.stale_is ok.stale_is;
     exchanged = λ right wrong ok. wrong (right.old_is ∙ sym ok.old_is);
     unanswered = λ ok. ok;
     not_fetched = λ ok. ok;
