@@ -15,7 +15,7 @@ use Rattle.machine_spec.specs.Made.{numbered}
 use Rattle.machine_spec.specs.Sets.{Cache, victim, without, same_set, same_key, placed, added, is_row, to_end, touched, filled}
 use Rattle.machine_spec.specs.Machine.{Core, killed, delivered_by, delivered, most_held, posted, mailed_by}
 use Rattle.tlbi_ops.specs.Operands.{reaches_core}
-use Rattle.machine_laws.specs.Leaving.{set_of, In, Used, pushed_out, IsEvicted, IsUsedSince}
+use Rattle.machine_laws.specs.Leaving.{rows_of_set, In, Used, pushed_out, IsEvicted, IsUsedSince}
 use Rattle.machine_laws.proofs.Lists.{In-filter, In-from_filter, In-left, In-last, In-without}
 use Rattle.machine_laws.proofs.Pairs.{AllPairs, pairs_filter, pairs_without, pairs_push, pairs_map}
 use Rattle.machine_laws.proofs.Sets.{In-added, In-touched, In-filled}
@@ -216,7 +216,7 @@ module _ (h : Header) (c : ℕ) where
   record IsLost (l : Cache) (r x : Row) : Type 0 where
     wanted : list_any (same_key r) l.rows ≡ false
     full : is_full (shape_of h.size r.kind) l r ≡ true
-    named : slice_get (set_of h r l) (victim h.policy c l.evictions (shape_of h.size r.kind).ways) ≡ Some x
+    named : slice_get (rows_of_set h r l) (victim h.policy c l.evictions (shape_of h.size r.kind).ways) ≡ Some x
 
   placed_stays : (l : Cache) (r x : Row) (b : Bool) → is_full (shape_of h.size r.kind) l r ≡ b → list_any (same_key r) l.rows ≡ false → In x l.rows
       → In x (cond b (lost (shape_of h.size r.kind) l r) (room l r)).rows ⊎ IsLost l r x
@@ -256,7 +256,7 @@ module _ (h : Header) (c : ℕ) where
             made = is;
             wanted = subst (λ (l : Cache). list_any (same_key r) l.rows ≡ false) (sym filled_is) e.wanted;
             full = subst (λ (l : Cache). is_full s l r ≡ true) (sym filled_is) e.full;
-            named = subst (λ (l : Cache). slice_get (set_of h r l) (victim h.policy c l.evictions s.ways) ≡ Some x) (sym filled_is) e.named;
+            named = subst (λ (l : Cache). slice_get (rows_of_set h r l) (victim h.policy c l.evictions s.ways) ≡ Some x) (sym filled_is) e.named;
           }
         ]
 

@@ -1,5 +1,6 @@
 -- What the last items of a trail tell: the class of its landing, and whether its leaf is global.
 use Rattle.std.proofs.Common.{◌≡◌, ℕ, zero, suc, Bool, true, false, cond, List, [], ◌∷◌, ◌++◌, ◌⊎◌, inl, inr, refl, sym, ap, ◌∙◌, subst, Option, Some, None, append-nil}
+use Rattle.std.specs.Option.{option_or}
 use Rattle.std.specs.Prelude.{Result, Ok, Err}
 use Rattle.std.proofs.lemmas.Bool.{both_ways}
 use Rattle.std.proofs.lemmas.Option.{same_Some}
@@ -30,8 +31,8 @@ use Rattle.walk_laws.proofs.Tables2.{level_of_one}
 use Rattle.walk_laws.proofs.Stage2.{Turn2, table, leaf, fault, turn2}
 use Rattle.walk_laws.proofs.Stage1.{under, Turn1, table as goes_down, leaf as maps, fault as faults, turn1}
 use Rattle.machine_spec.specs.Marks.{Mark, mark, marks, is_first, is_global, part_of}
-use Rattle.machine_spec.specs.Made.{or_mark, last_first}
-use Rattle.machine_spec.specs.Allowed.{Entry, entry_of, or_else, last_entry, last_entry1}
+use Rattle.machine_spec.specs.Made.{last_first}
+use Rattle.machine_spec.specs.Allowed.{Entry, entry_of, last_entry, last_entry1}
 use Rattle.machine_laws.proofs.Trees.{IsOn, is_need1, chain, IsSecond, AllSecond}
 use Rattle.machine_laws.proofs.Facts.{regime_for}
 use Rattle.machine_laws.proofs.Stands.{on_after, marks_append, marks_after, on_split, second_marks, mark_first}
@@ -52,7 +53,7 @@ last_app (p ∷ pre) xs l h = last_cons p (pre ++ xs) l (last_app pre xs l h)
 pub entry_last : (xs : List Item) (i : Item) → LastIs xs i → last_entry xs ≡ Some (entry_of i)
 entry_last [] i h = absurd h
 entry_last (x ∷ []) i h = ap (λ z. Some (entry_of z)) h
-entry_last (x ∷ (y ∷ ys)) i h = ap (λ o. or_else o (Some (entry_of x))) (entry_last (y ∷ ys) i h)
+entry_last (x ∷ (y ∷ ys)) i h = ap (λ o. option_or o (Some (entry_of x))) (entry_last (y ∷ ys) i h)
 
 -- a word of stage 2 with so many levels left, at a place
 abbrev pub class_at2 : Regime → ℕ → ℕ → ℕ → ℕ
@@ -160,27 +161,27 @@ if_false b o h = rw h refl
 none_entry1 : (xs : List Item) → AllItems2 xs → last_entry1 xs ≡ None
 none_entry1 [] s = refl
 none_entry1 (x ∷ xs) s =
-    ap (λ o. or_else o (cond (is_stage1 x.stage) (Some (entry_of x)) None)) (none_entry1 xs s.1) ∙ if_false (is_stage1 x.stage) (Some (entry_of x)) s.0
+    ap (λ o. option_or o (cond (is_stage1 x.stage) (Some (entry_of x)) None)) (none_entry1 xs s.1) ∙ if_false (is_stage1 x.stage) (Some (entry_of x)) s.0
 
 none_first : (ms : List Mark) → AllSecond ms → last_first ms ≡ None
 none_first [] s = refl
-none_first (m ∷ ms) s = ap (λ o. or_mark o (cond (is_first m) (Some m) None)) (none_first ms s.1) ∙ if_false (is_first m) (Some m) s.0
+none_first (m ∷ ms) s = ap (λ o. option_or o (cond (is_first m) (Some m) None)) (none_first ms s.1) ∙ if_false (is_first m) (Some m) s.0
 
 -- the last item of stage 1, and the last mark, where only stage 2 follows
 entry1_last : (front rest : List Item) (i : Item) → LastIs front i → is_stage1 i.stage ≡ true → AllItems2 rest → last_entry1 (front ++ rest) ≡ Some (entry_of i)
 entry1_last [] rest i l f s = absurd l
 entry1_last (x ∷ []) rest i l f s =
     let b : is_stage1 x.stage ≡ true = ap (λ (z : Item). is_stage1 z.stage) l ∙ f in
-    ap (λ o. or_else o (cond (is_stage1 x.stage) (Some (entry_of x)) None)) (none_entry1 rest s) ∙ ap (λ c. cond c (Some (entry_of x)) None) b
+    ap (λ o. option_or o (cond (is_stage1 x.stage) (Some (entry_of x)) None)) (none_entry1 rest s) ∙ ap (λ c. cond c (Some (entry_of x)) None) b
     ∙ ap (λ z. Some (entry_of z)) l
-entry1_last (x ∷ (y ∷ ys)) rest i l f s = ap (λ o. or_else o (cond (is_stage1 x.stage) (Some (entry_of x)) None)) (entry1_last (y ∷ ys) rest i l f s)
+entry1_last (x ∷ (y ∷ ys)) rest i l f s = ap (λ o. option_or o (cond (is_stage1 x.stage) (Some (entry_of x)) None)) (entry1_last (y ∷ ys) rest i l f s)
 
 first_mark_last : (pre ms : List Mark) (m : Mark) → LastIs pre m → is_first m ≡ true → AllSecond ms → last_first (pre ++ ms) ≡ Some m
 first_mark_last [] ms m l f s = absurd l
 first_mark_last (n ∷ []) ms m l f s =
     let b : is_first n ≡ true = ap (λ (z : Mark). is_first z) l ∙ f in
-    ap (λ o. or_mark o (cond (is_first n) (Some n) None)) (none_first ms s) ∙ ap (λ c. cond c (Some n) None) b ∙ ap (λ z. Some z) l
-first_mark_last (n ∷ (o ∷ pre)) ms m l f s = ap (λ v. or_mark v (cond (is_first n) (Some n) None)) (first_mark_last (o ∷ pre) ms m l f s)
+    ap (λ o. option_or o (cond (is_first n) (Some n) None)) (none_first ms s) ∙ ap (λ c. cond c (Some n) None) b ∙ ap (λ z. Some z) l
+first_mark_last (n ∷ (o ∷ pre)) ms m l f s = ap (λ v. option_or v (cond (is_first n) (Some n) None)) (first_mark_last (o ∷ pre) ms m l f s)
 
 -- STAGE 1
 

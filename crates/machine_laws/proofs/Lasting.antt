@@ -14,6 +14,7 @@ use Rattle.tlbi_ops.specs.Operands.{reaches_core}
 use Rattle.tlbi_ops.specs.Covers.{covers}
 use Rattle.walk_spec.specs.Needs.{regime_of}
 use Rattle.walk_spec.specs.BothStages.{walk}
+use Rattle.tagged_tlb.specs.declared.row.Made.{Made}
 use Rattle.machine_spec.specs.Header.{Kind, leaf1, table1, leaf2, table2}
 use Rattle.machine_spec.specs.Moments.{bank_after}
 use Rattle.machine_spec.specs.Invalidations.{event_at, inval_at, completes, IsComplete}
@@ -27,11 +28,11 @@ use Rattle.machine_laws.proofs.Fine.{longer, issued_now}
 use Rattle.machine_laws.proofs.Logs.{event-old, event-last, inval-old, inval-last, inval-within, regs-old, memory-old, issued_at}
 use Rattle.machine_laws.proofs.Uses.{used_map}
 
--- what a row promises holds of a weaker condition too
-pub row_map : (P Q : Side → Mark → Option ℕ → Type 0) → ((s : Side) (m : Mark) (o : Option ℕ) → P s m o → Q s m o) → (r : Row) (k : Kind) → IsRowBy P r k
-    → IsRowBy Q r k
-row_map P Q f r leaf1 h = λ a s.
-    let g = h a s in
+-- what a row promises holds of a weaker condition too, and doesn't look at its number
+pub numbered_by : (P Q : Side → Mark → Option ℕ → Type 0) → ((s : Side) (m : Mark) (o : Option ℕ) → P s m o → Q s m o) → (r : Row) (d : Made) (k : Kind)
+    → IsRowBy P r k → IsRowBy Q (record r { made = d }) k
+numbered_by P Q f r d leaf1 h = λ a s.
+    let g = h a (record { held = s.held; on = s.on; accepted = s.accepted }) in
     record {
       landing = g.landing;
       on = g.on;
@@ -41,10 +42,10 @@ row_map P Q f r leaf1 h = λ a s.
           used_map (P (side_of a.va)) (Q (side_of a.va)) (f (side_of a.va)) None (marks (regime_for r.key.config a) (walk r.key.config false a) r.trail)
           g.stored;
     }
-row_map P Q f r table1 h = (
+numbered_by P Q f r d table1 h = (
   h.0,
   λ a s.
-      let g = h.1 a s in
+      let g = h.1 a (record { held = s.held; on = s.on; accepted = s.accepted }) in
       record {
         plan = g.plan;
         on = g.on;
@@ -59,11 +60,11 @@ row_map P Q f r table1 h = (
         stored = used_map (P (side_of a.va)) (Q (side_of a.va)) (f (side_of a.va)) None (g.front ++ g.last ∷ []) g.stored;
       },
 )
-row_map P Q f r leaf2 h = (
+numbered_by P Q f r d leaf2 h = (
   h.0,
   h.1,
-  λ s p x y.
-      let g = h.2 s p x y in
+  λ s p x i.
+      let g = h.2 s p x i in
       record {
         leaf = g.leaf;
         on = g.on;
@@ -71,11 +72,11 @@ row_map P Q f r leaf2 h = (
         stored = used_map (P s) (Q s) (f s) None (marks (regime_of r.key.config s) (chain (regime_of r.key.config s) p x) r.trail) g.stored;
       },
 )
-row_map P Q f r table2 h = (
+numbered_by P Q f r d table2 h = (
   h.0,
   h.1,
-  λ s p x y.
-      let g = h.2 s p x y in
+  λ s p x i.
+      let g = h.2 s p x i in
       record {
         need = g.need;
         go = g.go;
@@ -84,6 +85,10 @@ row_map P Q f r table2 h = (
         stored = used_map (P s) (Q s) (f s) None (marks (regime_of r.key.config s) (chain (regime_of r.key.config s) p x) r.trail) g.stored;
       },
 )
+
+pub row_map : (P Q : Side → Mark → Option ℕ → Type 0) → ((s : Side) (m : Mark) (o : Option ℕ) → P s m o → Q s m o) → (r : Row) (k : Kind) → IsRowBy P r k
+    → IsRowBy Q r k
+row_map P Q f r k h = numbered_by P Q f r r.made k h
 
 -- no message that covers a row is gone
 abbrev pub Stays : List Inval → List Inval → Row → Type 0

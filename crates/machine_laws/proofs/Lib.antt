@@ -42,5 +42,6 @@ pub mod Unchanged
 pub mod Gone
 pub mod LeavingRuns
 pub mod Promised
+pub mod Forks
 pub mod Wrong
 pub mod WrongRuns

@@ -1,8 +1,9 @@
 -- What a log means after one more step.
-use Rattle.std.proofs.Common.{◌≡◌, ℕ, zero, suc, ◌<◌, ◌≤◌, List, [], ◌∷◌, ◌++◌, length, map, take, refl, sym, ap, ◌∙◌, Some, Option, arith}
+use Rattle.std.proofs.Common.{◌≡◌, ℕ, zero, suc, ◌<◌, ◌≤◌, List, [], ◌∷◌, ◌++◌, length, map, take, inl, inr, refl, sym, ap, ◌∙◌, subst, Some, Option, arith}
 use Rattle.std.specs.Prelude.{slice_get}
 use Rattle.std.specs.Option.{option_and_then}
-use Rattle.std.proofs.lemmas.List.{map-append, length-map, take-append-le, take_at}
+use Rattle.std.proofs.lemmas.Bool.{cases_lt}
+use Rattle.std.proofs.lemmas.List.{length-append, map-append, length-map, take-append-le, take_at}
 use Rattle.std.proofs.lemmas.List.Sums.{fold_push}
 use Rattle.std.proofs.lemmas.Option.{slice_get_within, option_and_then_some, same_Some}
 use Rattle.sysregs.specs.declared.regs.Regs.{Regs}
@@ -33,6 +34,21 @@ event-last log s = rw (map-append, ← length-map log (λ (s : Step). s.event)) 
 
 pub event-within : (log : List Step) (k : ℕ) (e : Event) → event_at log k ≡ Some e → k < length log
 event-within log k e h = simp length-map at (slice_get_within (map (λ s. s.event) log) k e h)
+
+-- what holds of each step behind those before it still does with one more step
+pub each_more : (P : List Step → Step → Type 0) (log : List Step) (s : Step) → ((k : ℕ) (t : Step) → slice_get log k ≡ Some t → P (take k log) t)
+    → P log s → (k : ℕ) (t : Step) → slice_get (log ++ s ∷ []) k ≡ Some t → P (take k (log ++ s ∷ [])) t
+each_more P log s old new k t at =
+    elim (cases_lt k (length log)) as (λ _. P (take k (log ++ s ∷ [])) t) [
+      | inl lt ↦ rw (take-append-le k log (s ∷ []) (omega arith)) (old k t (sym (get-old log (s ∷ []) k lt) ∙ at))
+      | inr ge ↦
+          let within = slice_get_within (log ++ s ∷ []) k t at in
+          let within2 = simp length-append at within in
+          let e : k ≡ length log = omega arith in
+          let eq : s ≡ t = same_Some s t (sym (get-last log s) ∙ subst (λ n. slice_get (log ++ s ∷ []) n ≡ Some t) e at) in
+          let front : take k (log ++ s ∷ []) ≡ log = take_at log (s ∷ []) k (sym e) in
+          rw (front, ← eq) new
+    ]
 
 -- REGISTERS AND MEMORY
 

@@ -1,19 +1,18 @@
 -- Every reply makes rows well: the rows behind the step have their facts, and are told apart.
-use Rattle.std.proofs.Common.{◌≡◌, ℕ, Bool, true, false, cond, List, [], ◌∷◌, ◌++◌, ◌/◌, ◌^◌, ◌⊎◌, inl, inr, refl, sym, ◌∙◌, subst, Option, Some, None}
+use Rattle.std.proofs.Common.{◌≡◌, ℕ, Bool, true, false, cond, List, [], ◌++◌, ◌/◌, ◌^◌, ◌⊎◌, inl, inr, refl, sym, ◌∙◌, subst, Option, Some, None}
 use Rattle.std.specs.Prelude.{fold}
 use Rattle.std.proofs.lemmas.Bool.{eq-eqb}
-use Rattle.sysregs.specs.declared.regs.Side.{Side}
 use Rattle.sysregs.specs.Sides.{side_of}
 use Rattle.trails.specs.declared.outcome.Access.{Access}
 use Rattle.trails.specs.declared.step.Step.{Step}
 use Rattle.tlbi_ops.specs.declared.inval.Inval.{Inval}
 use Rattle.tagged_tlb.specs.declared.row.Made.{Made}
 use Rattle.walk_spec.specs.Ask.{done, ask, Fed, ended, lacks}
-use Rattle.walk_spec.specs.Needs.{Need, Region, regime_of}
+use Rattle.walk_spec.specs.Needs.{Need, Region}
 use Rattle.walk_spec.specs.Steps.{End}
 use Rattle.walk_spec.specs.Stage1.{untagged}
-use Rattle.walk_spec.specs.BothStages.{Landing, walk}
-use Rattle.machine_spec.specs.Header.{Kind, leaf1, table1, leaf2, table2, keeps_rows}
+use Rattle.walk_spec.specs.BothStages.{Landing}
+use Rattle.machine_spec.specs.Header.{leaf1, keeps_rows}
 use Rattle.machine_spec.specs.Moments.{regs_after}
 use Rattle.machine_spec.specs.Marks.{Mark, marks}
 use Rattle.machine_spec.specs.Kept.{View, now}
@@ -22,7 +21,6 @@ use Rattle.machine_spec.specs.Made.{Maker, rows_of, combined_rows, rows_made}
 use Rattle.machine_spec.specs.Sets.{added, touched}
 use Rattle.machine_spec.specs.Served.{came, Reply}
 use Rattle.machine_spec.specs.Machine.{Core}
-use Rattle.machine_laws.proofs.Trees.{chain}
 use Rattle.machine_laws.proofs.Facts.{In, sided, regime_for, IsStored, IsRowBy, IsRow, IsApart1, Facts}
 use Rattle.machine_laws.proofs.Laws.{Laws}
 use Rattle.machine_laws.proofs.Lists.{In-append}
@@ -30,8 +28,8 @@ use Rattle.machine_laws.proofs.Fine.{config_at, here, UsedBy, ServedOk, longer, 
 use Rattle.machine_laws.proofs.Making.{rows_of_words}
 use Rattle.machine_laws.proofs.Combined.{combined_row, end_class, renumbered, numbered_cases, made_one}
 use Rattle.machine_laws.proofs.Added.{IsKeyed, apart_added, within_touched, apart_touched, other_asid, made_same}
-use Rattle.machine_laws.proofs.Uses.{used_map}
 use Rattle.machine_laws.proofs.Sets.{all_added}
+use Rattle.machine_laws.proofs.Lasting.{numbered_by}
 
 -- NUMBERS
 
@@ -39,63 +37,6 @@ stored_numbered : (v : View) (inbox : List Inval) (r : Row) (d : Made) (m : Mark
     → IsStored v inbox (renumbered r d) m o
 stored_numbered v inbox r d m None f = record { before = f.before; held = f.held; word = f.word; tag_is = f.tag_is; pending = f.pending; asid = f.asid }
 stored_numbered v inbox r d m (Some u) f = f
-
-numbered_by : (P Q : Side → Mark → Option ℕ → Type 0) → ((s : Side) (m : Mark) (o : Option ℕ) → P s m o → Q s m o) → (r : Row) (d : Made) (k : Kind)
-    → IsRowBy P r k → IsRowBy Q (renumbered r d) k
-numbered_by P Q f r d leaf1 h = λ a s.
-    let g = h a (record { held = s.held; on = s.on; accepted = s.accepted }) in
-    record {
-      landing = g.landing;
-      on = g.on;
-      class_is = g.class_is;
-      global_is = g.global_is;
-      stored =
-          used_map (P (side_of a.va)) (Q (side_of a.va)) (f (side_of a.va)) None (marks (regime_for r.key.config a) (walk r.key.config false a) r.trail)
-          g.stored;
-    }
-numbered_by P Q f r d table1 h = (
-  h.0,
-  λ a s.
-      let g = h.1 a (record { held = s.held; on = s.on; accepted = s.accepted }) in
-      record {
-        plan = g.plan;
-        on = g.on;
-        sound = g.sound;
-        late = g.late;
-        front = g.front;
-        last = g.last;
-        is = g.is;
-        first = g.first;
-        word = g.word;
-        not_leaf = g.not_leaf;
-        stored = used_map (P (side_of a.va)) (Q (side_of a.va)) (f (side_of a.va)) None (g.front ++ g.last ∷ []) g.stored;
-      },
-)
-numbered_by P Q f r d leaf2 h = (
-  h.0,
-  h.1,
-  λ s p x i.
-      let g = h.2 s p x i in
-      record {
-        leaf = g.leaf;
-        on = g.on;
-        class_is = g.class_is;
-        stored = used_map (P s) (Q s) (f s) None (marks (regime_of r.key.config s) (chain (regime_of r.key.config s) p x) r.trail) g.stored;
-      },
-)
-numbered_by P Q f r d table2 h = (
-  h.0,
-  h.1,
-  λ s p x i.
-      let g = h.2 s p x i in
-      record {
-        need = g.need;
-        go = g.go;
-        words = g.words;
-        on = g.on;
-        stored = used_map (P s) (Q s) (f s) None (marks (regime_of r.key.config s) (chain (regime_of r.key.config s) p x) r.trail) g.stored;
-      },
-)
 
 -- a row's fact doesn't look at its number
 row_numbered : (v : View) (inbox : List Inval) (r : Row) (d : Made) → IsRow v inbox r → IsRow v inbox (renumbered r d)

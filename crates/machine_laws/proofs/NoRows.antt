@@ -2,10 +2,10 @@
 use Rattle.std.proofs.Common.{◌≡◌, ℕ, ◌-◌, ◌<◌, ◌++◌, length, take, Bool, true, false, not, cond, List, [], ◌∷◌, refl, inl, inr, sym, ap, ◌∙◌, subst, Option, Some, None, arith}
 use Rattle.std.specs.Prelude.{◌&&◌, ◌==◌, nat_lt, fold, filter, slice_get, option_map}
 use Rattle.std.specs.List.{list_any}
-use Rattle.std.proofs.lemmas.Bool.{cases_Bool, cases_lt, eq-eqb, ltb-true}
-use Rattle.std.proofs.lemmas.List.{take-append-le, length-append, take_at, get_or-replicate}
+use Rattle.std.proofs.lemmas.Bool.{cases_Bool, eq-eqb, ltb-true}
+use Rattle.std.proofs.lemmas.List.{get_or-replicate}
 use Rattle.std.proofs.lemmas.List.Elements.{All-pop}
-use Rattle.std.proofs.lemmas.Option.{same_Some, slice_get_within}
+use Rattle.std.proofs.lemmas.Option.{same_Some}
 use Rattle.sysregs.specs.declared.regs.Regs.{Regs}
 use Rattle.sysregs.specs.declared.regs.Side.{Side}
 use Rattle.sysregs.specs.Registers.{config_of, asid_of, vmid_of}
@@ -39,7 +39,7 @@ use Rattle.machine_laws.specs.Headline.{core_named, AreOfCores, IsFreshNow, IsFr
 use Rattle.machine_laws.proofs.Facts.{view_of, AllFacts}
 use Rattle.machine_laws.proofs.Fine.{place_of, ServesWell, MakesWell}
 use Rattle.machine_laws.proofs.Lists.{from_end, none_some}
-use Rattle.machine_laws.proofs.Logs.{get-old, get-last}
+use Rattle.machine_laws.proofs.Logs.{each_more}
 use Rattle.machine_laws.proofs.Events.{each_at, place_is}
 use Rattle.machine_laws.proofs.Theorem.{world_on, run_on, facts_of_run}
 
@@ -244,19 +244,6 @@ module _ (h : Header) (log : List Step) (w : World) (all : AllFacts h log w) (no
 abbrev AllFresh : Header → List Step → Type 0
 AllFresh h log = (k : ℕ) (s : Step) → slice_get log k ≡ Some s → IsFreshFor h (take k log) s.event s.answer
 
-all_more : (h : Header) (log : List Step) (s : Step) → AllFresh h log → IsFreshFor h log s.event s.answer → AllFresh h (log ++ s ∷ [])
-all_more h log s old new k t at =
-    elim (cases_lt k (length log)) as (λ _. IsFreshFor h (take k (log ++ s ∷ [])) t.event t.answer) [
-      | inl lt ↦ rw (take-append-le k log (s ∷ []) (omega arith)) (old k t (sym (get-old log (s ∷ []) k lt) ∙ at))
-      | inr ge ↦
-          let within = slice_get_within (log ++ s ∷ []) k t at in
-          let within2 = simp length-append at within in
-          let e : k ≡ length log = omega arith in
-          let eq : s ≡ t = same_Some s t (sym (get-last log s) ∙ subst (λ n. slice_get (log ++ s ∷ []) n ≡ Some t) e at) in
-          let front : take k (log ++ s ∷ []) ≡ log = take_at log (s ∷ []) k (sym e) in
-          rw (front, ← eq) new
-    ]
-
 module _ (serves : ServesWell) (makes : MakesWell) (h : Header) (none : h.size ≡ NoRows) where
   -- the caches are as at first, and each access was the fresh walk of its moment
   abbrev IsFreshRun : List Event → Type 0
@@ -280,7 +267,8 @@ module _ (serves : ServesWell) (makes : MakesWell) (h : Header) (none : h.size �
           let all : AllFacts h (run_of h es) (world_after h es) = facts_of_run serves makes h es parts.0 in
           rw (run_on h es e, world_on h es e) (
             bare_next (world_after h es) e all.count b.0,
-            all_more h (run_of h es) (step_of h (world_after h es) e) b.1 (fresh_one h (run_of h es) (world_after h es) all none b.0 e parts.1),
+            each_more (λ l t. IsFreshFor h l t.event t.answer) (run_of h es) (step_of h (world_after h es) e) b.1
+                (fresh_one h (run_of h es) (world_after h es) all none b.0 e parts.1),
           )
 
 -- where every run has the facts of the machine

@@ -1,5 +1,6 @@
 -- Every access is served well: the answer is right, and what the rows that are made need is at hand.
 use Rattle.std.proofs.Common.{◌≡◌, ℕ, ◌<◌, Bool, true, false, cond, List, [], ◌∷◌, ◌++◌, inl, inr, refl, sym, ap, ◌∙◌, subst, append_assoc, Option, Some, None, arith}
+use Rattle.std.specs.Option.{option_or}
 use Rattle.std.specs.Prelude.{◌&&◌, not, filter}
 use Rattle.std.proofs.lemmas.Bool.{both_ways, cases_Bool}
 use Rattle.std.proofs.lemmas.Option.{same_Some}
@@ -27,7 +28,7 @@ use Rattle.machine_spec.specs.Uses.{use_of, above_of, AllUsed, LastIs}
 use Rattle.machine_spec.specs.Kept.{View, now, regs_when, IsKeptNow, IsNowBase, IsKept}
 use Rattle.machine_spec.specs.Allowed.{is_of_word, IsNowOf, FaultIsRead, last_entry, last_entry1, Case, IsEnded, IsLacking, IsTwice, IsForked, Reaches, IsConflict, IsRight}
 use Rattle.machine_spec.specs.Rows.{Row, holds, matches1, is_older, inserted, by_making, matching, deepest}
-use Rattle.machine_spec.specs.Made.{key_of, last_first, or_mark}
+use Rattle.machine_spec.specs.Made.{key_of, last_first}
 use Rattle.machine_spec.specs.Served.{Supplied, supplied_by, chain_by, begun2, chain_of, fresh_of, supply, Stop, came, clash, Reply, pushed, stopped, serve, taken, credited, begun1, combined, served}
 use Rattle.machine_spec.specs.Machine.{Core}
 use Rattle.machine_laws.proofs.Trees.{IsOn, chain, Plan, fin, flat, IsWord, AllSecond}
@@ -73,7 +74,7 @@ old_of : (k : ℕ) (ms cut : List Mark) → IsCut ms cut → AllOld k ms → All
 old_of k ms cut (inl e) h = subst (AllOld k) e h
 old_of k ms cut (inr c) h = subst (AllOld k) (sym c.7) (old_cut k c.0 c.1 c.2 (subst (AllOld k) c.6 h))
 
-old_case : (k : ℕ) (x : Mark) (ms : List Mark) (m : Mark) (o : Option Mark) (b : Bool) → last_first ms ≡ o → or_mark o (cond b (Some x) None) ≡ Some m →
+old_case : (k : ℕ) (x : Mark) (ms : List Mark) (m : Mark) (o : Option Mark) (b : Bool) → last_first ms ≡ o → option_or o (cond b (Some x) None) ≡ Some m →
     AllOld k (x ∷ ms) → (last_first ms ≡ Some m → m.item.moment < k) → m.item.moment < k
 old_case k x ms m (Some y) b e f h rec = rec (e ∙ f)
 old_case k x ms m None true e f h rec = subst (λ (n : Mark). n.item.moment < k) (same_Some x m f) h.0
@@ -84,7 +85,8 @@ old_last k [] m h e = none_some m e
 old_last k (x ∷ ms) m h e = old_case k x ms m (last_first ms) (is_first x) refl e h (old_last k ms m h.1)
 
 -- there is no item of stage 1 among items of stage 2
-second_case : (x : Mark) (ms : List Mark) (m : Mark) (o : Option Mark) (b : Bool) → last_first ms ≡ o → b ≡ false → or_mark o (cond b (Some x) None) ≡ Some m →
+second_case : (x : Mark) (ms : List Mark) (m : Mark) (o : Option Mark) (b : Bool) → last_first ms ≡ o → b ≡ false
+    → option_or o (cond b (Some x) None) ≡ Some m →
     (last_first ms ≡ Some m → ⊥) → ⊥
 second_case x ms m (Some y) b e n f rec = rec (e ∙ f)
 second_case x ms m None true e n f rec = both_ways true n refl

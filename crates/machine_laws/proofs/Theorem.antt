@@ -1,12 +1,10 @@
 -- Every step of every run is allowed, where every access is served well and every reply makes rows well.
-use Rattle.std.proofs.Common.{◌≡◌, ℕ, ◌<◌, Bool, true, false, not, List, [], ◌∷◌, ◌++◌, length, take, inl, inr, refl, sym, ap, ◌∙◌, subst, Some, None, arith}
-use Rattle.std.specs.Prelude.{slice_get, ◌&&◌, fold}
+use Rattle.std.proofs.Common.{◌≡◌, ℕ, ◌<◌, Bool, true, false, not, List, [], ◌∷◌, ◌++◌, length, refl, sym, ap, subst, Some, None, arith}
+use Rattle.std.specs.Prelude.{◌&&◌, fold}
 use Rattle.std.specs.List.{list_any}
-use Rattle.std.proofs.lemmas.List.{take-append-le, length-append, take_at, take_all, length-replicate, get_or-replicate}
+use Rattle.std.proofs.lemmas.List.{take_all, length-replicate, get_or-replicate}
 use Rattle.std.proofs.lemmas.List.Sums.{fold_push}
 use Rattle.std.proofs.lemmas.List.Elements.{All-pop}
-use Rattle.std.proofs.lemmas.Bool.{cases_lt}
-use Rattle.std.proofs.lemmas.Option.{same_Some, slice_get_within}
 use Rattle.sysregs.specs.declared.regs.Side.{Side}
 use Rattle.sysregs.specs.Registers.{asid_of, vmid_of}
 use Rattle.sysregs.specs.Sides.{side_of}
@@ -31,7 +29,7 @@ use Rattle.machine_laws.specs.Headline.{core_named, AreOfCores, RunsAreAllowed}
 use Rattle.machine_laws.proofs.Facts.{view_of, Facts, AllFacts}
 use Rattle.machine_laws.proofs.Fine.{place_of, RightBy, ServesWell, MakesWell}
 use Rattle.machine_laws.proofs.Lists.{from_end, none_some}
-use Rattle.machine_laws.proofs.Logs.{get-old, get-last}
+use Rattle.machine_laws.proofs.Logs.{each_more}
 use Rattle.machine_laws.proofs.Events.{seat_at, place_is, keeps}
 
 -- AN ANSWER
@@ -94,19 +92,6 @@ module _ (serves : ServesWell) (h : Header) (log : List Step) (w : World) (all :
 
 -- RUNS
 
-all_on : (h : Header) (log : List Step) (s : Step) → AllAllowed h log → IsAllowed h log s → AllAllowed h (log ++ s ∷ [])
-all_on h log s old new k t at =
-    elim (cases_lt k (length log)) as (λ _. IsAllowed h (take k (log ++ s ∷ [])) t) [
-      | inl lt ↦ rw (take-append-le k log (s ∷ []) (omega arith)) (old k t (sym (get-old log (s ∷ []) k lt) ∙ at))
-      | inr ge ↦
-          let within = slice_get_within (log ++ s ∷ []) k t at in
-          let within2 = simp length-append at within in
-          let e : k ≡ length log = omega arith in
-          let eq : s ≡ t = same_Some s t (sym (get-last log s) ∙ subst (λ n. slice_get (log ++ s ∷ []) n ≡ Some t) e at) in
-          let front : take k (log ++ s ∷ []) ≡ log = take_at log (s ∷ []) k (sym e) in
-          rw (front, ← eq) new
-    ]
-
 pub world_on : (h : Header) (events : List Event) (e : Event) → world_after h (events ++ e ∷ []) ≡ after_event h (world_after h events) e
 world_on h events e = fold_push (after_event h) (opened h) events e
 
@@ -143,7 +128,7 @@ fine_run serves makes h events = from_end (IsFine h) more (λ own. (start_all h,
         let log : List Step = run_of h es in
         let w : World = world_after h es in
         rw (run_on h es e, world_on h es e)
-        (keeps serves makes h log w before.0 e parts.1, all_on h log (step_of h w e) before.1 (allowed_one serves h log w before.0 e parts.1))
+        (keeps serves makes h log w before.0 e parts.1, each_more (IsAllowed h) log (step_of h w e) before.1 (allowed_one serves h log w before.0 e parts.1))
 
 pub facts_of_run : ServesWell → MakesWell → (h : Header) (events : List Event) → AreOfCores h events → AllFacts h (run_of h events) (world_after h events)
 facts_of_run serves makes h events own = (fine_run serves makes h events own).0

@@ -1,7 +1,6 @@
 -- What an allowed answer promises of each item of its trail, and of its outcome.
-use Rattle.std.proofs.Common.{◌≡◌, ℕ, Bool, true, false, cond, List, [], ◌∷◌, ◌++◌, take, refl, sym, ap, ◌∙◌, subst, Option, Some, None, inl, inr}
+use Rattle.std.proofs.Common.{◌≡◌, ℕ, Bool, true, false, not, List, [], ◌∷◌, ◌++◌, take, refl, sym, ap, ◌∙◌, subst, Option, Some, None, inl, inr}
 use Rattle.std.specs.Prelude.{ℤ, All, ◌⊎◌}
-use Rattle.std.specs.List.{Contains}
 use Rattle.std.proofs.lemmas.List.Elements.{All-contains, All-nil, All-cons}
 use Rattle.std.proofs.lemmas.Option.{same_Some}
 use Rattle.sysregs.specs.declared.regs.Regs.{Regs}
@@ -15,30 +14,25 @@ use Rattle.trails.specs.declared.outcome.Outcome.{Outcome}
 use Rattle.trails.specs.declared.outcome.Outcome.TheVariants.{Mapped, Faulted, Absent, Conflict}
 use Rattle.trails.specs.declared.step.Answer.{Answer}
 use Rattle.trails.specs.declared.step.Step.{Step}
-use Rattle.walk_spec.specs.Ask.{Ask, done, ask, Stands, needs, bad, ends, on}
-use Rattle.walk_spec.specs.Needs.{Regime, Need, base1, base2, word, fits, regime_of}
+use Rattle.walk_spec.specs.Ask.{lacks, Ask, done, ask, Stands, needs, ends, on}
+use Rattle.walk_spec.specs.Needs.{WordNeed, Regime, Need, base1, base2, word, fits, regime_of}
 use Rattle.walk_spec.specs.Steps.{End}
 use Rattle.walk_spec.specs.BothStages.{Landing, walk, outcome_of}
+use Rattle.walk_spec.specs.Fresh.{fed_outcome}
 use Rattle.walk_laws.specs.Shift.{stands}
 use Rattle.machine_spec.specs.Header.{Header}
 use Rattle.machine_spec.specs.Moments.{memory_after, regs_after}
 use Rattle.machine_spec.specs.Marks.{Mark, mark, marks}
 use Rattle.machine_spec.specs.Uses.{AllUsed}
 use Rattle.machine_spec.specs.Kept.{View, now, regs_when, base_by, IsKeptNow}
-use Rattle.machine_spec.specs.Allowed.{is_conflict, Case, case_of, config_now, IsLacking, IsTwice, IsForked, IsConflict, IsRight, IsAnswer, Ends, Keeps, last_entry}
-use Rattle.machine_laws.specs.NotAllowed.{ItemsAreTrue, OutcomesAreTrue, ConflictsAreTrue, AnswersAreTrue, NothingFalseIsAllowed}
+use Rattle.machine_spec.specs.Allowed.{is_conflict, Case, case_of, config_now, Reaches, IsLacking, IsTwice, IsForked, IsConflict, IsRight, IsAnswer, Ends, Keeps, last_entry}
+use Rattle.machine_laws.specs.NotAllowed.{IsShown, ItemsAreTrue, OutcomesAreTrue, ConflictsAreTrue, AnswersAreTrue, NothingFalseIsAllowed}
 use Rattle.machine_laws.proofs.Begins.{regs_now}
+use Rattle.machine_laws.proofs.Forks.{IsMet, fit_met, fork_met}
 use Rattle.machine_laws.proofs.MarksOf.{fits_base1_parts, fits_base2_parts, fits_word_parts}
 use Rattle.machine_laws.proofs.Lists.{none_some}
 
 -- ITEMS
-
--- the list ends where the walk does, or before
-abbrev IsMet : {A : Type 0} → Stands Need Item A → Type 0
-IsMet (needs n) = Unit {0}
-IsMet bad = ⊥
-IsMet (ends a []) = Unit {0}
-IsMet (ends a (i ∷ items)) = ⊥
 
 -- a mark tells whether its item is a base, and of which stage
 pub record IsOf (m : Mark) (i : Item) : Type 0 where
@@ -58,10 +52,6 @@ mark_of r (base2 x) i h =
 mark_of r (word w) i h =
     let p = fits_word_parts r w i h in
     record { item = refl; stage = sym p.stage; base = λ e. let w : Base ≡ Word = sym e ∙ p.what in absurd cc; word = λ e. refl }
-
-fit_met : {A : Type 0} (fit : Bool) (s : Stands Need Item A) → IsMet (cond fit s bad) → (fit ≡ true) × IsMet s
-fit_met true s met = (refl, met)
-fit_met false s met = absurd met
 
 -- what is said of each mark is said of each item
 module _ {A : Type 0} (r : Regime) (P : Mark → Option ℕ → Type 0) (Q : Item → Type 0)
@@ -93,24 +83,63 @@ was_read v m u i of kept =
       word = λ e. held.word (of.word (what ∙ e));
     }
 
-all_read : (q : Case) (xs : List Item) → IsMet (stands (config_now q) true q.access xs) → Keeps q true xs → All (WasRead q.view) xs
-all_read q xs met kept =
+all_read : (q : Case) (j : Bool) (xs : List Item) → IsMet (stands (config_now q) j q.access xs) → Keeps q j xs → All (WasRead q.view) xs
+all_read q j xs met kept =
     let c = config_now q in
     let r = regime_of c (side_of q.access.va) in
-    all_items r (IsKeptNow q.view) (WasRead q.view) (was_read q.view) (walk c true q.access) None xs met kept.items
+    all_items r (IsKeptNow q.view) (WasRead q.view) (was_read q.view) (walk c j q.access) None xs met kept.items
 
 met_by : {A : Type 0} (s t : Stands Need Item A) → s ≡ t → IsMet t → IsMet s
 met_by s t e h = subst IsMet (sym e) h
 
-right_read : (q : Case) (xs : List Item) (second : Option (List Item)) (o : Outcome) → IsRight q xs second o → is_conflict o ≡ false
-    → All (WasRead q.view) xs
-right_read q xs second (Mapped pa perms mem sh) r one = all_read q xs (met_by _ _ r.walk_ends tt) r.kept
-right_read q xs second (Faulted f) r one = all_read q xs (met_by _ _ r.walk_ends tt) r.kept
-right_read q xs second (Absent s level pa s1ptw) r one = all_read q xs (met_by _ _ r.walk_needs tt) r.kept
-right_read q xs second Conflict r one = absurd cc
+-- each item of an answer's trails was read
+record AreRead (q : Case) (xs : List Item) (second : Option (List Item)) : Type 0 where
+  in_first : All (WasRead q.view) xs
+  in_second : (ys : List Item) → second ≡ Some ys → All (WasRead q.view) ys
+
+module _ (q : Case) (xs : List Item) (second : Option (List Item)) where
+  one_read : second ≡ None → All (WasRead q.view) xs → AreRead q xs second
+  one_read alone first = record { in_first = first; in_second = λ ys e. none_some ys (sym alone ∙ e) }
+
+  fork_read : (ys : List Item) → IsForked q xs ys → All (WasRead q.view) xs × All (WasRead q.view) ys
+  fork_read ys f =
+      let met = λ (zs : List Item) (to : Reaches q f.ipa zs).
+      fork_met (config_now q) q.access f.front zs f.ipa to.0 to.1 f.walk_needs to.2 in (
+        all_read q true xs (subst (λ v. IsMet (stands (config_now q) true q.access v)) (sym f.first_is) (met f.one f.reaches_one)) f.kept_first,
+        all_read q true ys (subst (λ v. IsMet (stands (config_now q) true q.access v)) (sym f.second_is) (met f.two f.reaches_two)) f.kept_second,
+      )
+
+  twice_read : (ys : List Item) → IsTwice q xs ys → All (WasRead q.view) xs × All (WasRead q.view) ys
+  twice_read ys t = (all_read q false xs (met_by _ _ t.lands_first.1 tt) t.kept_first, all_read q false ys (met_by _ _ t.lands_second.1 tt) t.kept_second)
+
+  how_read : (ys : List Item) → IsTwice q xs ys ⊎ IsForked q xs ys → All (WasRead q.view) xs × All (WasRead q.view) ys
+  how_read ys (inl t) = twice_read ys t
+  how_read ys (inr f) = fork_read ys f
+
+  right_read : (o : Outcome) → IsRight q xs second o → AreRead q xs second
+  right_read (Mapped pa perms mem sh) r = one_read r.alone (all_read q true xs (met_by _ _ r.walk_ends tt) r.kept)
+  right_read (Faulted f) r = one_read r.alone (all_read q true xs (met_by _ _ r.walk_ends tt) r.kept)
+  right_read (Absent s level pa s1ptw) r = one_read r.alone (all_read q true xs (met_by _ _ r.walk_needs tt) r.kept)
+  right_read Conflict r =
+      let both = how_read r.other r.how in
+      record {
+        in_first = both.0;
+        in_second = λ ys e. subst (λ zs. All (WasRead q.view) zs) (same_Some r.other ys (sym r.both ∙ e)) both.1;
+      }
 
 same_end : (d e : End Landing) → ◌≡◌ {A = Stands Need Item (End Landing)} (ends d []) (ends e []) → outcome_of d ≡ outcome_of e
 same_end d e h = let same : d ≡ e = cc in ap outcome_of same
+
+ends_needs : (e : End Landing) (n : Need) → ◌≡◌ {A = Stands Need Item (End Landing)} (ends e []) (needs n) → ⊥
+ends_needs e n h = absurd cc
+
+same_need : (m n : WordNeed) → ◌≡◌ {A = Stands Need Item (End Landing)} (needs (word m)) (needs (word n))
+    → fed_outcome (lacks (word m)) ≡ fed_outcome (lacks (word n))
+same_need m n h = let same : m ≡ n = cc in ap (λ k. fed_outcome (lacks (word k))) same
+
+turned : (b c : Bool) → b ≡ c → not b ≡ c → ⊥
+turned true c e f = let w : true ≡ false = e ∙ sym f in absurd cc
+turned false c e f = let w : false ≡ true = e ∙ sym f in absurd cc
 
 -- OUTCOMES
 
@@ -123,6 +152,14 @@ module _ (q : Case) (xs : List Item) (second : Option (List Item)) where
       let clash : ◌≡◌ {A = Stands Need Item (End Landing)} (needs (word r.need)) (ends e []) = sym r.walk_needs ∙ at in
       absurd cc
   end_is Conflict e r one at = absurd cc
+
+  -- one where the walk needs a word names this word
+  need_is : (o : Outcome) (n : WordNeed) → IsRight q xs second o → is_conflict o ≡ false → stands (config_now q) true q.access xs ≡ needs (word n)
+      → o ≡ fed_outcome (lacks (word n))
+  need_is (Mapped pa perms mem sh) n r one at = absurd (ends_needs r.end (word n) (sym r.walk_ends ∙ at))
+  need_is (Faulted f) n r one at = absurd (ends_needs r.end (word n) (sym r.walk_ends ∙ at))
+  need_is (Absent s level pa s1ptw) n r one at = r.is ∙ same_need r.need n (sym r.walk_needs ∙ at)
+  need_is Conflict n r one at = absurd cc
 
   alone_is : (o : Outcome) → IsRight q xs second o → is_conflict o ≡ false → second ≡ None
   alone_is (Mapped pa perms mem sh) r one = r.alone
@@ -167,19 +204,23 @@ module _ (h : Header) (log : List Step) (c : ℕ) (a : Access) (r : Answer) wher
   right : {o : Outcome} → r.outcome ≡ o → IsAnswer here r → IsRight here r.first r.second o
   right is ok = subst (IsRight here r.first r.second) is ok.right
 
-  items_true : is_conflict r.outcome ≡ false → (i : Item) → Contains r.first i → ItemsAreTrue h log c a r i
-  items_true one i at =
-      let read = λ (ok : IsAnswer here r). All-contains (WasRead here.view) r.first i (right_read here r.first r.second r.outcome ok.right one) at in
-      record {
-        word = λ is wrong ok. wrong ((read ok).word is);
-        base = λ is wrong ok. wrong ((read ok).base is);
-        fields = λ wrong ok. wrong ((read ok).fields ∙ now_is config_of);
-        vmid = λ wrong ok. wrong ((read ok).vmid ∙ now_is vmid_of);
-      }
+  was_shown : IsAnswer here r → (i : Item) → IsShown r i → WasRead here.view i
+  was_shown ok i (inl at) = All-contains (WasRead here.view) r.first i (right_read here r.first r.second r.outcome ok.right).in_first at
+  was_shown ok i (inr at) =
+      All-contains (WasRead here.view) at.0 i ((right_read here r.first r.second r.outcome ok.right).in_second at.0 at.1) at.2
+
+  items_true : (i : Item) → IsShown r i → ItemsAreTrue h log c a r i
+  items_true i at = record {
+    word = λ is wrong ok. wrong ((was_shown ok i at).word is);
+    base = λ is wrong ok. wrong ((was_shown ok i at).base is);
+    fields = λ wrong ok. wrong ((was_shown ok i at).fields ∙ now_is config_of);
+    vmid = λ wrong ok. wrong ((was_shown ok i at).vmid ∙ now_is vmid_of);
+  }
 
   outcomes_true : is_conflict r.outcome ≡ false → OutcomesAreTrue h log c a r
   outcomes_true one = record {
     of_walk = λ e at wrong ok. wrong (end_is here r.first r.second r.outcome e ok.right one at);
+    of_need = λ n at wrong ok. wrong (need_is here r.first r.second r.outcome n ok.right one at);
     lacking = λ s l p w v is there ok. none_some v (sym (lacks_at here r.first r.second s l p w (right is ok)) ∙ there);
     alone = λ wrong ok. wrong (alone_is here r.first r.second r.outcome ok.right one);
   }
@@ -197,6 +238,8 @@ module _ (h : Header) (log : List Step) (c : ℕ) (a : Access) (r : Answer) wher
     conflicts = conflicts_true;
     asid = λ wrong ok. wrong (ok.asid_is ∙ now_is asid_of);
     vmid = λ wrong ok. wrong (ok.vmid_is ∙ now_is vmid_of);
+    old = λ right ok. turned r.old _ right.old_is ok.old_is;
+    stale = λ right ok. turned r.stale _ right.stale_is ok.stale_is;
     exchanged = λ right wrong ok. wrong (right.old_is ∙ sym ok.old_is);
     unanswered = λ ok. ok;
     not_fetched = λ ok. ok;

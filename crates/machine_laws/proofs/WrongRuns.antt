@@ -33,7 +33,7 @@ use Rattle.machine_spec.specs.Machine.{world_after, answer_in, step_of, run_of}
 use Rattle.machine_spec.proofs.Worked.{on_worked_runs}
 use Rattle.machine_laws.specs.Headline.{core_named, AreOfCores}
 use Rattle.machine_laws.specs.NotAllowedRuns.{two_cores, global_page, asid_page, read, read_once, page_gone, trail, front, Allows, under_asid_2, other_gone}
-use Rattle.machine_laws.specs.NotAllowedRuns.{LeavesOfTheirAsid, LeavesUpToTheirEnd, TablesUpToTheirUse, BasesOfTheirWord, FaultsOfNow, AccessesAreJudged, ConflictsOfLeaves, WrongAnswersAreRefused}
+use Rattle.machine_laws.specs.NotAllowedRuns.{read_below, leaf2_gone, ChainsUpToTheirUse, LeavesOfTheirAsid, LeavesUpToTheirEnd, TablesUpToTheirUse, BasesOfTheirWord, FaultsOfNow, AccessesAreJudged, ConflictsOfLeaves, WrongAnswersAreRefused}
 use Rattle.machine_laws.proofs.Logs.{get-last}
 use Rattle.machine_laws.proofs.Wrong.{nothing_false_is_allowed}
 use Rattle.machine_laws.proofs.Promised.{runs_are_allowed}
@@ -102,6 +102,7 @@ unfolding on_worked_walks on_worked_runs
 asid_held = record {
   wrong = λ r. eqb-false 1 2 refl (r.right.kept.items.1.1.0.asid refl);
   right = allows (under_asid_2 global_page) _ _ refl refl;
+  wrong_table = λ r. eqb-false 1 2 refl (r.right.kept.items.1.0.asid refl);
 }
 
 ended : LeavesUpToTheirEnd
@@ -121,6 +122,15 @@ used = record {
   right = allows other_gone _ _ refl refl;
   wrong = λ r. r.right.kept.items.1.0.live refl 8 _ (leb-true 7 8 refl) refl refl refl
       record { step = 9; event = Dsb 0 Nsh; later = leb-true 9 9 refl; earlier = leb-true 10 10 refl; is = refl; ends = refl };
+}
+
+chains : ChainsUpToTheirUse
+unfolding on_worked_walks on_worked_runs
+chains = record {
+  right = allows (read_below ++ leaf2_gone ∷ Dsb 0 Nsh ∷ []) _ _ refl refl;
+  right_before = allows (read_below ++ leaf2_gone ∷ []) _ _ refl refl;
+  wrong = λ r. r.right.kept.items.1.1.1.1.1.1.1.0.live refl 16 _ (leb-true 15 16 refl) refl refl refl
+      record { step = 17; event = Dsb 0 Nsh; later = leb-true 17 17 refl; earlier = leb-true 18 18 refl; is = refl; ends = refl };
 }
 
 bases : BasesOfTheirWord
@@ -190,4 +200,5 @@ conflicts : ConflictsOfLeaves
 conflicts = record { first = λ r. as_first r.right; second = λ r. as_second r.right }
 
 pub wrong_answers_are_refused : WrongAnswersAreRefused
-wrong_answers_are_refused = record { asid = asid_held; leaves = ended; tables = used; bases = bases; faults = faults; judged = judged; conflicts = conflicts }
+wrong_answers_are_refused =
+    record { asid = asid_held; leaves = ended; tables = used; chains = chains; bases = bases; faults = faults; judged = judged; conflicts = conflicts }

@@ -74,8 +74,8 @@ uses_of h c events = uses_from h (opened h) c events
 -- LAWS
 
 -- the rows of a row's set, in the order of rank
-abbrev pub set_of : (header : Header) (row : Row) (cache : Cache) → List Row
-set_of h r l = filter (same_set (shape_of h.size r.kind) r) l.rows
+abbrev pub rows_of_set : (header : Header) (row : Row) (cache : Cache) → List Row
+rows_of_set h r l = filter (same_set (shape_of h.size r.kind) r) l.rows
 
 -- A row that a full set loses: a step makes a new row that no live one would serve for, its set is full, and of the set's rows the
 -- policy names this one.
@@ -85,9 +85,9 @@ pub record IsEvicted (h : Header) (c : ℕ) (before : Cache) (used : Used) (r : 
   pub later : List Row
   pub made : used.made ≡ earlier ++ new ∷ later
   pub wanted : list_any (same_key new) (filled h c before used.served earlier).rows ≡ false
-  pub full : nat_le (shape_of h.size new.kind).ways (length (set_of h new (filled h c before used.served earlier))) ≡ true
+  pub full : nat_le (shape_of h.size new.kind).ways (length (rows_of_set h new (filled h c before used.served earlier))) ≡ true
   pub named : let l = filled h c before used.served earlier in
-      slice_get (set_of h new l) (victim h.policy c l.evictions (shape_of h.size new.kind).ways) ≡ Some r
+      slice_get (rows_of_set h new l) (victim h.policy c l.evictions (shape_of h.size new.kind).ways) ≡ Some r
 
 -- A row of a core stays over an event, or a covering invalidation takes effect, or a full set loses it to a new row of that set.
 abbrev pub RowsLeaveForACause : Type 0
@@ -114,5 +114,5 @@ LruLosesTheLongestUnused =
     let used = used_at h w c e in
     (earlier later : List Row) (new : Row) → used.made ≡ earlier ++ new ∷ later →
     (first : Row) (others : List Row) →
-    set_of h new (filled h c (core_of w c).cache used.served earlier) ≡ first ∷ others →
+    rows_of_set h new (filled h c (core_of w c).cache used.served earlier) ≡ first ∷ others →
     (r : Row) → In r others → IsUsedSince (uses_of h c events ++ (used.served ++ earlier)) first r

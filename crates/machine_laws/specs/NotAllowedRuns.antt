@@ -1,8 +1,8 @@
 -- Wrong answers behind small runs, each beside one that is allowed and differs from it in one thing. A core has a table at 0x1000,
 -- whose first word leads to a table at 0x2000 with the words of two pages, and reads under ASID 1. They are this project's own.
 use Rattle.std.specs.Prelude.{ℕ, ◌+◌, ◌*◌, ◌^◌, Bool, true, false, List, [], ◌∷◌, ◌++◌, pos, Some, None}
-use Rattle.sysregs.specs.declared.regs.Reg.TheVariants.{SctlrEl1, TcrEl1, Ttbr0El1}
-use Rattle.sysregs.specs.declared.regs.Op.TheVariants.{Vae1}
+use Rattle.sysregs.specs.declared.regs.Reg.TheVariants.{SctlrEl1, TcrEl1, Ttbr0El1, HcrEl2, VtcrEl2, VttbrEl2}
+use Rattle.sysregs.specs.declared.regs.Op.TheVariants.{Vae1, Ipas2le1}
 use Rattle.permissions.specs.declared.bits.El.{El}
 use Rattle.permissions.specs.declared.bits.El.TheVariants.{El0, El1}
 use Rattle.permissions.specs.declared.bits.Kind.TheVariants.{Read}
@@ -12,14 +12,14 @@ use Rattle.attributes.specs.declared.kinds.MemType.TheVariants.{Device}
 use Rattle.attributes.specs.declared.kinds.Share.TheVariants.{Osh}
 use Rattle.fault_codes.specs.declared.fault.Class.{Class}
 use Rattle.fault_codes.specs.declared.fault.Class.TheVariants.{Translation, Permission}
-use Rattle.fault_codes.specs.declared.fault.Stage.TheVariants.{S1}
+use Rattle.fault_codes.specs.declared.fault.Stage.TheVariants.{S1, S2}
 use Rattle.trails.specs.declared.item.Item.{Item}
 use Rattle.trails.specs.declared.item.What.TheVariants.{Base, Word}
 use Rattle.trails.specs.declared.outcome.Access.{Access}
 use Rattle.trails.specs.declared.outcome.Outcome.{Outcome}
 use Rattle.trails.specs.declared.outcome.Outcome.TheVariants.{Mapped, Faulted, Conflict}
 use Rattle.trails.specs.declared.event.Barrier.TheVariants.{Nsh, Ish}
-use Rattle.trails.specs.declared.event.Origin.TheVariants.{El1 as FromEl1}
+use Rattle.trails.specs.declared.event.Origin.TheVariants.{El1 as FromEl1, El2 as FromEl2}
 use Rattle.trails.specs.declared.event.Event.{Event}
 use Rattle.trails.specs.declared.event.Event.TheVariants.{Store, Msr, Isb, Tlbi, Dsb, Access as AccessOf}
 use Rattle.trails.specs.declared.step.Answer.{Answer}
@@ -91,13 +91,14 @@ Allows events a r = IsAllowed two_cores (run_of two_cores events) record { event
 abbrev pub Refuses : (events : List Event) (access : Access) (answer : Answer) → Type 0
 Refuses events a r = Allows events a r → ⊥
 
--- A leaf that isn't global serves no other ASID, and a global one does.
+-- A leaf that isn't global serves no other ASID, and neither does a table; a global leaf does.
 abbrev pub under_asid_2 : (word : ℕ) → List Event
 under_asid_2 word = read_once word ++ Msr 0 Ttbr0El1 (base_of 2) ∷ Isb 0 ∷ []
 
 pub record LeavesOfTheirAsid : Type 0 where
   pub wrong : Refuses (under_asid_2 asid_page) (read El1 0) (told 2 (to 0x10000) true (trail 7 7 7 0 asid_page))
   pub right : Allows (under_asid_2 global_page) (read El1 0) (told 2 (to 0x10000) true (trail 7 7 7 0 global_page))
+  pub wrong_table : Refuses (under_asid_2 asid_page) (read El1 1) (told 2 (to 0x11000) true (trail 7 7 10 1 other_page))
 
 -- the first page's old translation
 abbrev pub old_page : Answer
@@ -119,6 +120,39 @@ other_gone = read_once asid_page ++ page_gone 0 1 false ∷ Dsb 0 Nsh ∷ []
 pub record TablesUpToTheirUse : Type 0 where
   pub right : Allows other_gone (read El1 0) old_page
   pub wrong : Refuses other_gone (read El1 1) (told 1 (to 0x11000) true (trail 7 7 10 1 other_page))
+
+-- The same below a stage 2: its table at 0x8000 leads to a table at 0x9000 with a leaf for each page of stage 1's tables and for both
+-- pages. Fifteen events, and the first page is read at moment 15.
+abbrev pub read_below : List Event
+read_below =
+    Store 0 0x1000 0x2003 ∷ Store 0 0x2000 asid_page ∷ Store 0 0x2008 other_page ∷ Store 0 0x8000 0x9003 ∷ Store 0 0x9008 0x14ff ∷
+    Store 0 0x9010 0x24ff ∷ Store 0 0x9080 0x104ff ∷ Store 0 0x9088 0x114ff ∷ Msr 0 TcrEl1 0x27 ∷ Msr 0 Ttbr0El1 (base_of 1) ∷
+    Msr 0 VtcrEl2 0x27 ∷ Msr 0 VttbrEl2 0x8000 ∷ Msr 0 HcrEl2 1 ∷ Msr 0 SctlrEl1 1 ∷ Isb 0 ∷ AccessOf 0 (read El1 0) ∷ []
+
+-- the chain of stage 2 to a leaf, with the moments of its front and of the leaf
+abbrev pub chain : (read_front read_leaf page : ℕ) → List Item
+chain k l page =
+    record { stage = S2; level = pos 2; what = Base; pa = 0x8000; value = 0x8000; moment = k }
+    ∷ record { stage = S2; level = pos 2; what = Word; pa = 0x8000; value = 0x9003; moment = k }
+    ∷ record { stage = S2; level = pos 3; what = Word; pa = 0x9000 + page * 8; value = page * 0x1000 + 0x4ff; moment = l } ∷ []
+
+-- the trail of a page, all of moment 15 but for the leaves of stage 1 and of its output
+abbrev pub trail_below : (read_leaf page word : ℕ) → List Item
+trail_below l page word =
+    record { stage = S1; level = pos 2; what = Base; pa = 0x1000; value = 0x1000; moment = 15 }
+    ∷ chain 15 15 1 ++ item 2 0x1000 0x2003 15
+    ∷ chain 15 15 2 ++ item 3 (0x2000 + page * 8) word l ∷ chain 15 l (0x10 + page)
+
+-- an invalidation of the stage 2 leaf of the second table
+abbrev pub leaf2_gone : Event
+leaf2_gone = Tlbi 0 FromEl2 Ipas2le1 false 2
+
+-- A chain of stage 2 is relied on up to the read of the stage 1 word that it led to. Behind that read an invalidation of its leaf
+-- doesn't matter, and complete before it the leaf may not be used.
+pub record ChainsUpToTheirUse : Type 0 where
+  pub right : Allows (read_below ++ leaf2_gone ∷ Dsb 0 Nsh ∷ []) (read El1 0) (told 1 (to 0x10000) true (trail_below 15 0 asid_page))
+  pub right_before : Allows (read_below ++ leaf2_gone ∷ []) (read El1 1) (told 1 (to 0x11000) true (trail_below 17 1 other_page))
+  pub wrong : Refuses (read_below ++ leaf2_gone ∷ Dsb 0 Nsh ∷ []) (read El1 1) (told 1 (to 0x11000) true (trail_below 18 1 other_page))
 
 -- A base is of the moment at which the first word behind it was read: not later, and not earlier.
 pub record BasesOfTheirWord : Type 0 where
@@ -150,6 +184,7 @@ pub record WrongAnswersAreRefused : Type 0 where
   pub asid : LeavesOfTheirAsid
   pub leaves : LeavesUpToTheirEnd
   pub tables : TablesUpToTheirUse
+  pub chains : ChainsUpToTheirUse
   pub bases : BasesOfTheirWord
   pub faults : FaultsOfNow
   pub judged : AccessesAreJudged

@@ -2,6 +2,7 @@
 use Rattle.std.specs.Prelude.{◌≡◌, ◌⊎◌, ℕ, Bool, true, false, not, ◌==◌, ◌&&◌, if◌then◌else◌, nat_lt, ℤ, List, []}
 use Rattle.std.specs.Prelude.{◌∷◌, ◌++◌, take, slice_get, Option, Some, None}
 use Rattle.std.specs.List.{list_any}
+use Rattle.std.specs.Option.{option_or}
 use Rattle.sysregs.specs.declared.regs.Regs.{Regs}
 use Rattle.sysregs.specs.declared.regs.Config.{Config}
 use Rattle.sysregs.specs.declared.regs.Side.{Side}
@@ -73,19 +74,15 @@ Entry = ℕ × ℤ × ℕ
 abbrev pub entry_of : (item : Item) → Entry
 entry_of i = (i.pa, i.level, i.value)
 
-abbrev pub or_else : {X : Type 0} → (first second : Option X) → Option X
-or_else None second = second
-or_else (Some x) second = Some x
-
 -- the last item
 abbrev pub last_entry : (items : List Item) → Option Entry
 last_entry [] = None
-last_entry (i ∷ items) = or_else (last_entry items) (Some (entry_of i))
+last_entry (i ∷ items) = option_or (last_entry items) (Some (entry_of i))
 
 -- the last item of stage 1
 abbrev pub last_entry1 : (items : List Item) → Option Entry
 last_entry1 [] = None
-last_entry1 (i ∷ items) = or_else (last_entry1 items) (if is_stage1 i.stage then Some (entry_of i) else None)
+last_entry1 (i ∷ items) = option_or (last_entry1 items) (if is_stage1 i.stage then Some (entry_of i) else None)
 
 -- what is judged: the view of the core, and the access
 pub record Case : Type 0 where

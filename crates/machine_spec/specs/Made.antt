@@ -1,6 +1,7 @@
 -- Which rows a step makes (this project's own rules): from the words that it read, in the order of its trail.
 use Rattle.std.specs.Prelude.{ℕ, ◌+◌, ◌/◌, ◌^◌, Bool, true, false, ◌==◌, ◌&&◌, if◌then◌else◌, List, [], ◌∷◌}
 use Rattle.std.specs.Prelude.{◌++◌, Option, Some, None}
+use Rattle.std.specs.Option.{option_or}
 use Rattle.sysregs.specs.declared.regs.Regs.{Regs}
 use Rattle.sysregs.specs.Registers.{config_of, asid_of, vmid_of}
 use Rattle.fault_codes.specs.declared.fault.Stage.{Stage}
@@ -75,14 +76,10 @@ rows_of k whole chain (m ∷ marks) =
     let chain2 = chain_with chain m in
     (if is_read_now k m then rows_by k m whole2 chain2 m.stage m.part else []) ++ rows_of k whole2 chain2 marks
 
-abbrev pub or_mark : (first second : Option Mark) → Option Mark
-or_mark None second = second
-or_mark (Some m) second = Some m
-
 -- the last item of stage 1
 abbrev pub last_first : (marks : List Mark) → Option Mark
 last_first [] = None
-last_first (m ∷ marks) = or_mark (last_first marks) (if is_first m then Some m else None)
+last_first (m ∷ marks) = option_or (last_first marks) (if is_first m then Some m else None)
 
 -- the row of a stage 1 leaf with the stage 2 of its output: it serves the piece of both leaves around the address
 abbrev pub leaf_row : (maker : Maker) (class address : ℕ) (mark : Mark) (trail : List Item) → Row
