@@ -1,9 +1,9 @@
 -- What is due comes, and what comes was due.
 use Rattle.std.proofs.Common.{◌≡◌, ◌≢◌, ◌⊎◌, ℕ, List, [], ◌∷◌, Option, Some, None, Ok, Err, inl, inr, refl, sym, ap, ◌∙◌, subst}
-use Rattle.dump_file.specs.Held.{Holding, Untold, Absent, Bytes, Reading, ReadFails, IsMissingBy}
+use Rattle.dump_file.specs.Held.{Holding, Untold, Absent, Bytes, Reading, IsMissingBy}
 use Rattle.explain_text.specs.Written.{Writing, WriteFails, Got, GotNothing}
 use Rattle.commands.specs.Asked.{Asked}
-use Rattle.vmsa.specs.Answers.{Form, Named, words_refusal, files_of, IsTextOf, refusal_in, PassesBy, IsRefusedBy, SurelyPassesBy, IsSurelyRefusedBy, Stops, SurelyStops, StopsIn, SurelyStopsIn, AllPass}
+use Rattle.vmsa.specs.Answers.{Form, Named, words_refusal, files_of, IsTextOf, refusal_in, PassesBy, IsRefusedBy, SurelyPassesBy, IsSurelyRefusedBy, Stops, SurelyStops, StopsIn, IsRead, SurelyStopsIn, AllPass}
 use Rattle.vmsa.specs.Answers.{Due, MayEndBy, MayEnd, SurelyEndsBy, SurelyEnds, IsText, IsAnswerable, IsDue, Tells, Comes, UsageWhere, RefusedWhere, NoFileWhere, ReadFaultWhere, WriteFaultWhere, DoneWhere, Completes, IsComplete}
 use Rattle.vmsa.proofs.Passing.{PassAll, text_passes}
 use Rattle.vmsa.specs.declared.status.Why.{Why}
@@ -19,10 +19,9 @@ same_some : {A : Type 0} (o : Option A) (x y : A) → o ≡ Some x → o ≡ Som
 same_some None x y h k = absurd (let bad : None ≡ Some x = h in cc)
 same_some (Some z) x y h k = let e : Some z ≡ Some x = h in let f : Some z ≡ Some y = k in cc
 
--- a status that surely stops a command is the one that stops it, but for a failed read and want of memory
+-- a status that surely stops a command is the one that stops it, but for want of memory
 data Agree (r : Reading) (want status : Status) : Type 0 where
   the_same : status ≡ want → Agree r want status
-  failed : ReadFails r → Agree r want status
   no_memory : status ≡ NoMemory → Agree r want status
 
 module _ (r : Reading) where
@@ -37,24 +36,20 @@ module _ (r : Reading) where
   passes_refused Absent f why p k = p
   passes_refused (Bytes bytes) f why p k = both_ways (refusal_in f bytes) why p k
 
-  passes_stops : (f : Named) (status : Status) → SurelyPassesBy (r.holds f.name) f.form → Stops r f status → ReadFails r ⊎ (status ≡ NoMemory)
-  passes_stops f (NoFile name) p s = absurd (passes_missing (r.holds f.name) f.form r.missing r.missing_after p s.1)
-  passes_stops f (Refused why) p s = absurd (passes_refused (r.holds f.name) f.form why p s)
-  passes_stops f ReadFault p s = inl s
-  passes_stops f NoMemory p s = inr refl
-  passes_stops f Done p s = absurd s
-  passes_stops f Usage p s = absurd s
-  passes_stops f WriteFault p s = absurd s
+  passes_stops : (f : Named) (status : Status) → IsRead r f → SurelyPassesBy (r.holds f.name) f.form → Stops r f status → status ≡ NoMemory
+  passes_stops f (NoFile name) n p s = absurd (passes_missing (r.holds f.name) f.form (r.missing f.name) (r.missing_after f.name) p s.1)
+  passes_stops f (Refused why) n p s = absurd (passes_refused (r.holds f.name) f.form why p s)
+  passes_stops f ReadFault n p s = absurd (n s)
+  passes_stops f NoMemory n p s = refl
+  passes_stops f Done n p s = absurd s
+  passes_stops f Usage n p s = absurd s
+  passes_stops f WriteFault n p s = absurd s
 
   -- files that surely pass stop nothing
-  pass_in : (fs : List Named) (status : Status) → AllPass r fs → StopsIn r fs status → ReadFails r ⊎ (status ≡ NoMemory)
+  pass_in : (fs : List Named) (status : Status) → AllPass r fs → StopsIn r fs status → status ≡ NoMemory
   pass_in [] status p t = absurd t
-  pass_in (f ∷ fs) status p (inl t) = passes_stops f status p.0 t
-  pass_in (f ∷ fs) status p (inr t) = pass_in fs status p.1 t.1
-
-  agree_passes : (want status : Status) → ReadFails r ⊎ (status ≡ NoMemory) → Agree r want status
-  agree_passes want status (inl e) = failed e
-  agree_passes want status (inr e) = no_memory e
+  pass_in (f ∷ fs) status p (inl t) = passes_stops f status p.0 p.1 t
+  pass_in (f ∷ fs) status p (inr t) = pass_in fs status p.2 t.1
 
   -- one that surely is missing, or refused, doesn't pass
   missing_passes : (h : Holding) (f : Form) → h ≡ Absent → PassesBy h f → ⊥
@@ -88,43 +83,43 @@ module _ (r : Reading) where
   one_why (Bytes bytes) f v w k l = same_some (refusal_in f bytes) w v l k
 
   -- what surely stops, stops
-  stop_stops : (f : Named) (want status : Status) → SurelyStops r f want → Stops r f status → Agree r want status
-  stop_stops f want ReadFault s t = failed t
-  stop_stops f want NoMemory s t = no_memory refl
-  stop_stops f want Done s t = absurd t
-  stop_stops f want Usage s t = absurd t
-  stop_stops f want WriteFault s t = absurd t
-  stop_stops f (NoFile name) (NoFile n) s t = the_same (ap NoFile (t.0 ∙ sym s.0))
-  stop_stops f (NoFile name) (Refused why) s t = absurd (missing_refused (r.holds f.name) f.form why s.1 t)
-  stop_stops f (Refused why) (NoFile n) s t = absurd (refused_missing (r.holds f.name) f.form why r.missing r.missing_after s t.1)
-  stop_stops f (Refused why) (Refused w) s t = the_same (ap Refused (one_why (r.holds f.name) f.form why w s t))
-  stop_stops f ReadFault (NoFile n) s t = absurd s
-  stop_stops f ReadFault (Refused w) s t = absurd s
-  stop_stops f NoMemory (NoFile n) s t = absurd s
-  stop_stops f NoMemory (Refused w) s t = absurd s
-  stop_stops f Done (NoFile n) s t = absurd s
-  stop_stops f Done (Refused w) s t = absurd s
-  stop_stops f Usage (NoFile n) s t = absurd s
-  stop_stops f Usage (Refused w) s t = absurd s
-  stop_stops f WriteFault (NoFile n) s t = absurd s
-  stop_stops f WriteFault (Refused w) s t = absurd s
+  stop_stops : (f : Named) (want status : Status) → IsRead r f → SurelyStops r f want → Stops r f status → Agree r want status
+  stop_stops f want ReadFault n s t = absurd (n t)
+  stop_stops f want NoMemory n s t = no_memory refl
+  stop_stops f want Done n s t = absurd t
+  stop_stops f want Usage n s t = absurd t
+  stop_stops f want WriteFault n s t = absurd t
+  stop_stops f (NoFile name) (NoFile m) n s t = the_same (ap NoFile (t.0 ∙ sym s.0))
+  stop_stops f (NoFile name) (Refused why) n s t = absurd (missing_refused (r.holds f.name) f.form why s.1 t)
+  stop_stops f (Refused why) (NoFile m) n s t = absurd (refused_missing (r.holds f.name) f.form why (r.missing f.name) (r.missing_after f.name) s t.1)
+  stop_stops f (Refused why) (Refused w) n s t = the_same (ap Refused (one_why (r.holds f.name) f.form why w s t))
+  stop_stops f ReadFault (NoFile m) n s t = absurd s
+  stop_stops f ReadFault (Refused w) n s t = absurd s
+  stop_stops f NoMemory (NoFile m) n s t = absurd s
+  stop_stops f NoMemory (Refused w) n s t = absurd s
+  stop_stops f Done (NoFile m) n s t = absurd s
+  stop_stops f Done (Refused w) n s t = absurd s
+  stop_stops f Usage (NoFile m) n s t = absurd s
+  stop_stops f Usage (Refused w) n s t = absurd s
+  stop_stops f WriteFault (NoFile m) n s t = absurd s
+  stop_stops f WriteFault (Refused w) n s t = absurd s
 
   agree_in : (fs : List Named) (want status : Status) → SurelyStopsIn r fs want → StopsIn r fs status → Agree r want status
   agree_in [] want status s t = absurd s
-  agree_in (f ∷ fs) want status (inl s) (inl t) = stop_stops f want status s t
-  agree_in (f ∷ fs) want status (inl s) (inr t) = absurd (stop_passes f want s t.0)
-  agree_in (f ∷ fs) want status (inr s) (inl t) = agree_passes want status (passes_stops f status s.0 t)
-  agree_in (f ∷ fs) want status (inr s) (inr t) = agree_in fs want status s.1 t.1
+  agree_in (f ∷ fs) want status (n, inl s) (inl t) = stop_stops f want status n s t
+  agree_in (f ∷ fs) want status (n, inl s) (inr t) = absurd (stop_passes f want s t.0)
+  agree_in (f ∷ fs) want status (n, inr s) (inl t) = no_memory (passes_stops f status n s.0 t)
+  agree_in (f ∷ fs) want status (n, inr s) (inr t) = agree_in fs want status s.1 t.1
 
   surely_pass : (fs : List Named) (want : Status) → SurelyStopsIn r fs want → PassAll r.holds fs → ⊥
   surely_pass [] want s p = s
-  surely_pass (f ∷ fs) want (inl s) p = stop_passes f want s p.0
-  surely_pass (f ∷ fs) want (inr s) p = surely_pass fs want s.1 p.1
+  surely_pass (f ∷ fs) want (n, inl s) p = stop_passes f want s p.0
+  surely_pass (f ∷ fs) want (n, inr s) p = surely_pass fs want s.1 p.1
 
   -- a command that surely ends otherwise has no text
   text_ends : (a : Asked) (o : Option Why) (want : Status) (text : List ℕ) → o ≡ None → SurelyEndsBy r o (files_of a) want → IsTextOf r.holds a text → ⊥
   text_ends a (Some why) want text e s t = let bad : Some why ≡ None = e in cc
-  text_ends a None want text e s t = surely_pass (files_of a) want s.1 (text_passes r.holds a text t)
+  text_ends a None want text e s t = surely_pass (files_of a) want s (text_passes r.holds a text t)
 
   -- neither Done nor WriteFault nor Usage ends a command
   ends_not : (x : Status) → ((f : Named) → Stops r f x → ⊥) → (fs : List Named) → StopsIn r fs x → ⊥
@@ -170,10 +165,9 @@ module _ (r : Reading) where
     comes_memory want status (inr (inl e)) = inr (inl e)
     comes_memory want status (inr (inr e)) = inr (inr e)
 
-    comes_by : (want st status : Status) → Agree r want st → (ReadFails r → ⊥) → Tells out err (Err st) status → Comes err want status
-    comes_by want st status (the_same e) f t = comes_as st want status e t
-    comes_by want st status (failed e) f t = absurd (f e)
-    comes_by want st status (no_memory e) f t = comes_memory want status (comes_as st NoMemory status e t)
+    comes_by : (want st status : Status) → Agree r want st → Tells out err (Err st) status → Comes err want status
+    comes_by want st status (the_same e) t = comes_as st want status e t
+    comes_by want st status (no_memory e) t = comes_memory want status (comes_as st NoMemory status e t)
 
     usage_only : (asked : Option Asked) → IsDue r asked (Err Usage) → asked ≡ None
     usage_only None d = refl
@@ -194,7 +188,7 @@ module _ (r : Reading) where
     ends_due : (a : Asked) (o : Option Why) (want st status : Status) → SurelyEndsBy r o (files_of a) want → MayEndBy r o (files_of a) st → Tells out err (Err st) status → Comes err want status
     ends_due a (Some why) want st status s (inl e) t = comes_as st want status (e ∙ sym s) t
     ends_due a (Some why) want st status s (inr e) t = comes_memory want status (comes_as st NoMemory status e t)
-    ends_due a None want st status s d t = comes_by want st status (agree_in (files_of a) want st s.1 d) s.0 t
+    ends_due a None want st status s d t = comes_by want st status (agree_in (files_of a) want st s d) t
 
     ends_comes : (a : Asked) (want : Status) (due : Due) (status : Status) → SurelyEnds r a want → IsDue r (Some a) due → Tells out err due status → Comes err want status
     ends_comes a want (Ok text) status s d t = absurd (text_ends a (words_refusal a) want text d.0 s d.1)
@@ -217,21 +211,8 @@ module _ (r : Reading) where
       due = λ a e name s. ends_comes a (NoFile name) due status s (subst (λ z. IsDue r z due) e d) t;
     }
 
-    fails_in : (fs : List Named) → StopsIn r fs ReadFault → ReadFails r
-    fails_in [] t = absurd t
-    fails_in (f ∷ fs) (inl t) = t
-    fails_in (f ∷ fs) (inr t) = fails_in fs t.1
-
-    fails_by : (o : Option Why) (fs : List Named) → MayEndBy r o fs ReadFault → (o ≡ None) × ReadFails r
-    fails_by (Some why) fs (inl e) = absurd (let bad : ReadFault ≡ Refused why = e in cc)
-    fails_by (Some why) fs (inr e) = absurd (let bad : ReadFault ≡ NoMemory = e in cc)
-    fails_by None fs t = (refl, fails_in fs t)
-
     pub read_fault_where : (asked : Option Asked) (due : Due) (status : Status) → IsDue r asked due → Tells out err due status → ReadFaultWhere r asked status
-    read_fault_where asked due status d t e =
-        let h = ended asked ReadFault (λ h. cc) (λ h. cc) (due_as asked due status ReadFault d t e (λ h. cc) (λ h. cc)) in
-        let k = fails_by (words_refusal h.0) (files_of h.0) h.2 in
-        (h.0, h.1, k.0, k.1)
+    read_fault_where asked due status d t e = ended asked ReadFault (λ h. cc) (λ h. cc) (due_as asked due status ReadFault d t e (λ h. cc) (λ h. cc))
 
     pub write_fault_where : (asked : Option Asked) (due : Due) (status : Status) → IsDue r asked due → Tells out err due status → WriteFaultWhere r out err asked status
     write_fault_where asked (Ok text) status d (inl w) e = let h : WriteFault ≡ Done = sym e ∙ w.0 in absurd cc
@@ -247,17 +228,14 @@ module _ (r : Reading) where
     done_where asked (Err st) status d (inl w) e = absurd (never_done asked (subst (λ z. IsDue r asked (Err z)) (sym w.0 ∙ e) d))
     done_where asked due status d (inr f) e = let h : Done ≡ WriteFault = sym e ∙ f.0 in absurd cc
 
-    complete_by : (o : Option Why) (fs : List Named) (st : Status) → o ≡ None → AllPass r fs → MayEndBy r o fs st → ReadFails r ⊎ (st ≡ NoMemory)
+    complete_by : (o : Option Why) (fs : List Named) (st : Status) → o ≡ None → AllPass r fs → MayEndBy r o fs st → st ≡ NoMemory
     complete_by (Some why) fs st e p d = absurd (let bad : Some why ≡ None = e in cc)
     complete_by None fs st e p d = pass_in fs st p d
 
-    complete_due : (a : Asked) (due : Due) (status : Status) → IsAnswerable r a → (ReadFails r → ⊥) → (WriteFails out → ⊥) → IsDue r (Some a) due → Tells out err due status → Completes err status
-    complete_due a (Ok text) status k f g d (inl w) = inl w.0
-    complete_due a (Ok text) status k f g d (inr w) = absurd (g w.1.0)
-    complete_due a (Err st) status k f g d t = elim (complete_by (words_refusal a) (files_of a) st k.0 k.1 d) [
-      | inl e ↦ absurd (f e)
-      | inr e ↦ inr (comes_as st NoMemory status e t)
-    ]
+    complete_due : (a : Asked) (due : Due) (status : Status) → IsAnswerable r a → (WriteFails out → ⊥) → IsDue r (Some a) due → Tells out err due status → Completes err status
+    complete_due a (Ok text) status k g d (inl w) = inl w.0
+    complete_due a (Ok text) status k g d (inr w) = absurd (g w.1.0)
+    complete_due a (Err st) status k g d t = inr (comes_as st NoMemory status (complete_by (words_refusal a) (files_of a) st k.0 k.1 d) t)
 
     pub complete_where : (asked : Option Asked) (due : Due) (status : Status) → IsDue r asked due → Tells out err due status → IsComplete r out err asked status
-    complete_where asked due status d t a e k f g = complete_due a due status k f g (subst (λ z. IsDue r z due) e d) t
+    complete_where asked due status d t a e k g = complete_due a due status k g (subst (λ z. IsDue r z due) e d) t

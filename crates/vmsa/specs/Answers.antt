@@ -98,7 +98,7 @@ IsSurelyRefusedBy (Bytes bytes) form why = refusal_in form bytes ≡ Some why
 abbrev pub Stops : Reading → Named → Status → Type 0
 Stops r f (NoFile name) = (name ≡ f.name) × IsMissing r f.name
 Stops r f (Refused why) = IsRefusedBy (r.holds f.name) f.form why
-Stops r f ReadFault = ReadFails r
+Stops r f ReadFault = ReadFails r f.name
 Stops r f NoMemory = Unit {0}
 Stops r f _ = ⊥
 
@@ -113,15 +113,20 @@ abbrev pub StopsIn : Reading → List Named → Status → Type 0
 StopsIn r [] status = ⊥
 StopsIn r (f ∷ fs) status = Stops r f status ⊎ (PassesBy (r.holds f.name) f.form × StopsIn r fs status)
 
--- the files tell that one of them stops the command so
+-- no read of this file failed
+abbrev pub IsRead : Reading → Named → Type 0
+IsRead r f = ReadFails r f.name → ⊥
+
+-- the files tell that one of them stops the command so, and no read of it or of one before it failed
 abbrev pub SurelyStopsIn : Reading → List Named → Status → Type 0
 SurelyStopsIn r [] status = ⊥
-SurelyStopsIn r (f ∷ fs) status = SurelyStops r f status ⊎ (SurelyPassesBy (r.holds f.name) f.form × SurelyStopsIn r fs status)
+SurelyStopsIn r (f ∷ fs) status =
+    IsRead r f × (SurelyStops r f status ⊎ (SurelyPassesBy (r.holds f.name) f.form × SurelyStopsIn r fs status))
 
--- the files tell that all of them pass
+-- the files tell that all of them pass, and no read of one failed
 abbrev pub AllPass : Reading → List Named → Type 0
 AllPass r [] = Unit {0}
-AllPass r (f ∷ fs) = SurelyPassesBy (r.holds f.name) f.form × AllPass r fs
+AllPass r (f ∷ fs) = IsRead r f × SurelyPassesBy (r.holds f.name) f.form × AllPass r fs
 
 -- What is due, before anything is written: a text, or a refusal.
 
@@ -137,10 +142,10 @@ MayEndBy r None files status = StopsIn r files status
 abbrev pub MayEnd : Reading → Asked → Status → Type 0
 MayEnd r a status = MayEndBy r (words_refusal a) (files_of a) status
 
--- the files tell that it ends so, where no read fails
+-- the files tell that it ends so, and no read of the file that ends it or of one before it failed
 abbrev pub SurelyEndsBy : Reading → Option Why → List Named → Status → Type 0
 SurelyEndsBy r (Some why) files status = status ≡ Refused why
-SurelyEndsBy r None files status = (ReadFails r → ⊥) × SurelyStopsIn r files status
+SurelyEndsBy r None files status = SurelyStopsIn r files status
 
 abbrev pub SurelyEnds : Reading → Asked → Status → Type 0
 SurelyEnds r a status = SurelyEndsBy r (words_refusal a) (files_of a) status
@@ -149,7 +154,7 @@ SurelyEnds r a status = SurelyEndsBy r (words_refusal a) (files_of a) status
 abbrev pub IsText : Reading → Asked → (text : List ℕ) → Type 0
 IsText r a text = (words_refusal a ≡ None) × IsTextOf r.holds a text
 
--- the words are accepted, and the files tell that all of them pass
+-- the words are accepted, the files tell that all of them pass, and no read of one failed
 abbrev pub IsAnswerable : Reading → Asked → Type 0
 IsAnswerable r a = (words_refusal a ≡ None) × AllPass r (files_of a)
 
@@ -187,20 +192,21 @@ pub record UsageWhere (err : Writing) (asked : Option Asked) (status : Status) :
   pub only : status ≡ Usage → asked ≡ None
   pub due : asked ≡ None → Comes err Usage status
 
--- Refused comes only for words or a file that are refused, with the reason; where that is told, and no read failed, it comes
+-- Refused comes only for words or a file that are refused, with the reason; where that is told, and no read of this file or
+-- of one before it failed, it comes
 pub record RefusedWhere (r : Reading) (err : Writing) (asked : Option Asked) (status : Status) : Type 0 where
   pub only : (why : Why) → status ≡ Refused why → (a : Asked) × (asked ≡ Some a) × MayEnd r a (Refused why)
   pub due : (a : Asked) → asked ≡ Some a → (why : Why) → SurelyEnds r a (Refused why) → Comes err (Refused why) status
 
--- NoFile comes only for a command that lacks a file, and names it; where the files tell that, and no read failed, it comes
+-- NoFile comes only for a command that lacks a file, and names it; where the files tell that, and no read of it or of one
+-- before it failed, it comes
 pub record NoFileWhere (r : Reading) (err : Writing) (asked : Option Asked) (status : Status) : Type 0 where
   pub only : (name : List ℕ) → status ≡ NoFile name → (a : Asked) × (asked ≡ Some a) × MayEnd r a (NoFile name)
   pub due : (a : Asked) → asked ≡ Some a → (name : List ℕ) → SurelyEnds r a (NoFile name) → Comes err (NoFile name) status
 
--- ReadFault comes only for a command whose words are accepted, where a read of a file failed
+-- ReadFault comes only for a command whose words are accepted, where a read of a file failed and all files before it pass
 abbrev pub ReadFaultWhere : Reading → Option Asked → Status → Type 0
-ReadFaultWhere r asked status =
-    status ≡ ReadFault → (a : Asked) × (asked ≡ Some a) × (words_refusal a ≡ None) × ReadFails r
+ReadFaultWhere r asked status = status ≡ ReadFault → (a : Asked) × (asked ≡ Some a) × MayEnd r a ReadFault
 
 -- WriteFault comes only where a write of what is due failed, and a prefix of it was written
 abbrev pub WriteFaultWhere : Reading → (out err : Writing) → Option Asked → Status → Type 0
@@ -217,13 +223,13 @@ IsQuiet out err Done = Unit {0}
 IsQuiet out err WriteFault = Unit {0}
 IsQuiet out err status = Got err (err_text status) × GotNothing out
 
--- an accepted command whose files pass is Done, where no read and no write of its text failed, but for want of memory
+-- an accepted command whose files pass is Done, where no read of them and no write of its text failed, but for want of memory
 abbrev pub Completes : (err : Writing) → Status → Type 0
 Completes err status = (status ≡ Done) ⊎ Comes err NoMemory status
 
 abbrev pub IsComplete : Reading → (out err : Writing) → Option Asked → Status → Type 0
 IsComplete r out err asked status =
-    (a : Asked) → asked ≡ Some a → IsAnswerable r a → (ReadFails r → ⊥) → (WriteFails out → ⊥) → Completes err status
+    (a : Asked) → asked ≡ Some a → IsAnswerable r a → (WriteFails out → ⊥) → Completes err status
 
 -- all of them together
 pub record IsAnswer (r : Reading) (out err : Writing) (asked : Option Asked) (status : Status) : Type 0 where

@@ -19,14 +19,16 @@ dump_memory Untold segments = None
 dump_memory Absent segments = None
 dump_memory (Bytes bytes) segments = Some (dump_word bytes segments)
 
--- what words that are read keep, where m and n count the failed reads before and after: the files hold the same, their
--- counts do not fall, and their faults rose where a read failed
-pub record Keeps {F : Type 0} (holds : F → List ℕ → Holding) (faults missing : F → ℕ) (s t : F) (m n : ℕ) : Type 0 where
+-- what words that are read of one file keep, where m and n count the failed reads before and after: the files hold the
+-- same, the file's counts do not fall, and its faults rose where a read failed
+pub record Keeps {F : Type 0} (holds : F → List ℕ → Holding) (faults missing : F → List ℕ → ℕ) (name : List ℕ) (s t : F) (m n : ℕ) : Type 0 where
   pub held : holds t ≡ holds s
-  pub later : faults s ≤ faults t
-  pub ended : missing s ≤ missing t
-  pub failed : m < n → Rose (faults s) (faults t)
+  pub later : faults s name ≤ faults t name
+  pub ended : missing s name ≤ missing t name
+  pub failed : m < n → Rose (faults s name) (faults t name)
 
--- the same of files that are borrowed under a name, which stays
-abbrev pub KeepsLoan : {F N : Type 0} (holds : F → List ℕ → Holding) (faults missing : F → ℕ) (x y : N) (s t : F) (m n : ℕ) → Type 0
-KeepsLoan holds faults missing x y s t m n = (y ≡ x) × Keeps holds faults missing s t m n
+-- the same of a file and files that are borrowed under a name, both of which stay
+pub record KeepsLoan {F N : Type 0} (holds : F → List ℕ → Holding) (faults missing : F → List ℕ → ℕ) (x y : N) (before after : List ℕ) (s t : F) (m n : ℕ) : Type 0 where
+  pub loan : y ≡ x
+  pub name : after ≡ before
+  pub keeps : Keeps holds faults missing before s t m n

@@ -77,10 +77,3 @@ pub fn vmsa<F: Files, O: Sink, E: Sink>(
 {
     tell(alloc, out, err, due(alloc, words, files))
 }
-
-#[cfg(test)]
-mod explain_tests;
-#[cfg(test)]
-mod raw_tests;
-#[cfg(test)]
-mod run_tests;

@@ -24,12 +24,12 @@ impl<'a, F: Files> Supply for DumpWords<'a, F> {
     ghost faults = { λ s. s.failures };
 
     ghost keeps = { λ s t. KeepsLoan F.holds F.faults F.missing s.files.ghost_name t.files.ghost_name
-        s.files.now t.files.now s.failures t.failures };
+        s.dump.now.name t.dump.now.name s.files.now t.files.now s.failures t.failures };
 
-    ghost keeps_here = { λ s. here F.holds F.faults F.missing s.files.ghost_name s.files.now s.failures };
+    ghost keeps_here = { λ s. here F.holds F.faults F.missing s.files.ghost_name s.dump.now.name s.files.now s.failures };
 
     ghost keeps_then = { λ s t u. then F.holds F.faults F.missing s.files.ghost_name t.files.ghost_name u.files.ghost_name
-        s.files.now t.files.now u.files.now s.failures t.failures u.failures };
+        s.dump.now.name t.dump.now.name u.dump.now.name s.files.now t.files.now u.files.now s.failures t.failures u.failures };
 
     fn word(&mut self, pa: u64) -> Option<u64> {
         match self.dump.word(self.files, pa) {

@@ -4,6 +4,7 @@ ghost use Rattle.bitwords.specs.Causes.{Rose};
 ghost use Rattle.sysregs.specs.Refused.{AreAccepted};
 ghost use Rattle.walk_spec.specs.Walked.{HasLine, IsFresh, WalkedWhole};
 ghost use Rattle.dump_file.specs.Held.{Bytes, reading_of};
+ghost use Rattle.dump_file.specs.Counted.{OthersStay};
 ghost use Rattle.dump_file.specs.Kept.{StandsFor};
 ghost use Rattle.dump_file.specs.Dumps.{IsOpened};
 ghost use Rattle.dump_file.specs.Opening.{IsOfSize};
@@ -39,8 +40,9 @@ fn registers_in<F: Files>(
     ensures registers { IfOk result (AreRegisters (F.holds files.old name.now)) }
     ensures accepted { IfOk result AreAccepted }
     ensures error { IfErr result (Stops (reading_of F.holds F.faults F.missing files.old files.new) record { form = Form.AsRegisters; name = name.now }) }
-    ensures missing { F.missing files.old ≤ F.missing files.new }
-    ensures later { F.faults files.old ≤ F.faults files.new }
+    ensures missing { F.missing files.old name.now ≤ F.missing files.new name.now }
+    ensures later { F.faults files.old name.now ≤ F.faults files.new name.now }
+    ensures others { OthersStay name.now (F.faults files.old) (F.faults files.new) (F.missing files.old) (F.missing files.new) }
 {
     if size > MOST_BYTES as u64 {
         return Err(Status::from(RegRefusal::TooLarge { size }));
@@ -57,13 +59,15 @@ fn registers_in<F: Files>(
 }
 
 /// The registers of a register file.
+#[tactic(auto, using(dump_file::proofs::Counting::others_then))]
 fn registers<F: Files>(alloc: Global, name: &str, files: &mut F) -> Result<Regs, Status>
     ensures same { F.holds files.new ≡ F.holds files.old }
     ensures registers { IfOk result (AreRegisters (F.holds files.old name.now)) }
     ensures accepted { IfOk result AreAccepted }
     ensures error { IfErr result (Stops (reading_of F.holds F.faults F.missing files.old files.new) record { form = Form.AsRegisters; name = name.now }) }
-    ensures missing { F.missing files.old ≤ F.missing files.new }
-    ensures later { F.faults files.old ≤ F.faults files.new }
+    ensures missing { F.missing files.old name.now ≤ F.missing files.new name.now }
+    ensures later { F.faults files.old name.now ≤ F.faults files.new name.now }
+    ensures others { OthersStay name.now (F.faults files.old) (F.faults files.new) (F.missing files.old) (F.missing files.new) }
 {
     match files.size(name) {
         Err(_) => Err(Status::ReadFault),
@@ -77,8 +81,8 @@ fn dump<F: Files>(alloc: Global, name: &str, files: &mut F) -> Result<Dump, Stat
     ensures same { F.holds files.new ≡ F.holds files.old }
     ensures dump { IfOk result (λ d. (d.name ≡ name.now) × IsOpened (F.holds files.old name.now) d) }
     ensures error { IfErr result (Stops (reading_of F.holds F.faults F.missing files.old files.new) record { form = Form.AsDump; name = name.now }) }
-    ensures missing { F.missing files.old ≤ F.missing files.new }
-    ensures later { F.faults files.old ≤ F.faults files.new }
+    ensures missing { F.missing files.old name.now ≤ F.missing files.new name.now }
+    ensures later { F.faults files.old name.now ≤ F.faults files.new name.now }
 {
     match Dump::of(alloc, files, name) {
         Ok(dump) => Ok(dump),
@@ -93,10 +97,10 @@ fn dump<F: Files>(alloc: Global, name: &str, files: &mut F) -> Result<Dump, Stat
 fn walk<F: Files>(regs: &Regs, access: &Access, words: &mut DumpWords<F>) -> (Outcome, Trail)
     requires { AreAccepted regs.now }
     ensures same_reference { words.new.files.ghost_name ≡ words.old.files.ghost_name }
-    ensures later { F.faults words.old.files.now ≤ F.faults words.new.files.now }
-    ensures failed { words.old.failures < words.new.failures → Rose (F.faults words.old.files.now) (F.faults words.new.files.now) }
+    ensures later { F.faults words.old.files.now words.old.dump.now.name ≤ F.faults words.new.files.now words.old.dump.now.name }
+    ensures failed { words.old.failures < words.new.failures → Rose (F.faults words.old.files.now words.old.dump.now.name) (F.faults words.new.files.now words.old.dump.now.name) }
     ensures counted { words.old.failures ≤ words.new.failures }
-    ensures missing { F.missing words.old.files.now ≤ F.missing words.new.files.now }
+    ensures missing { F.missing words.old.files.now words.old.dump.now.name ≤ F.missing words.new.files.now words.old.dump.now.name }
     ensures outcome { HasLine result.0 }
     ensures walked { WalkedWhole regs.now access.now 0
         (dump_memory (F.holds words.old.files.now words.old.dump.now.name) words.old.dump.now.segments)
@@ -117,11 +121,11 @@ fn answer_over<F: Files>(
 ) -> Result<Answer, Status>
     requires accepted { AreAccepted regs }
     requires opened { IsOpened (F.holds files.old dump.old.name) dump.old }
-    ensures later { F.faults files.old ≤ F.faults files.new }
-    ensures missing { F.missing files.old ≤ F.missing files.new }
+    ensures later { F.faults files.old dump.old.name ≤ F.faults files.new dump.old.name }
+    ensures missing { F.missing files.old dump.old.name ≤ F.missing files.new dump.old.name }
     ensures outcome { IfOk result IsPrintable }
     ensures text { IfOk result (λ a. IsTextOver (F.holds files.old dump.old.name) regs access (answer_text a)) }
-    ensures fault { IfErr result (λ s. (s ≡ Status.ReadFault) × Rose (F.faults files.old) (F.faults files.new)) }
+    ensures fault { IfErr result (λ s. (s ≡ Status.ReadFault) × Rose (F.faults files.old dump.old.name) (F.faults files.new dump.old.name)) }
 {
     let mut words = DumpWords {
         dump,

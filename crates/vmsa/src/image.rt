@@ -11,9 +11,9 @@ fn word_at<F: Files>(files: &mut F, name: &str, pa: u64) -> Result<Option<u64>, 
     requires { pa % 8 ≡ 0 }
     ensures same { F.holds files.new ≡ F.holds files.old }
     ensures word { IfOk result (IsImageWord (F.holds files.old name.now) pa) }
-    ensures missed { IfOk result (IsMissed (F.holds files.old name.now) (F.missing files.old) (F.missing files.new)) }
-    ensures missing { F.missing files.old ≤ F.missing files.new }
-    ensures cause { HasCause (F.faults files.old) (F.faults files.new) result }
+    ensures missed { IfOk result (IsMissed (F.holds files.old name.now) (F.missing files.old name.now) (F.missing files.new name.now)) }
+    ensures missing { F.missing files.old name.now ≤ F.missing files.new name.now }
+    ensures cause { HasCause (F.faults files.old name.now) (F.faults files.new name.now) result }
 {
     let mut bytes = [0u8; 8];
     let count = fill_from(files, name, pa, &mut bytes)?;
@@ -40,12 +40,12 @@ impl<'a, F: Files> Supply for Image<'a, F> {
     ghost faults = { λ s. s.failures };
 
     ghost keeps = { λ s t. KeepsLoan F.holds F.faults F.missing s.files.ghost_name t.files.ghost_name
-        s.files.now t.files.now s.failures t.failures };
+        s.name.now t.name.now s.files.now t.files.now s.failures t.failures };
 
-    ghost keeps_here = { λ s. here F.holds F.faults F.missing s.files.ghost_name s.files.now s.failures };
+    ghost keeps_here = { λ s. here F.holds F.faults F.missing s.files.ghost_name s.name.now s.files.now s.failures };
 
     ghost keeps_then = { λ s t u. then F.holds F.faults F.missing s.files.ghost_name t.files.ghost_name u.files.ghost_name
-        s.files.now t.files.now u.files.now s.failures t.failures u.failures };
+        s.name.now t.name.now u.name.now s.files.now t.files.now u.files.now s.failures t.failures u.failures };
 
     fn word(&mut self, pa: u64) -> Option<u64> {
         match word_at(self.files, self.name, pa) {

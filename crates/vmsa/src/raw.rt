@@ -50,8 +50,8 @@ fn access(va: u64) -> Access
 fn walk<F: Files>(asked: &RawArgs, image: &mut Image<F>) -> (Outcome, Trail)
     requires { words_refusal (Asked.Raw (raw_words_of asked.now)) ≡ None }
     ensures same_reference { image.new.files.ghost_name ≡ image.old.files.ghost_name }
-    ensures later { F.faults image.old.files.now ≤ F.faults image.new.files.now }
-    ensures failed { image.old.failures < image.new.failures → Rose (F.faults image.old.files.now) (F.faults image.new.files.now) }
+    ensures later { F.faults image.old.files.now image.old.name.now ≤ F.faults image.new.files.now image.old.name.now }
+    ensures failed { image.old.failures < image.new.failures → Rose (F.faults image.old.files.now image.old.name.now) (F.faults image.new.files.now image.old.name.now) }
     ensures counted { image.old.failures ≤ image.new.failures }
     ensures outcome { HasLine result.0 }
     ensures walked { WalkedWhole (raw_regs asked.now.tcr asked.now.ttbr0) (raw_access asked.now.va) 0
@@ -67,10 +67,10 @@ fn walk<F: Files>(asked: &RawArgs, image: &mut Image<F>) -> (Outcome, Trail)
 /// The answer over a file that is there.
 fn answer_over<F: Files>(asked: &RawArgs, files: &mut F) -> Result<Answer, Status>
     requires { words_refusal (Asked.Raw (raw_words_of asked.now)) ≡ None }
-    ensures later { F.faults files.old ≤ F.faults files.new }
+    ensures later { F.faults files.old asked.now.image.now ≤ F.faults files.new asked.now.image.now }
     ensures outcome { IfOk result IsPrintable }
     ensures text { IfOk result (λ a. IsRawTextThere (F.holds files.old asked.now.image.now) (raw_words_of asked.now) (answer_text a)) }
-    ensures fault { IfErr result (λ s. (s ≡ Status.ReadFault) × Rose (F.faults files.old) (F.faults files.new)) }
+    ensures fault { IfErr result (λ s. (s ≡ Status.ReadFault) × Rose (F.faults files.old asked.now.image.now) (F.faults files.new asked.now.image.now)) }
 {
     let mut image = Image {
         name: asked.image,

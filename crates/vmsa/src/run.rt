@@ -44,8 +44,8 @@ fn trace_in<F: Files>(alloc: Global, name: &str, size: u64, files: &mut F) -> Re
     ensures trace { IfOk result (IsTraceOf (F.holds files.old name.now)) }
     ensures built { IfOk result (λ t. IsBuilt t.header) }
     ensures error { IfErr result (Stops (reading_of F.holds F.faults F.missing files.old files.new) record { form = Form.AsTrace; name = name.now }) }
-    ensures missing { F.missing files.old ≤ F.missing files.new }
-    ensures later { F.faults files.old ≤ F.faults files.new }
+    ensures missing { F.missing files.old name.now ≤ F.missing files.new name.now }
+    ensures later { F.faults files.old name.now ≤ F.faults files.new name.now }
 {
     if size > MOST_BYTES as u64 {
         return Err(Status::from(TraceRefusal::TooLarge { size }));
@@ -69,8 +69,8 @@ fn trace<F: Files>(alloc: Global, name: &str, files: &mut F) -> Result<Trace, St
     ensures trace { IfOk result (IsTraceOf (F.holds files.old name.now)) }
     ensures built { IfOk result (λ t. IsBuilt t.header) }
     ensures error { IfErr result (Stops (reading_of F.holds F.faults F.missing files.old files.new) record { form = Form.AsTrace; name = name.now }) }
-    ensures missing { F.missing files.old ≤ F.missing files.new }
-    ensures later { F.faults files.old ≤ F.faults files.new }
+    ensures missing { F.missing files.old name.now ≤ F.missing files.new name.now }
+    ensures later { F.faults files.old name.now ≤ F.faults files.new name.now }
 {
     match files.size(name) {
         Err(_) => Err(Status::ReadFault),
