@@ -14,5 +14,5 @@ pub use counts::Counts;
 pub use dump::{Dump, Segment};
 pub use files::{FailingFiles, Files, MemoryFile, MemoryFiles, ReadFailed};
 pub use fill::fill_from;
-pub use real::RealFiles;
+pub use real::{RealFiles, read_file};
 pub use refusal::{DumpError, DumpField, DumpRefusal};

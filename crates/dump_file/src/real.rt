@@ -19,7 +19,7 @@ const TRIES: u32 = u32::MAX;
 
 /// One read from a place on. One that was interrupted goes on. A place above what the system can name lies behind every
 /// file's end.
-fn read_file<T: FileExt>(file: &T, at: u64, into: &mut [u8]) -> io::Result<usize>
+pub fn read_file<T: FileExt>(file: &T, at: u64, into: &mut [u8]) -> io::Result<usize>
     ensures { IfOk result (λ n. n ≤ length into.new) }
 {
     if i64::try_from(at).is_err() {

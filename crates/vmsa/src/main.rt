@@ -10,26 +10,16 @@ ghost use Rattle.std.specs.declared.io.ErrorKind.TheVariants.{InvalidData};
 ghost use Rattle.dump_file.specs.Held.{reading_of};
 ghost use Rattle.explain_text.specs.Written.{writing_of, GotNothing};
 ghost use Rattle.commands.specs.Command.{command_of};
-ghost use Rattle.vmsa.specs.Answers.{IsAnswer};
-ghost use Rattle.vmsa.specs.Status.{number_of_status, Exits};
+ghost use Rattle.top_call.specs.Clauses.{IsAnswer};
+ghost use Rattle.statuses.specs.Status.{number_of_status, Exits};
 
-mod answer;
-mod call;
-mod dump_words;
-mod explain;
-mod image;
-mod raw;
-mod refusals;
-mod run;
-mod status;
-
-use crate::call::vmsa;
-use crate::status::Status;
 use dump_file::{Files, RealFiles};
 use explain_text::{Adapter, Sink};
+use statuses::Status;
 use std::alloc::Global;
 use std::process::ExitCode;
 use std::{env, io};
+use top_call::vmsa;
 
 /// The words after the first, which is the program's name.
 fn after_name(alloc: Global, all: env::Args) -> io::Result<Vec<String>>
