@@ -142,15 +142,15 @@ elif setpriv --reuid 65534 --regid 65534 --clear-groups true 2>/dev/null; then
     setpriv --reuid 65534 --regid 65534 --clear-groups ./vmsa raw denied 0x10 0x1000 0x40201abc >out 2>err
     compare 'permission denied' $? 5 '' "$read_fault"
 else
-    runs 'permission denied (as root nothing is denied)' 0 "$mapped" '' raw denied 0x10 0x1000 0x40201abc
-    echo 'edges: root may read every file, so a denied one was not tried'
+    told 'permission denied: root may read every file, and there is no setpriv to be another user' no
 fi
 
-# Devices and pipes as files.
-mkfifo fifo
-exec 3<>fifo
-runs 'a pipe with a writer' 5 '' "$read_fault" raw fifo 0x10 0x0 0x0
-exec 3>&-
+# Devices and pipes as files. A pipe is read to its end, up to 16 MiB.
+runs 'a pipe as an image' 0 "$mapped" '' raw <(cat image) 0x10 0x1000 0x40201abc
+nothing_there 'an empty pipe' <(:) 0x10 0x0 0x0 '0 at 0x0' '0 at 0x0'
+nothing_there 'a pipe that closes early' <(head -c 4100 image) 0x10 0x1000 0x0 '0 at 0x1000' '0 at 0x1000'
+runs 'a pipe of 16 MiB' 0 "$zero" '' raw <(head -c 16777216 /dev/zero) 0x10 0x0 0x0
+runs 'a pipe of a byte more' 5 '' "$read_fault" raw <(head -c 16777217 /dev/zero) 0x10 0x0 0x0
 runs 'a device without end' 0 "$zero" '' raw /dev/zero 0x10 0x0 0x0
 nothing_there 'a device without bytes' /dev/null 0x10 0x0 0x0 '0 at 0x0' '0 at 0x0'
 
@@ -275,7 +275,18 @@ else
     told 'a sparse file of 16 TB (this file system has none)' yes
 fi
 registers 0x1000 >regs
-runs 'a pipe as a dump, which tells no size' 4 '' $'vmsa: dump: not elf\n' explain regs <(cat core) 0 el1 read
+runs 'a pipe as a dump' 0 "$over_tables" '' explain regs <(cat core) 0x40201abc el1 read
+runs 'a dump in a pipe that closes early' 4 '' $'vmsa: dump: bad table\n' explain regs <(head -c 100 core) 0 el1 read
+runs 'an empty pipe as a dump' 4 '' $'vmsa: dump: not elf\n' explain regs <(:) 0 el1 read
+runs 'more than 16 MiB in a pipe as a dump' 5 '' "$read_fault" explain regs <(cat core; head -c 16777216 /dev/zero) 0x40201abc el1 read
+if truncate -s 5G far 2>/dev/null; then
+    { head_of 64 56 1; segment 0 0x100000000 0x5000; } | dd of=far conv=notrunc status=none
+    dd if="$image" of=far bs=4096 seek=$((0x100000)) conv=notrunc status=none
+    explains 'a segment at the place 2^32 of a sparse dump' 0 "$over_tables" '' far 0x1000 0x40201abc
+    rm -f far
+else
+    told 'a sparse dump of 5 GB' no
+fi
 short=/sys/kernel/mm/transparent_hugepage/enabled
 if [ -r $short ] && [ "$(stat -c %s $short)" -gt 64 ]; then
     refused 'a file that has fewer bytes than it tells' $short 'not elf'
@@ -286,7 +297,11 @@ fi
 # Register files.
 runs 'registers that are missing' 3 '' $'vmsa: no file none\n' explain none core 0 el1 read
 runs 'a folder as registers' 5 '' "$read_fault" explain folder core 0 el1 read
-runs 'a pipe as registers' 5 '' "$read_fault" explain <(registers 0) core 0 el1 read
+runs 'a pipe as registers' 0 "$over_tables" '' explain <(registers 0x1000) core 0x40201abc el1 read
+runs 'pipes as registers and as a dump' 0 "$over_tables" '' explain <(registers 0x1000) <(cat core) 0x40201abc el1 read
+runs 'an empty pipe as registers' 4 '' $'vmsa: registers: missing sctlr_el1\n' explain <(:) core 0 el1 read
+runs 'registers in a pipe that closes early' 4 '' $'vmsa: registers: missing ttbr1_el1\n' explain <(registers 0 | head -n 3) core 0 el1 read
+runs 'a pipe without end as registers' 4 '' $'vmsa: registers: too large\n' explain <(cat /dev/zero) core 0 el1 read
 told_regs() { # NAME WHY: the file regs is refused
     runs "$1" 4 '' "vmsa: registers: $2"$'\n' explain regs core 0 el1 read
 }
@@ -325,13 +340,26 @@ sed 's/$/\r/' trace >lines
 runs 'a trace with carriage returns' 0 "$(moment 8)"$'\n'"$(summary 1 1 0)"$'\n' '' run lines
 runs 'a trace that is missing' 3 '' $'vmsa: no file none\n' run none
 runs 'a folder as a trace' 5 '' "$read_fault" run folder
-runs 'a pipe as a trace' 5 '' "$read_fault" run <(cat trace)
+whole_trace="$(moment 8)"$'\n'"$(summary 1 1 0)"$'\n'
+runs 'a pipe as a trace' 0 "$whole_trace" '' run <(cat trace)
+runs 'a trace in a pipe that is written slowly' 0 "$whole_trace" '' run <(head -n 5 trace; sleep 0.2; tail -n +6 trace)
+runs 'a trace on standard input, from a pipe' 0 "$whole_trace" '' run /dev/stdin < <(cat trace)
+runs 'a trace on standard input, from a file' 0 "$whole_trace" '' run /dev/stdin <trace
+mkfifo fifo
+cat trace >fifo &
+runs 'a FIFO as a trace' 0 "$whole_trace" '' run fifo
+wait $!
+runs 'an empty pipe as a trace' 4 '' $'vmsa: trace: no header\n' run <(:)
+runs 'a trace in a pipe that closes early' 4 '' $'vmsa: trace: no end\n' run <(head -n 5 trace)
+runs 'a pipe without end as a trace' 4 '' $'vmsa: trace: too large\n' run <(cat /dev/zero)
 runs 'a device without bytes as a trace' 4 '' $'vmsa: trace: no header\n' run /dev/null
 runs 'a device without end as a trace' 4 '' $'vmsa: trace: too large\n' run /dev/zero
 [ -e large ] && runs 'a trace of 2^40 bytes' 4 '' $'vmsa: trace: too large\n' run large
 { printf '%send\n' "$header"; yes "$(printf '%0199d' 0 | tr 0 '#')" | head -c 16777216; } | head -c 16777216 >trace
 runs 'a trace of 16 MiB' 0 "$none" '' run trace
+runs 'a trace of 16 MiB in a pipe' 0 "$none" '' run <(cat trace)
 printf '#' >>trace && told_trace 'a byte more' 'too large'
+runs 'a byte more in a pipe' 4 '' $'vmsa: trace: too large\n' run <(cat trace)
 printf '%send' "$header" >trace
 runs 'a last line without its end' 0 "$none" '' run trace
 printf '%s\0\nend\n' "$header" >trace && told_trace 'a byte 0' 'line 5: not text'

@@ -1,5 +1,5 @@
 -- One more read of a loop that fills a slice.
-use Rattle.std.proofs.Common.{◌≡◌, ℕ, ◌+◌, ◌≤◌, List, ◌++◌, length, take, drop, sym, ◌∙◌, ap, subst, refl, suc, arith}
+use Rattle.std.proofs.Common.{◌≡◌, ℕ, ◌+◌, ◌-◌, ◌<◌, ◌≤◌, List, ◌++◌, length, take, drop, sym, ◌∙◌, ap, subst, refl, suc, min, arith, take_all}
 use Rattle.std.proofs.Math.Seq.{take-add, drop-drop}
 use Rattle.std.proofs.lemmas.List.{take-append-le, drop_at, length-take-le}
 use Rattle.std.proofs.lemmas.Slice.{take-put_mid_below}
@@ -54,3 +54,8 @@ module _ {F : Type 0} (read : F → ℕ → List ℕ → F → Type 0) (at done 
   turns_end h e t r =
       let same : done + got ≡ done = omega arith in
       subst (λ (n : ℕ). InTurns read at before (take n (put_mid done k into rest)) after) same (turns_more h (omega arith) t r)
+
+-- all of it came
+pub whole : (bytes new : List ℕ) (count : ℕ) → length bytes < length new → count ≡ min (length new) (length bytes - 0)
+    → take count new ≡ take count bytes → take count new ≡ bytes
+whole bytes new count l c t = t ∙ take_all count bytes (let e = c in omega arith)

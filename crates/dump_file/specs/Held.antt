@@ -36,16 +36,16 @@ pub record InTurns {F : Type 0} (read : F → ℕ → List ℕ → F → Type 0)
   pub turns : ℕ
   pub came : CameBy read at turns before bytes after
 
--- the files over a call: what they hold, and their counts before and after it
+-- the files over a call: what they hold, and their counts by name before and after it
 pub record Reading : Type 0 where
   pub holds : List ℕ → Holding
-  pub faults : ℕ
-  pub faults_after : ℕ
-  pub missing : ℕ
-  pub missing_after : ℕ
+  pub faults : List ℕ → ℕ
+  pub faults_after : List ℕ → ℕ
+  pub missing : List ℕ → ℕ
+  pub missing_after : List ℕ → ℕ
 
 -- the same by what files say of themselves
-abbrev pub reading_of : {F : Type 0} (holds : F → List ℕ → Holding) (faults missing : F → ℕ) (before after : F) → Reading
+abbrev pub reading_of : {F : Type 0} (holds : F → List ℕ → Holding) (faults missing : F → List ℕ → ℕ) (before after : F) → Reading
 reading_of holds faults missing before after = record {
   holds = holds before;
   faults = faults before;
@@ -54,9 +54,9 @@ reading_of holds faults missing before after = record {
   missing_after = missing after;
 }
 
--- a read failed in the call
-abbrev pub ReadFails : Reading → Type 0
-ReadFails r = Rose r.faults r.faults_after
+-- a read of this name failed in the call
+abbrev pub ReadFails : Reading → (name : List ℕ) → Type 0
+ReadFails r name = Rose (r.faults name) (r.faults_after name)
 
 -- there is no file, or, where that is not told, one was found missing
 abbrev pub IsMissingBy : (held : Holding) (before now : ℕ) → Type 0
@@ -66,4 +66,4 @@ IsMissingBy (Bytes bytes) before now = ⊥
 
 -- the same of a name, in a call
 abbrev pub IsMissing : Reading → (name : List ℕ) → Type 0
-IsMissing r name = IsMissingBy (r.holds name) r.missing r.missing_after
+IsMissing r name = IsMissingBy (r.holds name) (r.missing name) (r.missing_after name)

@@ -1,5 +1,7 @@
 pub use Rattle.bitwords.specs.Causes
 pub mod Held
+pub mod Counted
+pub mod Counts
 pub mod FilesInMemory
 pub mod Filled
 pub mod DumpOf

@@ -88,9 +88,9 @@ fn read_head<F: Files>(files: &mut F, name: &str, size: u64) -> Result<TableAt, 
     ensures same { F.holds files.new ≡ F.holds files.old }
     ensures table { IfOk result (IsTable (F.holds files.old name.now)) }
     ensures within { IfOk result (λ t. t.place + 56 * t.count ≤ size) }
-    ensures error { IfErr result (IsFault (F.holds files.old name.now) (F.faults files.old) (F.faults files.new)) }
-    ensures missing { F.missing files.old ≤ F.missing files.new }
-    ensures faults { F.faults files.old ≤ F.faults files.new }
+    ensures error { IfErr result (IsFault (F.holds files.old name.now) (F.faults files.old name.now) (F.faults files.new name.now)) }
+    ensures missing { F.missing files.old name.now ≤ F.missing files.new name.now }
+    ensures faults { F.faults files.old name.now ≤ F.faults files.new name.now }
 {
     if size < 64 {
         return Err(DumpError::from(DumpRefusal::NotElf));
@@ -113,9 +113,9 @@ fn read_headers<F: Files>(
     ensures same { F.holds files.new ≡ F.holds files.old }
     ensures headers { IfOk result (λ h. AreHeaders (F.holds files.old name.now) h.count h.bytes.items) }
     ensures whole { IfOk result (λ h. length h.bytes.items ≡ 56 * h.count) }
-    ensures error { IfErr result (IsFault (F.holds files.old name.now) (F.faults files.old) (F.faults files.new)) }
-    ensures missing { F.missing files.old ≤ F.missing files.new }
-    ensures faults { F.faults files.old ≤ F.faults files.new }
+    ensures error { IfErr result (IsFault (F.holds files.old name.now) (F.faults files.old name.now) (F.faults files.new name.now)) }
+    ensures missing { F.missing files.old name.now ≤ F.missing files.new name.now }
+    ensures faults { F.faults files.old name.now ≤ F.faults files.new name.now }
 {
     let TableAt { place, count } = read_head(files, name, size)?;
     let mut bytes = vec![in alloc; 0u8; ENTRY * count as usize]?;
@@ -132,9 +132,9 @@ impl Dump {
         ensures same { F.holds files.new ≡ F.holds files.old }
         ensures dump { IfOk result (λ d. (d.name ≡ name.now) × IsOpened (F.holds files.old name.now) d) }
         ensures error { IfErr result (IsError (F.holds files.old name.now)
-            (F.missing files.old) (F.missing files.new) (F.faults files.old) (F.faults files.new)) }
-        ensures missing { F.missing files.old ≤ F.missing files.new }
-        ensures faults { F.faults files.old ≤ F.faults files.new }
+            (F.missing files.old name.now) (F.missing files.new name.now) (F.faults files.old name.now) (F.faults files.new name.now)) }
+        ensures missing { F.missing files.old name.now ≤ F.missing files.new name.now }
+        ensures faults { F.faults files.old name.now ≤ F.faults files.new name.now }
     {
         let Some(size) = files.size(name)? else {
             return Err(DumpError::NoFile);
@@ -157,10 +157,10 @@ impl Dump {
         ensures same { F.holds files.new ≡ F.holds files.old }
         ensures unchanged { IsSame self.old self.new }
         ensures nowhere { serving self.old.segments pa ≡ None → result ≡ Ok None }
-        ensures word { IfOk result (IsWord (F.holds files.old self.old.name) self.old (F.missing files.old) (F.missing files.new) pa) }
+        ensures word { IfOk result (IsWord (F.holds files.old self.old.name) self.old (F.missing files.old self.old.name) (F.missing files.new self.old.name) pa) }
         ensures stands { (bytes : List ℕ) → F.holds files.old self.old.name ≡ Bytes bytes → StandsFor bytes self.old → StandsFor bytes self.new }
-        ensures missing { F.missing files.old ≤ F.missing files.new }
-        ensures cause { HasCause (F.faults files.old) (F.faults files.new) result }
+        ensures missing { F.missing files.old self.old.name ≤ F.missing files.new self.old.name }
+        ensures cause { HasCause (F.faults files.old self.old.name) (F.faults files.new self.old.name) result }
     {
         let Some(segment) = serving(self.segments.as_slice(), pa) else {
             return Ok(None);
@@ -174,6 +174,3 @@ impl Dump {
         word_at(files, &file, &mut self.pages, at)
     }
 }
-
-#[cfg(test)]
-mod tests;

@@ -1,6 +1,7 @@
 ghost use Rattle.std.specs.Prelude.{◌≡◌, ◌≤◌, ◌+◌, ◌^◌, length, take, IfOk};
 ghost use Rattle.bitwords.specs.Causes.{HasCause};
 ghost use Rattle.dump_file.specs.Held.{InTurns};
+ghost use Rattle.dump_file.specs.Counted.{OthersStay};
 ghost use Rattle.dump_file.specs.Filled.{IsFilled};
 
 use crate::files::{Files, ReadFailed};
@@ -16,10 +17,11 @@ pub fn fill_from<F: Files>(
     requires { at + length into.old ≤ 2 ^ 64 }
     ensures same { F.holds files.new ≡ F.holds files.old }
     ensures bound { IfOk result (λ n. n ≤ length into.new) }
-    ensures bytes { IfOk result (IsFilled (F.holds files.old name.now) (F.missing files.old) (F.missing files.new) at into.new) }
+    ensures bytes { IfOk result (IsFilled (F.holds files.old name.now) (F.missing files.old name.now) (F.missing files.new name.now) at into.new) }
     ensures turns { IfOk result (λ n. InTurns (F.reads name.now) at files.old (take n into.new) files.new) }
-    ensures missing { F.missing files.old ≤ F.missing files.new }
-    ensures cause { HasCause (F.faults files.old) (F.faults files.new) result }
+    ensures missing { F.missing files.old name.now ≤ F.missing files.new name.now }
+    ensures others { OthersStay name.now (F.faults files.old) (F.faults files.new) (F.missing files.old) (F.missing files.new) }
+    ensures cause { HasCause (F.faults files.old name.now) (F.faults files.new name.now) result }
 {
     let mut done = 0usize;
     while done < into.len() {

@@ -65,10 +65,10 @@ fn read_part<F: Files>(
     ensures same { F.holds files.new ≡ F.holds files.old }
     ensures full { AreFull file.now.size pages.new.entries }
     ensures part { IfOk result (IsPart (F.holds files.old file.now.name.now) file.now.size pages.old.entries
-        (F.missing files.old) (F.missing files.new) at into.new) }
+        (F.missing files.old file.now.name.now) (F.missing files.new file.now.name.now) at into.new) }
     ensures stay { StayOf (F.holds files.old file.now.name.now) file.now.size pages.old.entries pages.new.entries }
-    ensures missing { F.missing files.old ≤ F.missing files.new }
-    ensures cause { HasCause (F.faults files.old) (F.faults files.new) result }
+    ensures missing { F.missing files.old file.now.name.now ≤ F.missing files.new file.now.name.now }
+    ensures cause { HasCause (F.faults files.old file.now.name.now) (F.faults files.new file.now.name.now) result }
 {
     let offset = (at % PAGE) as usize;
     let start = at - at % PAGE;
@@ -102,10 +102,10 @@ fn part<F: Files>(
     ensures same { F.holds files.new ≡ F.holds files.old }
     ensures full { AreFull file.now.size pages.new.entries }
     ensures part { IfOk result (IsPart (F.holds files.old file.now.name.now) file.now.size pages.old.entries
-        (F.missing files.old) (F.missing files.new) at into.new) }
+        (F.missing files.old file.now.name.now) (F.missing files.new file.now.name.now) at into.new) }
     ensures stay { StayOf (F.holds files.old file.now.name.now) file.now.size pages.old.entries pages.new.entries }
-    ensures missing { F.missing files.old ≤ F.missing files.new }
-    ensures cause { HasCause (F.faults files.old) (F.faults files.new) result }
+    ensures missing { F.missing files.old file.now.name.now ≤ F.missing files.new file.now.name.now }
+    ensures cause { HasCause (F.faults files.old file.now.name.now) (F.faults files.new file.now.name.now) result }
 {
     if kept_part(file, pages, at, into) {
         return Ok(true);
@@ -127,10 +127,10 @@ fn bytes_at<F: Files>(
     ensures same { F.holds files.new ≡ F.holds files.old }
     ensures full { AreFull file.now.size pages.new.entries }
     ensures part { IfOk result (IsPart (F.holds files.old file.now.name.now) file.now.size pages.old.entries
-        (F.missing files.old) (F.missing files.new) at into.new) }
+        (F.missing files.old file.now.name.now) (F.missing files.new file.now.name.now) at into.new) }
     ensures stay { StayOf (F.holds files.old file.now.name.now) file.now.size pages.old.entries pages.new.entries }
-    ensures missing { F.missing files.old ≤ F.missing files.new }
-    ensures cause { HasCause (F.faults files.old) (F.faults files.new) result }
+    ensures missing { F.missing files.old file.now.name.now ≤ F.missing files.new file.now.name.now }
+    ensures cause { HasCause (F.faults files.old file.now.name.now) (F.faults files.new file.now.name.now) result }
 {
     let front = (PAGE - at % PAGE) as usize;
     if into.len() <= front {
@@ -155,10 +155,10 @@ pub fn word_at<F: Files>(
     ensures same { F.holds files.new ≡ F.holds files.old }
     ensures full { AreFull file.now.size pages.new.entries }
     ensures word { IfOk result (IsWordAt (F.holds files.old file.now.name.now) file.now.size pages.old.entries
-        (F.missing files.old) (F.missing files.new) at) }
+        (F.missing files.old file.now.name.now) (F.missing files.new file.now.name.now) at) }
     ensures stay { StayOf (F.holds files.old file.now.name.now) file.now.size pages.old.entries pages.new.entries }
-    ensures missing { F.missing files.old ≤ F.missing files.new }
-    ensures cause { HasCause (F.faults files.old) (F.faults files.new) result }
+    ensures missing { F.missing files.old file.now.name.now ≤ F.missing files.new file.now.name.now }
+    ensures cause { HasCause (F.faults files.old file.now.name.now) (F.faults files.new file.now.name.now) result }
 {
     let mut bytes = [0u8; 8];
     if !bytes_at(files, file, pages, at, &mut bytes)? {

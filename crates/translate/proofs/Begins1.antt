@@ -128,12 +128,12 @@ refused_at : (m : Bool) (c : Config) (a : Access) (f : Fault) (items : List Item
 refused_at true c a f items h =
     let k = err_by (is_refused1 c a) (refusal S1 false Translation) f _ h in
     ap (λ w. on (fits (regime_of c (side_of a.va))) w items)
-        (on_with (is_refused1 c a) k.0 (done (stops (fault1 Translation most_left))) (ask base1 (λ i. stage1_behind (asked c true a) i.value)))
-        ∙ ap (λ z. ends (stops z) items) (sym k.1)
+    (on_with (is_refused1 c a) k.0 (done (stops (fault1 Translation most_left))) (ask base1 (λ i. stage1_behind (asked c true a) i.value)))
+    ∙ ap (λ z. ends (stops z) items) (sym k.1)
 refused_at false c a f items h =
     let k = err_by (is_refused_off c a) (refusal S1 false AddressSize) f _ h in
     ap (λ z. ends z items) (on_with (is_refused_off c a) k.0 (stops (fault1 AddressSize most_left)) (reaches (off_leaf c a)))
-        ∙ ap (λ z. ends (stops z) items) (sym k.1)
+    ∙ ap (λ z. ends (stops z) items) (sym k.1)
 
 -- the access is refused before the base
 pub refused_stands : (c : Config) (a : Access) (f : Fault) (items : List Item) → Err f ≡ begin1_of c a → stands_stage1 c a items ≡ ends (stops f) items

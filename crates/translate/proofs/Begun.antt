@@ -66,8 +66,8 @@ module _ (under : RegsAt) (m : Told) (p : Bool) (ipa : ℕ) where
       → s ≡ Err (FaultStop (refusal S2 p Translation)) → Walked2 m F under p ipa old new s
   walked_refused2 F old new s h n e =
       subst (λ t. Walked (Reads2 under m) m F t old new s)
-          (sym (on_with (is_refused2 (config_of under.regs) ipa) h (done (stops (fault2 q Translation most_left)))
-          (ask (base2 ipa) (λ i. walk2_behind q i.value)))) (walked_done (Reads2 under m) m F (stops (fault2 q Translation most_left)) old new s n e)
+      (sym (on_with (is_refused2 (config_of under.regs) ipa) h (done (stops (fault2 q Translation most_left)))
+      (ask (base2 ipa) (λ i. walk2_behind q i.value)))) (walked_done (Reads2 under m) m F (stops (fault2 q Translation most_left)) old new s n e)
 
   module _ (ok : is_refused2 (config_of under.regs) ipa ≡ false) (old mid : List Item) (kept : mid ≡ old ++ base ∷ []) where
     asks : walk2 q ≡ ask (base2 ipa) (λ i. walk2_behind q i.value)

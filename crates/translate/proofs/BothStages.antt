@@ -156,4 +156,4 @@ module _ (under : RegsAt) (a : Access) (m : Told) where
       whole_ends k o w r =
           let t : Took (Reads2 under m) (walk2 (asked2_of under.regs false leaf1.out)) w.more (ended (reaches k)) = rw (← ends_at k w.end w.answer) w.took in
           subst (λ is. WalkedWhole under.regs a under.moment m H is o) (sym w.grown)
-              (record { end = ended (judged2 true a leaf1 (reaches k)); took = ends2 w.more (reaches k) t; cause = tt; answer = r })
+          (record { end = ended (judged2 true a leaf1 (reaches k)); took = ends2 w.more (reaches k) t; cause = tt; answer = r })

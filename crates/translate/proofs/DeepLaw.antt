@@ -44,8 +44,13 @@ module _ {S : Type 0} (memory : S → Told) (faults : S → ℕ) (keeps : S → 
   stays_keeps here then = record {
     here = λ s. record { same_under = refl; same_reference = refl; same = refl; later = omega arith; kept = here s.supply.now };
     then = λ a b d h k.
-        record { same_under = k.same_under ∙ h.same_under; same_reference = k.same_reference ∙ h.same_reference; same = k.same ∙ h.same;
-        later = omega (arith, h.later, k.later); kept = then a.supply.now b.supply.now d.supply.now h.kept k.kept };
+        record {
+          same_under = k.same_under ∙ h.same_under;
+          same_reference = k.same_reference ∙ h.same_reference;
+          same = k.same ∙ h.same;
+          later = omega (arith, h.later, k.later);
+          kept = then a.supply.now b.supply.now d.supply.now h.kept k.kept;
+        };
     each = λ s e items r t h. record { same_under = h.same_under; same_reference = h.same_reference; same = h.same; later = h.later; kept = h.kept };
   }
 
@@ -113,7 +118,7 @@ module _ {S : Type 0} (memory : S → Told) (faults : S → ℕ) (keeps : S → 
       let f0 = faults s.supply.now in
       let k : Kept under (side_of a.va) m f0 s = record { under_is = u; memory_is = refl; more = omega arith } in
       let d = ran_finer stops (λ i. i.value) (by_entry gives) (Reads2 under m) (how under (side_of a.va) m f0) (Kept under (side_of a.va) m f0)
-          (Tells under (side_of a.va) m f0) (law under (side_of a.va) m f0) _ s w.more w.end s' k w.ran in
+      (Tells under (side_of a.va) m f0) (law under (side_of a.va) m f0) _ s w.more w.end s' k w.ran in
       let q = told under (side_of a.va) m f0 s' w.end d.0 d.2 in
       record { more = w.more; end = d.0; grown = w.grown; took = d.1; cause = q.1; answer = w.answer ∙ q.0 }
 

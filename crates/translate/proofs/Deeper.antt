@@ -122,7 +122,7 @@ after_deep : (r : Regime) (e : Entry1) (items : List Item) (n : Need)
     → on (fits r) (after (walk2 (asked2 r true e.place)) (read1_by r.config e)) items ≡ needs n → AllDeep items
 after_deep r e items n h =
     elim (on_after_needs (fits r) (walk2 (asked2 r true e.place)) (read1_by r.config e) items n h) as (λ _. AllDeep items)
-        [ inl d ↦ needs_deep r (walk2 (asked2 r true e.place)) (walk2_only r (asked2 r true e.place)) items n d | inr d ↦ later_deep r e items n d ]
+    [ inl d ↦ needs_deep r (walk2 (asked2 r true e.place)) (walk2_only r (asked2 r true e.place)) items n d | inr d ↦ later_deep r e items n d ]
 
 vm_deep : (r : Regime) (b : Bool) (e : Entry1) (items : List Item) (n : Need)
     → on (fits r) (cond b (after (walk2 (asked2 r true e.place)) (read1_by r.config e)) (read1 e e.place)) items ≡ needs n → AllDeep items

@@ -117,7 +117,7 @@ module _ (under : RegsAt) (a : Access) (m : Told) where
         { address = start_base1 under.regs (side_of a.va); bits = no_bits } mid new s → WalkedOn1 m F under a new s
     walked_from1 F new s h w =
         walked_goes reads m F F _ base1 _ first_item _ [] mid new s asks kept refl (off_with _ h _ _) (λ f. f)
-            (walked_weaker (Reads2 under m) reads m F read_now _ mid new s w)
+        (walked_weaker (Reads2 under m) reads m F read_now _ mid new s w)
 
   -- stage 1 is refused
   refused_at : (F : Type 0) (old new : List Item) (f : Fault) (b : Bool)
@@ -128,13 +128,13 @@ module _ (under : RegsAt) (a : Access) (m : Told) where
   refused_at F old new f true h n =
       let k = err_by (is_refused1 (config_of under.regs) a) (refusal S1 false Translation) f _ h in
       subst (λ t. Walked reads m F t old new (Err (FaultStop f)))
-          (sym (on_with (is_refused1 (config_of under.regs) a) k.0 (done (stops (fault1 Translation most_left))) (ask base1 (λ i. stage1_behind q i.value))))
-          (walked_done reads m F (stops (fault1 Translation most_left)) old new (Err (FaultStop f)) n (ap (λ x. Err (FaultStop x)) k.1))
+      (sym (on_with (is_refused1 (config_of under.regs) a) k.0 (done (stops (fault1 Translation most_left))) (ask base1 (λ i. stage1_behind q i.value))))
+      (walked_done reads m F (stops (fault1 Translation most_left)) old new (Err (FaultStop f)) n (ap (λ x. Err (FaultStop x)) k.1))
   refused_at F old new f false h n =
       let k = err_by (is_refused_off (config_of under.regs) a) (refusal S1 false AddressSize) f _ h in
       subst (λ (t : End Leaf1). Walked reads m F (done t) old new (Err (FaultStop f)))
-          (sym (on_with (is_refused_off (config_of under.regs) a) k.0 (stops (fault1 AddressSize most_left)) (reaches (off_leaf (config_of under.regs) a))))
-          (walked_done reads m F (stops (fault1 AddressSize most_left)) old new (Err (FaultStop f)) n (ap (λ x. Err (FaultStop x)) k.1))
+      (sym (on_with (is_refused_off (config_of under.regs) a) k.0 (stops (fault1 AddressSize most_left)) (reaches (off_leaf (config_of under.regs) a))))
+      (walked_done reads m F (stops (fault1 AddressSize most_left)) old new (Err (FaultStop f)) n (ap (λ x. Err (FaultStop x)) k.1))
 
   pub stage_refused : (F : Type 0) (new : List Item) (f : Fault) → Err f ≡ begin1_of (config_of under.regs) a → new ≡ []
       → WalkedStage1 m F under a new (Err (FaultStop f))
@@ -145,16 +145,16 @@ module _ (under : RegsAt) (a : Access) (m : Told) where
       → WalkedStage1 m F under a new (Ok None)
   stage_off F new h n =
       let s : stage1_off q ≡ done (reaches (off_leaf (config_of under.regs) a)) =
-          ap done (off_with (is_refused_off (config_of under.regs) a) h.1 (stops (fault1 AddressSize most_left))
-          (reaches (off_leaf (config_of under.regs) a))) in
+      ap done (off_with (is_refused_off (config_of under.regs) a) h.1 (stops (fault1 AddressSize most_left))
+      (reaches (off_leaf (config_of under.regs) a))) in
       let t = off_with (config_of under.regs).m h.0 (stage1_on q) (stage1_off q) in
       subst (λ t. Walked reads m F t [] new (Ok (off_leaf (config_of under.regs) a))) (sym t)
-          (subst (λ t. Walked reads m F t [] new (Ok (off_leaf (config_of under.regs) a))) (sym s)
-          (walked_done reads m F (reaches (off_leaf (config_of under.regs) a)) [] new (Ok (off_leaf (config_of under.regs) a)) n refl))
+      (subst (λ t. Walked reads m F t [] new (Ok (off_leaf (config_of under.regs) a))) (sym s)
+      (walked_done reads m F (reaches (off_leaf (config_of under.regs) a)) [] new (Ok (off_leaf (config_of under.regs) a)) n refl))
 
   -- stage 1 is on
   pub stage_on : (F : Type 0) (new : List Item) (r : Result Leaf1 Stop) (s : Result (Option Leaf1) Stop) → (config_of under.regs).m ≡ true
       → leaf_answer (config_of under.regs) a s ≡ r → WalkedOn1 m F under a new r → WalkedStage1 m F under a new s
   stage_on F new r s h e w =
       subst (λ t. Walked reads m F t [] new (leaf_answer (config_of under.regs) a s)) (sym (on_with (config_of under.regs).m h (stage1_on q) (stage1_off q)))
-          (subst (λ r. Walked reads m F (stage1_on q) [] new r) (sym e) w)
+      (subst (λ r. Walked reads m F (stage1_on q) [] new r) (sym e) w)

@@ -108,7 +108,7 @@ module _ (under : RegsAt) (m : Told) where
         → (s : Side) (e : Entry1) → level_of e.left ≡ level → e.place ≡ p → HadWord under m F (word_of (regime_of (config_of under.regs) s) e) more r
     had_deep_at F more r d s e q z =
         subst (λ t. HadWord under m F t more r) (sym (on_with (config_of under.regs).vm on (deep_word e e.place) (read1 e e.place)))
-            (had_place F e p more r (deep_word e) z (d e q))
+        (had_place F e p more r (deep_word e) z (d e q))
 
     -- how long what was appended is
     few : (new more : List Item) → new ≡ old ++ more → length new ≤ length old + most_items2 → length more ≤ most_items2
@@ -116,11 +116,14 @@ module _ (under : RegsAt) (m : Told) where
 
     stop_end : (F : Type 0) (e : Entry1) (more : List Item) (x : Stop) (w : Fed Need (End Leaf2)) → Err x ≡ result_of w → LacksFor m F w
         → Took (Reads2 under m) (walk2 (asked2_of under.regs true p)) more w → HadWord under m F (deep_word e p) more (Err x)
-    stop_end F e more x (ended (stops f)) h c t =
-        (ended (Err f),
-            subst (λ is. Took (Reads2 under m) (deep_word e p) is (ended (Err f))) (append-nil more)
-            (took_after (Reads2 under m) (walk2 (asked2_of under.regs true p)) (read1_by (config_of under.regs) e) more [] (stops f) (ended (Err f)) t
-            (refl, refl)), tt, cc)
+    stop_end F e more x (ended (stops f)) h c t = (
+      ended (Err f),
+      subst (λ is. Took (Reads2 under m) (deep_word e p) is (ended (Err f))) (append-nil more)
+          (took_after (Reads2 under m) (walk2 (asked2_of under.regs true p)) (read1_by (config_of under.regs) e) more [] (stops f) (ended (Err f)) t
+          (refl, refl)),
+      tt,
+      cc,
+    )
     stop_end F e more x (ended (reaches l)) h c t = absurd cc
     stop_end F e more x (lacks base1) h c t = absurd c
     stop_end F e more x (lacks (base2 y)) h c t = absurd c
@@ -132,8 +135,13 @@ module _ (under : RegsAt) (m : Told) where
         → Had under m F level p old new (Err x)
     had_stop F new x w h =
         let n = few new w.more w.grown h in
-        record { more = w.more; grown = w.grown; most = omega arith;
-            had = had_deep_at F w.more (Err x) (λ e q. stop_end F e w.more x w.end w.answer w.cause w.took); word = tt }
+        record {
+          more = w.more;
+          grown = w.grown;
+          most = omega arith;
+          had = had_deep_at F w.more (Err x) (λ e q. stop_end F e w.more x w.end w.answer w.cause w.took);
+          word = tt;
+        }
 
     module _ (F : Type 0) (mid : List Item) (l : Leaf2) (w : Walked2 m F under true p old mid (Ok l)) (short : length mid ≤ length old + most_items2) where
       reached : Took (Reads2 under m) (walk2 (asked2_of under.regs true p)) w.more (ended (reaches l))
@@ -155,9 +163,13 @@ module _ (under : RegsAt) (m : Told) where
             grown = w.grown;
             most = omega arith;
             had = had_deep_at F w.more (Err (FaultStop (unreadable l)))
-                (λ e q. (ended (Err (unreadable l)),
-                subst (λ is. Took (Reads2 under m) (deep_word e p) is (ended (Err (unreadable l)))) (append-nil w.more)
-                (went e _ [] (ended (Err (unreadable l))) (off_with (is_readable (config_of under.regs) l) d _ _) (refl, refl)), tt, refl));
+                (λ e q. (
+                  ended (Err (unreadable l)),
+                  subst (λ is. Took (Reads2 under m) (deep_word e p) is (ended (Err (unreadable l)))) (append-nil w.more)
+                      (went e _ [] (ended (Err (unreadable l))) (off_with (is_readable (config_of under.regs) l) d _ _) (refl, refl)),
+                  tt,
+                  refl,
+                ));
             word = tt;
           }
 
@@ -166,9 +178,13 @@ module _ (under : RegsAt) (m : Told) where
 
       had_more : (G H : Type 0) → (G → H) → (e : Entry1) (r : Result ℕ Stop) (js : List Item) → is_readable (config_of under.regs) l ≡ true
           → HadWord under m G (read1 e l.pa) js r → HadWord under m H (deep_word e p) (w.more ++ js) r
-      had_more G H f e (Ok v) js d h =
-          (w.more ++ h.0, h.1, ap (λ k. w.more ++ k) h.2 ∙ sym (append_assoc w.more h.0 (h.1 ∷ [])), h.3,
-              went e (read1 e l.pa) js (ended (Ok h.1)) (on_with (is_readable (config_of under.regs) l) d _ _) h.4)
+      had_more G H f e (Ok v) js d h = (
+        w.more ++ h.0,
+        h.1,
+        ap (λ k. w.more ++ k) h.2 ∙ sym (append_assoc w.more h.0 (h.1 ∷ [])),
+        h.3,
+        went e (read1 e l.pa) js (ended (Ok h.1)) (on_with (is_readable (config_of under.regs) l) d _ _) h.4,
+      )
       had_more G H f e (Err x) js d h =
           (h.0, went e (read1 e l.pa) js h.0 (on_with (is_readable (config_of under.regs) l) d _ _) h.1, lacks_weaker m G H f h.0 h.2, h.3)
 

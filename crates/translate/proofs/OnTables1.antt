@@ -74,7 +74,7 @@ pub goes_here : (c : Config) (a : Access) (left : ℕ) (t : Table1) (rest : List
     → GoesOn c a left t rest from
 goes_here c a left t rest from few none e = λ more.
     ap (λ z. stands1 c a left t (z ++ more)) none ∙ ap (λ n. stands1 c a n t more) (sym (left_below_of left few))
-        ∙ ap (λ f. stands1 c a (left_below f.level) (table_from f) more) (sym e)
+    ∙ ap (λ f. stands1 c a (left_below f.level) (table_from f) more) (sym e)
 
 -- the last item is that of a table
 pub ends_top : (c : Config) (s : Side) (items front : List Item) (i : Item) (at : ℕ) → items ≡ front ++ i ∷ drop at items → is_top c s i ≡ true

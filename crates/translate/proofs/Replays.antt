@@ -100,9 +100,11 @@ module _ (c : Config) (a : Access) where
   pub output_untop : (items : List Item) (at out : ℕ) (n : Need) → at ≤ length items → (at ≡ length items → EndsAtTop c (side_of a.va) items → ⊥)
       → on (fits r) (walk2 (asked2 r false out)) (drop at items) ≡ needs n → EndsAtTop c (side_of a.va) items → ⊥
   output_untop items at out n l untop h t =
-      elim (le_cases at (length items) l) as (λ _. ⊥)
-          [ inl e ↦ untop e t | inr less ↦
-          deep_end c (side_of a.va) items at less (needs_deep r (walk2 (asked2 r false out)) (walk2_only r (asked2 r false out)) (drop at items) n h) t ]
+      elim (le_cases at (length items) l) as (λ _. ⊥) [
+        | inl e ↦ untop e t
+        | inr less ↦
+            deep_end c (side_of a.va) items at less (needs_deep r (walk2 (asked2 r false out)) (walk2_only r (asked2 r false out)) (drop at items) n h) t
+      ]
 
 module _ (c : Config) (a : Access) (items : List Item) (at : ℕ) (o1 : Option Leaf1) (few : at ≤ length items)
     (h : stands_stage1 c a items ≡ ends (reaches (leaf1_or_off c a o1)) (drop at items)) where

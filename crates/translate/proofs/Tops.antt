@@ -41,8 +41,8 @@ by_down q e p (Table next bits) t h = refl
 by_down q e p (Leaf out attr_index bits sh af global contiguous) t h =
     let l = leaf1_of q.regime e p record { out = out; attr_index = attr_index; sh = sh; bits = bits; global = global; contiguous = contiguous } in
     absurd (not_down (is_too_large q.regime.stage1 out) (not (af || q.regime.config.ha1))
-        (q.judged && not (is_allowed1 l.perms (is_uxn bits e.table.bits) q.access.el q.access.kind q.access.pan q.regime.config.epan))
-        (fault1 AddressSize e.left) (fault1 AccessFlag e.left) (fault1 Permission e.left) l t h)
+    (q.judged && not (is_allowed1 l.perms (is_uxn bits e.table.bits) q.access.el q.access.kind q.access.pan q.regime.config.epan))
+    (fault1 AddressSize e.left) (fault1 AccessFlag e.left) (fault1 Permission e.left) l t h)
 
 by_reached : (q : Asked) (e : Entry1) (p : ℕ) (k : Kind1) (l : Leaf1) → Reached l ≡ step1_by q e p k → is_table k ≡ false
 by_reached q e p Invalid l h = absurd cc

@@ -10,26 +10,16 @@ ghost use Rattle.std.specs.declared.io.ErrorKind.TheVariants.{InvalidData};
 ghost use Rattle.dump_file.specs.Held.{reading_of};
 ghost use Rattle.explain_text.specs.Written.{writing_of, GotNothing};
 ghost use Rattle.commands.specs.Command.{command_of};
-ghost use Rattle.vmsa.specs.Answers.{IsAnswer};
-ghost use Rattle.vmsa.specs.Status.{number_of_status, Exits};
+ghost use Rattle.top_call.specs.Clauses.{IsAnswer};
+ghost use Rattle.statuses.specs.Status.{number_of_status, Exits};
 
-mod answer;
-mod call;
-mod dump_words;
-mod explain;
-mod image;
-mod raw;
-mod refusals;
-mod run;
-mod status;
-
-use crate::call::vmsa;
-use crate::status::Status;
 use dump_file::{Files, RealFiles};
 use explain_text::{Adapter, Sink};
+use statuses::Status;
 use std::alloc::Global;
 use std::process::ExitCode;
 use std::{env, io};
+use top_call::vmsa;
 
 /// The words after the first, which is the program's name.
 fn after_name(alloc: Global, all: env::Args) -> io::Result<Vec<String>>
@@ -76,12 +66,12 @@ fn exit_code(status: &Status) -> ExitCode
 /// NoMemory, and nothing is written.
 fn ended<F: Files, O: Sink, E: Sink>(
     alloc: Global,
-    words: io::Result<Vec<String>>,
+    words: &io::Result<Vec<String>>,
     files: &mut F,
     out: &mut O,
     err: &mut E,
 ) -> ExitCode
-    ensures { MatchResult words
+    ensures { MatchResult words.now
         (λ words. Exits (exit_status result)
         (IsAnswer (reading_of F.holds F.faults F.missing files.old files.new) (writing_of O.written O.faults out.old out.new)
         (writing_of E.written E.faults err.old err.new) (command_of (map string_bytes words.items))))
@@ -94,11 +84,20 @@ fn ended<F: Files, O: Sink, E: Sink>(
     }
 }
 
+/// The word at a place, or an empty one.
+fn word(words: &io::Result<Vec<String>>, place: usize) -> &str {
+    match words {
+        Ok(words) => words.get(place).map_or("", |word| word.as_str()),
+        Err(_) => "",
+    }
+}
+
+/// The files of a command are its first two words behind its name.
 fn main(rt: HostRuntime) -> ExitCode {
     let alloc = rt.alloc();
     let words = taken_words(alloc, env::args(&rt));
     let mut out = Adapter::new(rt.stdout());
     let mut err = Adapter::new(rt.stderr());
-    let mut files = RealFiles::new(rt, alloc);
-    ended(alloc, words, &mut files, &mut out, &mut err)
+    let mut files = RealFiles::new(rt, alloc, word(&words, 1), word(&words, 2));
+    ended(alloc, &words, &mut files, &mut out, &mut err)
 }

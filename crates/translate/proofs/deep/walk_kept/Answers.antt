@@ -4,7 +4,7 @@ use Rattle.translate.proofs.deep.walk_kept.Goals as goal
 stays : (g : _) → (c : goal.After-walk1_from g) → Stays g.S.Supply.memory g.S.Supply.faults g.S.Supply.keeps c.args.deep.now c.walk1_from.new.supply
 stays g c =
     deep_stays g.S.Supply.memory g.S.Supply.faults g.S.Supply.keeps g.met.S.Supply.keeps_here g.met.S.Supply.keeps_then c.args.under.now c.args.access.now _ _
-        c.args.deep.now c.walk1_from.new.supply _ _ _ (rw c.config.ensures.same at c.walk1_from.ensures.walked)
+    c.args.deep.now c.walk1_from.new.supply _ _ _ (rw c.config.ensures.same at c.walk1_from.ensures.walked)
 
 pub returns-clause-same_reference : goal.returns-clause-same_reference
 returns-clause-same_reference g c = (stays g c).same_reference
@@ -26,5 +26,5 @@ returns-clause-walked g c =
 pub returns-clause-line : goal.returns-clause-line
 returns-clause-line g c =
     let w = deep_walked g.S.Supply.memory g.S.Supply.faults g.S.Supply.keeps c.args.under.now c.args.access.now _ _ c.args.deep.now _ _ _ _ c.requires.under
-        (rw c.config.ensures.same at c.walk1_from.ensures.walked) in
+    (rw c.config.ensures.same at c.walk1_from.ensures.walked) in
     line_of _ _ w.end _ w.cause w.answer c.walk1_from.ensures.code

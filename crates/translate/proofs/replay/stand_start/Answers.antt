@@ -15,8 +15,8 @@ returns c =
     let n = c.sizes_of-sizes.ensures.value in
     let large = rw n at c.if-is_too_large.ensures in
     let top =
-        start_top c.args.config.now c.args.access.now c.args.items.now c.requires.m c.requires.accepted c.item_at-item.result l c.item_at-item.ensures
-        c.if-not-fits_start.ensures large in
+    start_top c.args.config.now c.args.access.now c.args.items.now c.requires.m c.requires.accepted c.item_at-item.result l c.item_at-item.ensures
+    c.if-not-fits_start.ensures large in
     let d = rw (n, c.start_table.ensures) at (c.stand_granule.ensures top) in
     started c.args.config.now c.args.access.now c.args.items.now c.requires.m c.requires.accepted c.item_at-item.result l c.item_at-item.ensures
-        c.if-not-fits_start.ensures large c.stand_granule.result d
+    c.if-not-fits_start.ensures large c.stand_granule.result d

@@ -16,7 +16,7 @@ pub returns-in-Err-clause-walked : goal.returns-in-Err-clause-walked
 returns-in-Err-clause-walked g c =
     let h = refused_root1 c.args.under.now.regs _ c.in-Err.fault (rw (c.regs.ensures, c.requires.side) at c.in-Err.ensures.value) in
     walked_large1 c.args.under.now c.args.access.now (g.S.Supply.memory c.args.supply.now) c.requires.accepted _
-        (rw (c.regs.ensures, c.moment.ensures, c.requires.side, c.requires.empty) at c.in-Err.ensures.item) _ _ h.0 (ap (λ f. Err (FaultStop f)) h.1)
+    (rw (c.regs.ensures, c.moment.ensures, c.requires.side, c.requires.empty) at c.in-Err.ensures.item) _ _ h.0 (ap (λ f. Err (FaultStop f)) h.1)
 
 pub returns-clause-walked : goal.returns-clause-walked
 returns-clause-walked g c =
@@ -24,4 +24,4 @@ returns-clause-walked g c =
     let sized = accepted_size (config_of c.args.under.now.regs) c.args.access.now c.requires.accepted in
     let w = rw (r.1, left_below_of _ (start1_most (config_of c.args.under.now.regs) (side_of c.args.access.now.va) sized)) at c.stage1_from.ensures.walked in
     walked_from1 c.args.under.now c.args.access.now (g.S.Supply.memory c.args.supply.now) c.requires.accepted _
-        (rw (c.regs.ensures, c.moment.ensures, c.requires.side, c.requires.empty) at c.in-Ok.ensures.item) _ _ _ r.0 w
+    (rw (c.regs.ensures, c.moment.ensures, c.requires.side, c.requires.empty) at c.in-Ok.ensures.item) _ _ _ r.0 w

@@ -11,7 +11,7 @@ pub returns-in-Err-clause-walked : goal.returns-in-Err-clause-walked
 returns-in-Err-clause-walked g c =
     let h = refused_begin2 (config_of c.args.under.now.regs) c.args.ipa c.args.ptw c.in-Err.fault (rw c.config-config.ensures.same at c.in-Err.ensures) in
     walked_refused2 c.args.under.now (g.S.Supply.memory c.args.supply.now) c.args.ptw c.args.ipa _ c.args.trail.now _ _ h.0 refl
-        (ap (λ f. Err (FaultStop f)) h.1)
+    (ap (λ f. Err (FaultStop f)) h.1)
 
 pub root2-requires-clause-sized : goal.root2-requires-clause-sized
 root2-requires-clause-sized g c = accepted_sizes _ _ (begun2 _ _ _ _ c.in-Ok.ensures).0
@@ -21,7 +21,7 @@ returns-in-Err-root2-clause-walked g c =
     let b = begun2 (config_of c.args.under.now.regs) c.args.ipa c.args.ptw c.in-Ok.level (rw c.config-config.ensures.same at c.in-Ok.ensures) in
     let h = refused_root2 c.args.under.now.regs c.args.ptw c.in-Err-root2.fault (rw c.regs.ensures at c.in-Err-root2.ensures.value) in
     walked_large2 c.args.under.now (g.S.Supply.memory c.args.supply.now) c.args.ptw c.args.ipa b.0 c.args.trail.now _
-        (rw (c.regs.ensures, c.moment.ensures) at c.in-Err-root2.ensures.item) _ _ h.0 (ap (λ f. Err (FaultStop f)) h.1)
+    (rw (c.regs.ensures, c.moment.ensures) at c.in-Err-root2.ensures.item) _ _ h.0 (ap (λ f. Err (FaultStop f)) h.1)
 
 pub walk2_from-requires-clause-room : goal.walk2_from-requires-clause-room
 walk2_from-requires-clause-room g c =
@@ -38,6 +38,6 @@ returns-clause-walked g c =
     let b = begun2 (config_of c.args.under.now.regs) c.args.ipa c.args.ptw c.in-Ok.level (rw c.config-config.ensures.same at c.in-Ok.ensures) in
     let r = rooted2 c.args.under.now.regs c.args.ptw c.in-Ok-root2.from (rw c.regs.ensures at c.in-Ok-root2.ensures.value) in
     let w = rw (r.1, left_below_of _ (start2_most (config_of c.args.under.now.regs)), c.config-config.ensures.same, c.moment-2.ensures) at
-        c.walk2_from.ensures.walked in
+    c.walk2_from.ensures.walked in
     walked_from2 c.args.under.now (g.S.Supply.memory c.args.supply.now) c.args.ptw c.args.ipa b.0 c.args.trail.now _
-        (rw (c.regs.ensures, c.moment.ensures) at c.in-Ok-root2.ensures.item) _ _ _ r.0 w
+    (rw (c.regs.ensures, c.moment.ensures) at c.in-Ok-root2.ensures.item) _ _ _ r.0 w

@@ -9,7 +9,7 @@ pub returns-then-not-config : goal.returns-then-not-config
 returns-then-not-config g c =
     let r = regime_of c.args.config.now (side_of c.args.access.now.va) in
     subst (λ s. IsStoodWord c.args.entry.now.left c.args.items.now c.stand_read.result s)
-        (sym (word_flat r c.args.entry.now (drop c.args.at c.args.items.now) c.if-not-config.true)) c.stand_read.ensures
+    (sym (word_flat r c.args.entry.now (drop c.args.at c.args.items.now) c.if-not-config.true)) c.stand_read.ensures
 
 pub stand_read-requires-in-Ok-clause-at : goal.stand_read-requires-in-Ok-clause-at
 stand_read-requires-in-Ok-clause-at g c = (c.in-Found.ensures (side_of c.args.access.now.va)).0
@@ -19,15 +19,17 @@ returns-in-Ok g c =
     let r = regime_of c.args.config.now (side_of c.args.access.now.va) in
     let h = c.in-Found.ensures (side_of c.args.access.now.va) in
     subst (λ s. IsStoodWord c.args.entry.now.left c.args.items.now c.stand_read-in-Ok.result s)
-        (sym (word_read r c.args.entry.now (drop c.args.at c.args.items.now) c.if-not-config.false c.in-Found.leaf _ h.1 c.in-Ok.ensures))
-        c.stand_read-in-Ok.ensures
+    (sym (word_read r c.args.entry.now (drop c.args.at c.args.items.now) c.if-not-config.false c.in-Found.leaf _ h.1 c.in-Ok.ensures))
+    c.stand_read-in-Ok.ensures
 
 pub returns-in-Err : goal.returns-in-Err
 returns-in-Err g c =
     let r = regime_of c.args.config.now (side_of c.args.access.now.va) in
-    let h = c.in-Found.ensures (side_of c.args.access.now.va) in
-    (h.0, word_denied r c.args.entry.now (drop c.args.at c.args.items.now) c.if-not-config.false c.in-Found.leaf _ h.1 c.in-Err.fault c.in-Err.ensures.0
-        c.in-Err.ensures.1)
+    let h = c.in-Found.ensures (side_of c.args.access.now.va) in (
+      h.0,
+      word_denied r c.args.entry.now (drop c.args.at c.args.items.now) c.if-not-config.false c.in-Found.leaf _ h.1 c.in-Err.fault c.in-Err.ensures.0
+          c.in-Err.ensures.1,
+    )
 
 pub returns-in-Refused : goal.returns-in-Refused
 returns-in-Refused g c =

@@ -11,8 +11,8 @@ returns-in-Err-clause-walked g c =
 pub returns-then-not-config-clause-walked : goal.returns-then-not-config-clause-walked
 returns-then-not-config-clause-walked g c =
     whole_flat c.args.under.now c.args.access.now (g.S.Supply.memory c.args.supply.now) _ c.in-Ok.leaf _ c.in-Ok.ensures.walked _
-        (rw c.config-config.ensures.same at c.if-not-config.true)
-        (rw (c.as_ref-then-not-config.ensures.value, c.config-config.ensures.same) at c.finish.ensures)
+    (rw c.config-config.ensures.same at c.if-not-config.true)
+    (rw (c.as_ref-then-not-config.ensures.value, c.config-config.ensures.same) at c.finish.ensures)
 
 pub returns-in-Err-stage2-clause-walked : goal.returns-in-Err-stage2-clause-walked
 returns-in-Err-stage2-clause-walked g c =

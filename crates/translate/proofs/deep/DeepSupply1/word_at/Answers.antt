@@ -9,20 +9,20 @@ returns-then-not-config-clause-gave g c =
     let flat = rw c.config-config.ensures.same at c.if-not-config.true in
     let read = rw (c.walker1-walker.ensures, c.moment.ensures, to_z-of_z _ _ c.ranges.level) at c.read.ensures.read in
     gave_deep g.S.Supply.memory g.S.Supply.faults g.S.Supply.keeps c.args.self.now _ c.args.level c.args.ipa _ _ _ refl refl c.read.ensures.same
-        c.read.ensures.later c.read.ensures.kept (had_flat _ _ _ c.args.level _ _ _ _ flat read)
+    c.read.ensures.later c.read.ensures.kept (had_flat _ _ _ c.args.level _ _ _ _ flat read)
 
 pub returns-in-Err-clause-gave : goal.returns-in-Err-clause-gave
 returns-in-Err-clause-gave g c =
     let on = rw c.config-config.ensures.same at c.if-not-config.false in
     gave_deep g.S.Supply.memory g.S.Supply.faults g.S.Supply.keeps c.args.self.now _ _ _ _ _ _ refl refl c.in-Err.ensures.same c.in-Err.ensures.later
-        c.in-Err.ensures.kept (had_stop _ _ on _ _ _ _ _ _ c.in-Err.ensures.walked c.in-Err.ensures.most)
+    c.in-Err.ensures.kept (had_stop _ _ on _ _ _ _ _ _ c.in-Err.ensures.walked c.in-Err.ensures.most)
 
 pub returns-in-Err-descriptor_read-clause-gave : goal.returns-in-Err-descriptor_read-clause-gave
 returns-in-Err-descriptor_read-clause-gave g c =
     let on = rw c.config-config.ensures.same at c.if-not-config.false in
     let denied = rw c.config-config.ensures.same at c.in-Err-descriptor_read.ensures in
     gave_deep g.S.Supply.memory g.S.Supply.faults g.S.Supply.keeps c.args.self.now _ _ _ _ _ _ refl refl c.in-Ok.ensures.same c.in-Ok.ensures.later
-        c.in-Ok.ensures.kept
+    c.in-Ok.ensures.kept
     (had_denied_by _ _ on _ _ _ _ _ c.in-Ok.leaf c.in-Ok.ensures.walked c.in-Ok.ensures.most denied.0 _ denied.1)
 
 pub returns-clause-gave : goal.returns-clause-gave

@@ -1,0 +1,16 @@
+pub use Rattle.bitwords.specs.Causes
+pub use Rattle.sysregs.specs.Refused
+pub use Rattle.walk_spec.specs.Fresh
+pub use Rattle.dump_file.specs.Held
+pub use Rattle.explain_text.specs.Written
+pub use Rattle.commands.specs.Command
+pub use Rattle.statuses.specs.Stops
+pub use Rattle.run_answer.specs.Run
+pub mod Image
+pub mod Supplies
+pub mod Texts
+pub mod Raw
+pub mod Explain
+pub mod Keeping
+pub mod Answers
+pub mod Due

@@ -1,0 +1,81 @@
+-- A trace that is run while its report is written: what is written so far, and that each step has a text.
+use Rattle.std.proofs.Common.{◌≡◌, ℕ, zero, suc, ◌+◌, ◌≤◌, ◌^◌, List, [], ◌∷◌, ◌++◌, length, take, get_or, false, true, Option, Some, None, Result, Ok, Err, IsOk, IsErr, IfOk, refl, ap, sym, subst, append_assoc, ◌∙◌, arith}
+use Rattle.std.proofs.lemmas.List.{length-append}
+use Rattle.trails.specs.declared.outcome.Outcome.{Outcome}
+use Rattle.trails.specs.declared.outcome.Outcome.TheVariants.{Mapped, Faulted, Absent, Conflict}
+use Rattle.trails.specs.declared.step.Answer.{Answer}
+use Rattle.trails.specs.declared.step.Step.{Step}
+use Rattle.trails.specs.declared.event.Event.{Event}
+use Rattle.explain_text.specs.Written.{Wrote}
+use Rattle.explain_text.specs.Explained.{HasText, printed}
+use Rattle.trace_lang.specs.Traces.{Parts, IsTrace}
+use Rattle.machine_spec.specs.Allowed.{is_conflict}
+use Rattle.machine_spec.specs.Header.{Header}
+use Rattle.machine_spec.specs.Machine.{World, opened, after_event, step_of, run_from, run_of}
+use Rattle.machine_laws.specs.Headline.{RunsAreAllowed}
+use Rattle.cpu_model.specs.Cores.{HasRunLine}
+use Rattle.machine.specs.Runs.{MachineState, IsTold, AreTold}
+use Rattle.machine.proofs.Steps.{all_of_cores}
+use Rattle.report_text.specs.Report.{report_text, IsPrintable, ArePrintable}
+use Rattle.report_text.specs.Waits.{Started}
+use Rattle.report_text.specs.Reports.{ReportState, IsReportOf, GoesOn}
+use Rattle.run_answer.specs.Run.{IsReport}
+
+has_text : (o : Outcome) → (is_conflict o ≡ false → HasRunLine o) → HasText (printed true o)
+has_text (Mapped pa perms mem sh) h = tt
+has_text (Faulted f) h = h refl
+has_text (Absent s level pa s1ptw) h = h refl
+has_text Conflict h = tt
+
+is_printable : (a : Option Answer) → IsTold a → IsPrintable a
+is_printable None h = tt
+is_printable (Some a) h = has_text a.outcome h
+
+pub are_printable : (log : List Step) → AreTold log → ArePrintable log
+are_printable log h = λ i d l. is_printable _ (h i d l)
+
+module _ (t : Parts) (limits : IsTrace t) {E : Type 0} where
+  -- what a machine answers before its first event
+  pub ready_report : RunsAreAllowed → (r : Result MachineState E) → IfOk r (λ m. m.trace ≡ t)
+      → IfOk r (λ m. IsReport t (report_text (run_of m.trace.header m.trace.events)))
+  ready_report laws (Ok m) e = record { limits = limits; is = ap (λ (u : Parts). report_text (run_of u.header u.events)) e; allowed = laws t.header t.events (all_of_cores t limits) }
+  ready_report laws (Err x) e = tt
+
+  pub ready_printable : (r : Result MachineState E) → IfOk r (λ m. m.trace ≡ t) → IfOk r (λ m. m.log ≡ [])
+      → IfOk r (λ m. (m.log ≡ []) × (length m.trace.events ≤ 2 ^ 32))
+  ready_printable (Ok m) e f = let same : length m.trace.events ≡ length t.events = ap (λ (u : Parts). length u.events) e in (f, omega (arith, same, limits.events))
+  ready_printable (Err x) e f = tt
+
+-- the run of some first events is a front of the whole run
+run_rest : (h : Header) (w : World) (n : ℕ) (events : List Event) → (more : List Step) × (run_from h w events ≡ run_from h w (take n events) ++ more)
+run_rest h w zero events = (run_from h w events, refl)
+run_rest h w (suc n) [] = ([], refl)
+run_rest h w (suc n) (e ∷ events) = let r = run_rest h (after_event h w e) n events in (r.0, ap (λ (log : List Step). step_of h w e ∷ log) r.1)
+
+-- one step more
+pub more : (new old : List Step) (s : Step) (n : ℕ) → new ≡ old ++ s ∷ [] → length old ≡ n → length new ≡ n + 1
+more new old s n e l = ap length e ∙ length-append old (s ∷ []) ∙ ap (λ k. k + 1) l
+
+-- a report that has the steps so far has one more, or a first part of the whole was written
+module _ {T E : Type 0} (before now : Option (List ℕ)) (report : ReportState) (h : Header) (events : List Event) (old new : List Step) (s x : Step) (e : new ≡ old ++ s ∷ []) (d : x ≡ s) where
+  pub one_more : (r : Result T E) → IsOk r → GoesOn before now r report old x → IsReportOf before now report new
+  one_more (Ok y) k g = subst (IsReportOf before now report) (ap (λ (z : Step). old ++ z ∷ []) d ∙ sym e) g
+  one_more (Err y) k g = cc
+
+  pub part_written : {U F : Type 0} (n : ℕ) → new ≡ run_of h (take n events) → (r : Result T E) (q : Result U F) → IsErr r → IsErr q → GoesOn before now r report old x
+      → Wrote before now q (report_text (run_of h events))
+  part_written n is (Ok y) q k l g = cc
+  part_written n is (Err y) (Ok z) k l g = cc
+  part_written n is (Err y) (Err z) k l g =
+      let rest = run_rest h (opened h) n events in
+      let whole : old ++ x ∷ rest.0 ≡ run_of h events =
+      sym (append_assoc old (x ∷ []) rest.0) ∙ ap (λ (log : List Step). log ++ rest.0) (ap (λ (z : Step). old ++ z ∷ []) d ∙ sym e ∙ is) ∙ sym rest.1 in
+      subst (λ (log : List Step). Started before now (report_text log)) whole (g rest.0)
+
+-- the last step
+last_or : (old : List Step) (s d : Step) → get_or (old ++ s ∷ []) (length old) d ≡ s
+last_or [] s d = refl
+last_or (y ∷ old) s d = last_or old s d
+
+pub last_is : (new old : List Step) (s x : Step) (k : ℕ) → new ≡ old ++ s ∷ [] → length old ≡ k → x ≡ get_or new k x → x ≡ s
+last_is new old s x k e l h = h ∙ ap (λ (log : List Step). get_or log k x) e ∙ ap (λ n. get_or (old ++ s ∷ []) n x) (sym l) ∙ last_or old s x

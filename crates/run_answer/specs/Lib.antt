@@ -1,0 +1,5 @@
+pub use Rattle.bitwords.specs.Causes
+pub use Rattle.dump_file.specs.Held
+pub use Rattle.explain_text.specs.Written
+pub use Rattle.statuses.specs.Stops
+pub mod Run

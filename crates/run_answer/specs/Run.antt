@@ -1,0 +1,50 @@
+-- The text of a run. All of it is this project's own rule.
+use Rattle.std.specs.Prelude.{ℕ, ◌≡◌, ◌≤◌, ◌^◌, List, [], length, take, Ok}
+use Rattle.bitwords.specs.Causes.{Rose}
+use Rattle.dump_file.specs.Held.{Holding, Untold, Absent, Bytes}
+use Rattle.trace_lang.specs.Traces.{Parts, IsTrace}
+use Rattle.trace_lang.specs.Limits.{IsBuilt}
+use Rattle.trace_lang.specs.Lines.{trace_of}
+use Rattle.machine_spec.specs.Allowed.{AllAllowed}
+use Rattle.machine_spec.specs.Machine.{run_of}
+use Rattle.machine.specs.Runs.{MachineState}
+use Rattle.report_text.specs.Report.{report_text}
+use Rattle.statuses.specs.declared.status.Status.{Status}
+use Rattle.statuses.specs.declared.status.Status.TheVariants.{ReadFault, NoMemory}
+
+-- the trace that a file is; of one that isn't told, some trace
+abbrev pub IsTraceOf : (held : Holding) (trace : Parts) → Type 0
+IsTraceOf Untold t = IsBuilt t.header
+IsTraceOf Absent t = ⊥
+IsTraceOf (Bytes bytes) t = trace_of bytes ≡ Ok t
+
+-- what came of a file that was read from its beginning into so much room
+abbrev pub IsWhole : (held : Holding) (room : ℕ) (bytes : List ℕ) → Type 0
+IsWhole Untold room bytes = Unit {0}
+IsWhole Absent room bytes = bytes ≡ []
+IsWhole (Bytes all) room bytes = bytes ≡ take room all
+
+-- a read failed, or memory was refused
+abbrev pub FailsBy : (before now : ℕ) (status : Status) → Type 0
+FailsBy before now ReadFault = Rose before now
+FailsBy before now NoMemory = Unit {0}
+FailsBy before now status = ⊥
+
+-- The report of the run of a trace, each step of which is allowed: an answer is what the walk gives on a kept trail, the word
+-- that memory lacks behind one, or a conflict of two kept trails. The trace alone determines it.
+pub record IsReport (trace : Parts) (text : List ℕ) : Type 0 where
+  pub limits : IsTrace trace
+  pub is : text ≡ report_text (run_of trace.header trace.events)
+  pub allowed : AllAllowed trace.header (run_of trace.header trace.events)
+
+-- the text of a run over the trace that a file is
+abbrev pub IsRunText : (held : Holding) (text : List ℕ) → Type 0
+IsRunText held text = (t : Parts) × IsTraceOf held t × IsReport t text
+
+-- the report of the run of a machine's trace
+abbrev pub run_text : MachineState → List ℕ
+run_text machine = report_text (run_of machine.trace.header machine.trace.events)
+
+-- a machine is before its first event, and its steps are counted in 32 bits
+abbrev pub IsReady : MachineState → Type 0
+IsReady machine = (machine.log ≡ []) × (length machine.trace.events ≤ 2 ^ 32)

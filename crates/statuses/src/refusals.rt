@@ -1,0 +1,213 @@
+ghost use Rattle.std.specs.Prelude.{◌≡◌, ◌≤◌, ◌+◌, ◌++◌, length};
+ghost use Rattle.bitwords.specs.Causes.{HasCause};
+ghost use Rattle.explain_text.specs.Written.{Wrote};
+ghost use Rattle.texts.specs.declared.line.TheConstants.{LINE};
+ghost use Rattle.statuses.specs.ErrText.{field_name_text, registers_text, wrong_text, dump_text, line_why, word_why, trace_text, why_text, line_text, err_text};
+
+use crate::status::{Status, Why};
+use dump_file::{DumpField, DumpRefusal};
+use explain_text::{Sink, WriteFailed};
+use reg_file::RegRefusal;
+use sysregs::Unsupported;
+use texts::Line;
+use trace_lang::TraceRefusal;
+
+/// `REG.FIELD`.
+fn field_name(line: &mut Line, at: &Unsupported)
+    requires { 13 + length line.old ≤ LINE }
+    ensures text { line.new ≡ field_name_text at.now ++ line.old }
+    ensures room { length line.new ≤ 13 + length line.old }
+{
+    line.text(at.field.name().as_bytes());
+    line.text(b".");
+    line.text(at.reg.name().as_bytes());
+}
+
+/// Why a register file is refused.
+fn registers(line: &mut Line, why: &RegRefusal)
+    requires { 72 + length line.old ≤ LINE }
+    ensures text { line.new ≡ registers_text why.now ++ line.old }
+    ensures room { length line.new ≤ 72 + length line.old }
+{
+    match why {
+        RegRefusal::TooLarge { .. } => line.text(b"too large"),
+        RegRefusal::NotToml => line.text(b"not toml"),
+        RegRefusal::Unknown { key } => {
+            line.shown(key.text().as_bytes());
+            line.text(b"unknown ");
+        }
+        RegRefusal::Missing { reg } => {
+            line.text(reg.key().as_bytes());
+            line.text(b"missing ");
+        }
+        RegRefusal::BadValue { reg } => {
+            line.text(reg.key().as_bytes());
+            line.text(b"bad value ");
+        }
+        RegRefusal::Unsupported { at } => {
+            field_name(line, at);
+            line.text(b"unsupported ");
+        }
+    }
+}
+
+/// What is wrong with the kind of a dump.
+fn wrong(line: &mut Line, field: DumpField)
+    requires { 16 + length line.old ≤ LINE }
+    ensures text { line.new ≡ wrong_text field ++ line.old }
+    ensures room { length line.new ≤ 16 + length line.old }
+{
+    match field {
+        DumpField::Class => line.text(b"wrong class"),
+        DumpField::Encoding => line.text(b"wrong encoding"),
+        DumpField::Kind => line.text(b"wrong kind"),
+        DumpField::Machine => line.text(b"wrong machine"),
+        DumpField::EntrySize => line.text(b"wrong entry size"),
+    }
+}
+
+/// Why a dump is refused.
+fn dump(line: &mut Line, why: DumpRefusal)
+    requires { 37 + length line.old ≤ LINE }
+    ensures text { line.new ≡ dump_text why ++ line.old }
+    ensures room { length line.new ≤ 37 + length line.old }
+{
+    match why {
+        DumpRefusal::NotElf => line.text(b"not elf"),
+        DumpRefusal::WrongKind { field } => wrong(line, field),
+        DumpRefusal::BadTable => line.text(b"bad table"),
+        DumpRefusal::TooMany => line.text(b"too many segments"),
+        DumpRefusal::PastEnd { segment } => {
+            line.text(b" past end");
+            line.decimal(segment as u64);
+            line.text(b"segment ");
+        }
+    }
+}
+
+/// A refusal of a line of a trace.
+fn trace_line(line: &mut Line, number: u32, text: &[u8])
+    requires { 27 + length text.now + length line.old ≤ LINE }
+    ensures text { line.new ≡ line_why number text.now ++ line.old }
+    ensures room { length line.new ≤ 27 + length text.now + length line.old }
+{
+    line.text(text);
+    line.text(b": ");
+    line.decimal(number as u64);
+    line.text(b"line ");
+}
+
+/// A refusal of a word of a line.
+fn trace_word(line: &mut Line, number: u32, text: &[u8], place: u32)
+    requires { 48 + length text.now + length line.old ≤ LINE }
+    ensures text { line.new ≡ word_why number text.now place ++ line.old }
+    ensures room { length line.new ≤ 48 + length text.now + length line.old }
+{
+    line.decimal(place as u64);
+    line.text(b" ");
+    trace_line(line, number, text);
+}
+
+/// Why a trace is refused.
+fn trace(line: &mut Line, why: &TraceRefusal)
+    requires { 60 + length line.old ≤ LINE }
+    ensures text { line.new ≡ trace_text why.now ++ line.old }
+    ensures room { length line.new ≤ 60 + length line.old }
+{
+    match *why {
+        TraceRefusal::TooLarge { .. } => line.text(b"too large"),
+        TraceRefusal::NotText { line: n } => trace_line(line, n, b"not text"),
+        TraceRefusal::LongLine { line: n } => trace_line(line, n, b"long line"),
+        TraceRefusal::BadWord { line: n, place } => trace_word(line, n, b"bad word", place),
+        TraceRefusal::BadNumber { line: n, place } => trace_word(line, n, b"bad number", place),
+        TraceRefusal::OutOfRange { line: n, place } => {
+            trace_word(line, n, b"out of range", place)
+        }
+        TraceRefusal::Unsupported { line: n, at } => {
+            field_name(line, &at);
+            trace_line(line, n, b"unsupported ");
+        }
+        TraceRefusal::NotAtEl1 { line: n } => trace_line(line, n, b"not at el1"),
+        TraceRefusal::TooMany { line: n } => trace_line(line, n, b"too many"),
+        TraceRefusal::NoHeader => line.text(b"no header"),
+        TraceRefusal::NoEnd => line.text(b"no end"),
+        TraceRefusal::AfterEnd { line: n } => trace_line(line, n, b"after end"),
+    }
+}
+
+/// What is refused, and why.
+fn refused(line: &mut Line, why: &Why)
+    requires { 83 + length line.old ≤ LINE }
+    ensures text { line.new ≡ why_text why.now ++ line.old }
+    ensures room { length line.new ≤ 83 + length line.old }
+{
+    match why {
+        Why::Word { at } => {
+            field_name(line, at);
+            line.text(b"raw: unsupported ");
+        }
+        Why::Regs { why } => {
+            registers(line, why);
+            line.text(b"registers: ");
+        }
+        Why::Dump { why } => {
+            dump(line, *why);
+            line.text(b"dump: ");
+        }
+        Why::Trace { why } => {
+            trace(line, why);
+            line.text(b"trace: ");
+        }
+    }
+}
+
+/// A line that is one fixed text.
+fn static_line<E: Sink>(err: &mut E, text: &[u8]) -> Result<(), WriteFailed>
+    ensures text { Wrote (E.written err.old) (E.written err.new) result text.now }
+    ensures cause { HasCause (E.faults err.old) (E.faults err.new) result }
+{
+    err.put(text)
+}
+
+/// The line for a file that is not there.
+fn no_file_line<E: Sink>(err: &mut E, name: &str) -> Result<(), WriteFailed>
+    ensures text { Wrote (E.written err.old) (E.written err.new) result (err_text (Status.NoFile name.now)) }
+    ensures cause { HasCause (E.faults err.old) (E.faults err.new) result }
+{
+    let mut line = Line::new();
+    line.text(b"\n");
+    line.shown(name.as_bytes());
+    line.text(b"vmsa: no file ");
+    err.put(line.bytes())
+}
+
+/// The line for what is refused.
+fn refused_line<E: Sink>(err: &mut E, why: &Why) -> Result<(), WriteFailed>
+    ensures text { Wrote (E.written err.old) (E.written err.new) result (err_text (Status.Refused why.now)) }
+    ensures cause { HasCause (E.faults err.old) (E.faults err.new) result }
+{
+    let mut line = Line::new();
+    line.text(b"\n");
+    refused(&mut line, why);
+    line.text(b"vmsa: ");
+    err.put(line.bytes())
+}
+
+/// How the program is called: a line for each command.
+const USAGE: &[u8] =
+    b"usage: vmsa raw IMAGE TCR TTBR0 VA\nusage: vmsa explain REGS DUMP VA EL KIND [pan]\nusage: vmsa run TRACE\n";
+
+/// The lines of a status. Done and WriteFault have none.
+pub fn error_line<E: Sink>(err: &mut E, status: &Status) -> Result<(), WriteFailed>
+    ensures text { Wrote (E.written err.old) (E.written err.new) result (err_text status.now) }
+    ensures cause { HasCause (E.faults err.old) (E.faults err.new) result }
+{
+    match status {
+        Status::Done | Status::WriteFault => Ok(()),
+        Status::Usage => static_line(err, USAGE),
+        Status::NoFile { name } => no_file_line(err, name.text()),
+        Status::Refused { why } => refused_line(err, why),
+        Status::ReadFault => static_line(err, b"vmsa: read fault\n"),
+        Status::NoMemory => static_line(err, b"vmsa: out of memory\n"),
+    }
+}
