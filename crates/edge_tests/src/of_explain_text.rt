@@ -138,72 +138,78 @@ const WRITE_ONLY: Cache = Cache::Wb {
     write: true,
 };
 
-fn normal(outer: Cache, inner: Cache, tagged: bool) -> MemType {
-    MemType::Normal {
-        outer,
-        inner,
-        tagged,
-    }
-}
+/// Where an access goes and what it may do there, the rights being R0, W0, X0, R1, W1 and X1 from bit 0 up; and the line.
+const MAPPED: [(u64, u8, MemType, Share, &str); 7] = [
+    (
+        0x5abc,
+        0b011_011,
+        MemType::Normal {
+            outer: CACHED,
+            inner: CACHED,
+            tagged: false,
+        },
+        Share::Ish,
+        "mapped 0x5abc el0 rw- el1 rw- normal outer wb+r+w inner wb+r+w ish\n",
+    ),
+    (
+        0x2_0000_0005_1234,
+        0b111_100,
+        MemType::Device {
+            kind: Device::NGnRnE,
+        },
+        Share::Osh,
+        "mapped 0x2000000051234 el0 --x el1 rwx device-nGnRnE osh\n",
+    ),
+    (
+        0,
+        0b100_001,
+        MemType::Device {
+            kind: Device::NGnRE,
+        },
+        Share::Osh,
+        "mapped 0x0 el0 r-- el1 --x device-nGnRE osh\n",
+    ),
+    (
+        1,
+        0b010_000,
+        MemType::Device { kind: Device::NGRE },
+        Share::Osh,
+        "mapped 0x1 el0 --- el1 -w- device-nGRE osh\n",
+    ),
+    (
+        2,
+        0b001_010,
+        MemType::Device { kind: Device::GRE },
+        Share::Osh,
+        "mapped 0x2 el0 -w- el1 r-- device-GRE osh\n",
+    ),
+    (
+        u64::MAX,
+        0b111_111,
+        MemType::Normal {
+            outer: WRITE_ONLY,
+            inner: READ_ONLY,
+            tagged: true,
+        },
+        Share::Nsh,
+        "mapped 0xffffffffffffffff el0 rwx el1 rwx normal outer wb+w+t inner wt+r+t tagged nsh\n",
+    ),
+    (
+        3,
+        0,
+        MemType::Normal {
+            outer: READ_ONLY,
+            inner: Cache::Nc,
+            tagged: false,
+        },
+        Share::Ish,
+        "mapped 0x3 el0 --- el1 --- normal outer wt+r+t inner nc ish\n",
+    ),
+];
 
-fn device(kind: Device) -> MemType {
-    MemType::Device { kind }
-}
-
-/// The rights are R0, W0, X0, R1, W1 and X1 from bit 0 up.
 #[test]
 fn prints_where_an_access_goes(rt: HostRuntime) {
-    for (pa, rights, mem, sh, expected) in [
-        (
-            0x5abc,
-            0b011_011,
-            normal(CACHED, CACHED, false),
-            Share::Ish,
-            "mapped 0x5abc el0 rw- el1 rw- normal outer wb+r+w inner wb+r+w ish\n",
-        ),
-        (
-            0x2_0000_0005_1234,
-            0b111_100,
-            device(Device::NGnRnE),
-            Share::Osh,
-            "mapped 0x2000000051234 el0 --x el1 rwx device-nGnRnE osh\n",
-        ),
-        (
-            0,
-            0b100_001,
-            device(Device::NGnRE),
-            Share::Osh,
-            "mapped 0x0 el0 r-- el1 --x device-nGnRE osh\n",
-        ),
-        (
-            1,
-            0b010_000,
-            device(Device::NGRE),
-            Share::Osh,
-            "mapped 0x1 el0 --- el1 -w- device-nGRE osh\n",
-        ),
-        (
-            2,
-            0b001_010,
-            device(Device::GRE),
-            Share::Osh,
-            "mapped 0x2 el0 -w- el1 r-- device-GRE osh\n",
-        ),
-        (
-            u64::MAX,
-            0b111_111,
-            normal(WRITE_ONLY, READ_ONLY, true),
-            Share::Nsh,
-            "mapped 0xffffffffffffffff el0 rwx el1 rwx normal outer wb+w+t inner wt+r+t tagged nsh\n",
-        ),
-        (
-            3,
-            0,
-            normal(READ_ONLY, Cache::Nc, false),
-            Share::Ish,
-            "mapped 0x3 el0 --- el1 --- normal outer wt+r+t inner nc ish\n",
-        ),
-    ] {
+    for &(pa, rights, mem, sh, expected) in MAPPED.as_slice() {
         let mut out = QuietMemory::new(rt.alloc());
         let perms = Perms::from_bits_retain(rights);
         let outcome = Outcome::Mapped { pa, perms, mem, sh };
@@ -212,35 +218,55 @@ fn prints_where_an_access_goes(rt: HostRuntime) {
     }
 }
 
-fn access(va: u64, el: El, kind: Kind, pan: bool) -> Access {
-    Access { va, el, kind, pan }
-}
+const READ: Access = Access {
+    va: 0x4020_1abc,
+    el: El::El1,
+    kind: Kind::Read,
+    pan: false,
+};
+
+/// The words before an access, the access, its ASID and VMID, and the line.
+const ACCESSES: [(&str, Access, u16, u16, &str); 3] = [
+    (
+        "access",
+        Access {
+            va: 0xb400_0000_4020_1abc,
+            el: El::El0,
+            ..READ
+        },
+        0x1234,
+        0,
+        "access 0xb400000040201abc el0 read asid 0x1234 vmid 0x0",
+    ),
+    (
+        "7 core 1 access",
+        Access {
+            va: 0,
+            kind: Kind::Write,
+            pan: true,
+            ..READ
+        },
+        0,
+        0xab,
+        "7 core 1 access 0x0 el1 write pan asid 0x0 vmid 0xab",
+    ),
+    (
+        "",
+        Access {
+            va: u64::MAX,
+            kind: Kind::Fetch,
+            pan: true,
+            ..READ
+        },
+        u16::MAX,
+        u16::MAX,
+        " 0xffffffffffffffff el1 fetch pan asid 0xffff vmid 0xffff",
+    ),
+];
 
 #[test]
 fn prints_accesses(rt: HostRuntime) {
-    for (word, access, asid, vmid, expected) in [
-        (
-            "access",
-            access(0xb400_0000_4020_1abc, El::El0, Kind::Read, false),
-            0x1234,
-            0,
-            "access 0xb400000040201abc el0 read asid 0x1234 vmid 0x0",
-        ),
-        (
-            "7 core 1 access",
-            access(0, El::El1, Kind::Write, true),
-            0,
-            0xab,
-            "7 core 1 access 0x0 el1 write pan asid 0x0 vmid 0xab",
-        ),
-        (
-            "",
-            access(u64::MAX, El::El1, Kind::Fetch, true),
-            u16::MAX,
-            u16::MAX,
-            " 0xffffffffffffffff el1 fetch pan asid 0xffff vmid 0xffff",
-        ),
-    ] {
+    for &(word, access, asid, vmid, expected) in ACCESSES.as_slice() {
         let mut out = QuietMemory::new(rt.alloc());
         assert!(rt; access_line(&mut out, word, &access, asid, vmid).is_ok());
         assert!(rt; out.bytes.as_slice() == expected.as_bytes());
@@ -269,8 +295,7 @@ fn put_walk<O: Sink>(out: &mut O) -> Result<(), WriteFailed> {
         pa: 0x2008,
         s1ptw: false,
     };
-    let access = access(0x4020_1abc, El::El1, Kind::Read, false);
-    explain(out, &regs, &access, &outcome, &trail)
+    explain(out, &regs, &READ, &outcome, &trail)
 }
 
 #[test]

@@ -1,6 +1,6 @@
 use attributes::Share::{Ish, Nsh, Osh};
 use attributes::types::{alone, combine, mair, mmu_off, s2_attr, share};
-use attributes::{Cache, Device, MemType, laws};
+use attributes::{Cache, Device, MemType, Share, laws};
 
 fn letter(given: bool, name: u8) -> u8 {
     if given { name } else { b'-' }
@@ -121,39 +121,48 @@ fn codes_of_memory_types(rt: HostRuntime) {
     }
 }
 
+/// Type and shareability of stage 1 and of stage 2, and what both come to.
+const COMBINED: [(u8, Share, u32, Share, [u8; 9], Share); 8] = [
+    (0xff, Ish, 0b0110, Nsh, *b"N---T-RW-", Ish),
+    (0xff, Nsh, 0b0001, Nsh, *b"nGnRE    ", Osh),
+    (0x04, Ish, 0b0010, Nsh, *b"nGnRE    ", Osh),
+    (0x0c, Ish, 0b1111, Ish, *b"GRE      ", Osh),
+    (0xf0, Nsh, 0b1111, Ish, *b"B-RWB-RWG", Ish),
+    (0xf0, Nsh, 0b1011, Nsh, *b"T-RWB-RW-", Nsh),
+    (0x7e, Ish, 0b0101, Ish, *b"N---N----", Osh),
+    (0x1b, Ish, 0b1111, Osh, *b"Tt-WT-RW-", Osh),
+];
+
 #[test]
 fn both_stages_combine(rt: HostRuntime) {
-    for (byte, share1, code, share2, want, wider) in [
-        (0xff, Ish, 0b0110, Nsh, *b"N---T-RW-", Ish),
-        (0xff, Nsh, 0b0001, Nsh, *b"nGnRE    ", Osh),
-        (0x04, Ish, 0b0010, Nsh, *b"nGnRE    ", Osh),
-        (0x0c, Ish, 0b1111, Ish, *b"GRE      ", Osh),
-        (0xf0, Nsh, 0b1111, Ish, *b"B-RWB-RWG", Ish),
-        (0xf0, Nsh, 0b1011, Nsh, *b"T-RWB-RW-", Nsh),
-        (0x7e, Ish, 0b0101, Ish, *b"N---N----", Osh),
-        (0x1b, Ish, 0b1111, Osh, *b"Tt-WT-RW-", Osh),
-    ] {
+    for &(byte, share1, code, share2, want, wider) in COMBINED.as_slice() {
         let (m, share) = combine(mair(byte), share1, s2_attr(code), share2);
         assert!(rt; (text(m), share) == (want, wider));
     }
 }
 
+/// Type and shareability of stage 1, and what they come to alone.
+const ALONE: [(u8, Share, [u8; 9], Share); 3] = [
+    (0x44, Nsh, *b"N---N----", Osh),
+    (0x4f, Nsh, *b"N---B-RW-", Nsh),
+    (0x08, Ish, *b"nGRE     ", Osh),
+];
+
+/// Whether it is a fetch, SCTLR_EL1.I, and the type while stage 1 is off.
+const WHILE_OFF: [(bool, bool, [u8; 9]); 4] = [
+    (false, false, *b"nGnRnE   "),
+    (false, true, *b"nGnRnE   "),
+    (true, false, *b"N---N----"),
+    (true, true, *b"T-R-T-R--"),
+];
+
 #[test]
 fn one_stage_alone_and_stage_1_off(rt: HostRuntime) {
-    for (byte, share1, want, raised) in [
-        (0x44, Nsh, *b"N---N----", Osh),
-        (0x4f, Nsh, *b"N---B-RW-", Nsh),
-        (0x08, Ish, *b"nGRE     ", Osh),
-    ] {
+    for &(byte, share1, want, raised) in ALONE.as_slice() {
         let (m, share) = alone(mair(byte), share1);
         assert!(rt; (text(m), share) == (want, raised));
     }
-    for (fetch, cached, want) in [
-        (false, false, *b"nGnRnE   "),
-        (false, true, *b"nGnRnE   "),
-        (true, false, *b"N---N----"),
-        (true, true, *b"T-R-T-R--"),
-    ] {
+    for &(fetch, cached, want) in WHILE_OFF.as_slice() {
         let (m, share) = mmu_off(fetch, cached);
         assert!(rt; (text(m), share) == (want, Osh));
     }

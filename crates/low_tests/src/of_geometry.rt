@@ -5,31 +5,34 @@ use geometry::{
     start_level1, start_level2, suits2,
 };
 
+/// TxSZ, and the start level of stage 1 with 4, 16 and 64 KB.
+const STARTS1: [(u32, Option<i8>, Option<i8>, Option<i8>); 21] = [
+    (11, None, None, None),
+    (12, None, None, Some(1)),
+    (15, None, None, Some(1)),
+    (16, Some(0), Some(0), Some(1)),
+    (17, Some(0), Some(1), Some(1)),
+    (21, Some(0), Some(1), Some(1)),
+    (22, Some(0), Some(1), Some(2)),
+    (24, Some(0), Some(1), Some(2)),
+    (25, Some(1), Some(1), Some(2)),
+    (27, Some(1), Some(1), Some(2)),
+    (28, Some(1), Some(2), Some(2)),
+    (33, Some(1), Some(2), Some(2)),
+    (34, Some(2), Some(2), Some(2)),
+    (35, Some(2), Some(2), Some(3)),
+    (38, Some(2), Some(2), Some(3)),
+    (39, Some(2), Some(3), Some(3)),
+    (42, Some(2), Some(3), Some(3)),
+    (43, Some(3), Some(3), Some(3)),
+    (47, Some(3), Some(3), Some(3)),
+    (48, Some(3), Some(3), None),
+    (49, None, None, None),
+];
+
 #[test]
 fn start_levels(rt: HostRuntime) {
-    for (txsz, four, sixteen, sixty_four) in [
-        (11, None, None, None),
-        (12, None, None, Some(1)),
-        (15, None, None, Some(1)),
-        (16, Some(0), Some(0), Some(1)),
-        (17, Some(0), Some(1), Some(1)),
-        (21, Some(0), Some(1), Some(1)),
-        (22, Some(0), Some(1), Some(2)),
-        (24, Some(0), Some(1), Some(2)),
-        (25, Some(1), Some(1), Some(2)),
-        (27, Some(1), Some(1), Some(2)),
-        (28, Some(1), Some(2), Some(2)),
-        (33, Some(1), Some(2), Some(2)),
-        (34, Some(2), Some(2), Some(2)),
-        (35, Some(2), Some(2), Some(3)),
-        (38, Some(2), Some(2), Some(3)),
-        (39, Some(2), Some(3), Some(3)),
-        (42, Some(2), Some(3), Some(3)),
-        (43, Some(3), Some(3), Some(3)),
-        (47, Some(3), Some(3), Some(3)),
-        (48, Some(3), Some(3), None),
-        (49, None, None, None),
-    ] {
+    for &(txsz, four, sixteen, sixty_four) in STARTS1.as_slice() {
         let found = (
             start_level1::<12>(txsz),
             start_level1::<14>(txsz),
@@ -39,14 +42,30 @@ fn start_levels(rt: HostRuntime) {
     }
 }
 
+/// SL0, and the start level of stage 2 with 4, 16 and 64 KB.
+const STARTS2: [(u32, Option<i8>, Option<i8>, Option<i8>); 4] = [
+    (0, Some(2), Some(3), Some(3)),
+    (1, Some(1), Some(2), Some(2)),
+    (2, Some(0), Some(1), Some(1)),
+    (3, Some(3), None, None),
+];
+
+/// Input sizes, and whether they suit a start at level 1, 2 and 2 with 4, 16 and 64 KB.
+const SUITED: [(u32, bool, bool, bool); 9] = [
+    (29, false, true, false),
+    (30, false, true, true),
+    (31, true, true, true),
+    (40, true, true, true),
+    (41, true, false, true),
+    (43, true, false, true),
+    (44, false, false, true),
+    (46, false, false, true),
+    (47, false, false, false),
+];
+
 #[test]
 fn start_levels_of_stage_2(rt: HostRuntime) {
-    for (sl0, four, sixteen, sixty_four) in [
-        (0, Some(2), Some(3), Some(3)),
-        (1, Some(1), Some(2), Some(2)),
-        (2, Some(0), Some(1), Some(1)),
-        (3, Some(3), None, None),
-    ] {
+    for &(sl0, four, sixteen, sixty_four) in STARTS2.as_slice() {
         let found = (
             start_level2::<12>(sl0, 1),
             start_level2::<14>(sl0, 1),
@@ -54,17 +73,7 @@ fn start_levels_of_stage_2(rt: HostRuntime) {
         );
         assert!(rt; found == (four, sixteen, sixty_four));
     }
-    for (size, four, sixteen, sixty_four) in [
-        (29, false, true, false),
-        (30, false, true, true),
-        (31, true, true, true),
-        (40, true, true, true),
-        (41, true, false, true),
-        (43, true, false, true),
-        (44, false, false, true),
-        (46, false, false, true),
-        (47, false, false, false),
-    ] {
+    for &(size, four, sixteen, sixty_four) in SUITED.as_slice() {
         let found = (
             suits2::<12>(1, size),
             suits2::<14>(2, size),

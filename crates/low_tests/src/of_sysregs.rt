@@ -49,61 +49,73 @@ fn of_side(fields: &Config, side: Side) -> [bool; 5] {
     ]
 }
 
+/// The value of one register, and the numbers that it gives.
+const NUMBERS: [(Reg, u64, [u32; 9]); 11] = [
+    (Reg::TcrEl1, 0x3f, [63, 0, 0, 0, 0, 0, 0, 0, 0]),
+    (Reg::TcrEl1, 0x3f_0000, [0, 63, 0, 0, 0, 0, 0, 0, 0]),
+    (Reg::TcrEl1, 0x3000, [0, 0, 3, 0, 0, 0, 0, 0, 0]),
+    (Reg::TcrEl1, 0x3000_0000, [0, 0, 0, 3, 0, 0, 0, 0, 0]),
+    (Reg::TcrEl1, 0x7_0000_0000, [0, 0, 0, 0, 7, 0, 0, 0, 0]),
+    (Reg::TcrEl1, 0xffff_fff8_cfc0_cfc0, [0; 9]),
+    (Reg::VtcrEl2, 0x3f, [0, 0, 0, 0, 0, 63, 0, 0, 0]),
+    (Reg::VtcrEl2, 0xc0, [0, 0, 0, 0, 0, 0, 3, 0, 0]),
+    (Reg::VtcrEl2, 0x2_0000_0000, [0, 0, 0, 0, 0, 0, 0, 1, 0]),
+    (Reg::VtcrEl2, 0x7_0000, [0, 0, 0, 0, 0, 0, 0, 0, 7]),
+    (Reg::VtcrEl2, 0xffff_fffd_fff8_ff00, [0; 9]),
+];
+
+/// The code of a granule, and what it means for the low and the high side.
+const GRANULES: [(u64, Tg, Tg); 4] = [
+    (0, Tg::K4, Tg::K4),
+    (1, Tg::K64, Tg::K16),
+    (2, Tg::K16, Tg::K4),
+    (3, Tg::K4, Tg::K64),
+];
+
 #[test]
 fn numbers_of_registers(rt: HostRuntime) {
-    for (reg, value, want) in [
-        (Reg::TcrEl1, 0x3f, [63, 0, 0, 0, 0, 0, 0, 0, 0]),
-        (Reg::TcrEl1, 0x3f_0000, [0, 63, 0, 0, 0, 0, 0, 0, 0]),
-        (Reg::TcrEl1, 0x3000, [0, 0, 3, 0, 0, 0, 0, 0, 0]),
-        (Reg::TcrEl1, 0x3000_0000, [0, 0, 0, 3, 0, 0, 0, 0, 0]),
-        (Reg::TcrEl1, 0x7_0000_0000, [0, 0, 0, 0, 7, 0, 0, 0, 0]),
-        (Reg::TcrEl1, 0xffff_fff8_cfc0_cfc0, [0; 9]),
-        (Reg::VtcrEl2, 0x3f, [0, 0, 0, 0, 0, 63, 0, 0, 0]),
-        (Reg::VtcrEl2, 0xc0, [0, 0, 0, 0, 0, 0, 3, 0, 0]),
-        (Reg::VtcrEl2, 0x2_0000_0000, [0, 0, 0, 0, 0, 0, 0, 1, 0]),
-        (Reg::VtcrEl2, 0x7_0000, [0, 0, 0, 0, 0, 0, 0, 0, 7]),
-        (Reg::VtcrEl2, 0xffff_fffd_fff8_ff00, [0; 9]),
-    ] {
+    for &(reg, value, want) in NUMBERS.as_slice() {
         assert!(rt; numbers(&config(&only(reg, value))) == want);
     }
-    for (code, low, high) in [
-        (0, Tg::K4, Tg::K4),
-        (1, Tg::K64, Tg::K16),
-        (2, Tg::K16, Tg::K4),
-        (3, Tg::K4, Tg::K64),
-    ] {
+    for &(code, low, high) in GRANULES.as_slice() {
         let both = config(&only(Reg::TcrEl1, code << 14 | code << 30));
         let second = config(&only(Reg::VtcrEl2, code << 14));
         assert!(rt; (both.tg(Side::Low), both.tg(Side::High), second.tg2) == (low, high, low));
     }
 }
 
+/// A switch, its register and its bit.
+const SWITCHES: [(usize, Reg, u32); 10] = [
+    (0, Reg::SctlrEl1, 0),
+    (1, Reg::SctlrEl1, 12),
+    (2, Reg::SctlrEl1, 19),
+    (3, Reg::SctlrEl1, 57),
+    (4, Reg::HcrEl2, 0),
+    (5, Reg::HcrEl2, 2),
+    (6, Reg::VtcrEl2, 21),
+    (7, Reg::VtcrEl2, 22),
+    (8, Reg::TcrEl1, 39),
+    (9, Reg::TcrEl1, 40),
+];
+
+/// A field of `TCR_EL1` that each side has, and its bit for the low and the high side.
+const SIDES: [(usize, u64, u64); 5] = [
+    (0, 0x80, 0x80_0000),
+    (1, 0x20_0000_0000, 0x40_0000_0000),
+    (2, 0x200_0000_0000, 0x400_0000_0000),
+    (3, 0x8_0000_0000_0000, 0x10_0000_0000_0000),
+    (4, 0x80_0000_0000_0000, 0x100_0000_0000_0000),
+];
+
 #[test]
 fn switches_of_registers(rt: HostRuntime) {
-    for (place, reg, bit) in [
-        (0, Reg::SctlrEl1, 0),
-        (1, Reg::SctlrEl1, 12),
-        (2, Reg::SctlrEl1, 19),
-        (3, Reg::SctlrEl1, 57),
-        (4, Reg::HcrEl2, 0),
-        (5, Reg::HcrEl2, 2),
-        (6, Reg::VtcrEl2, 21),
-        (7, Reg::VtcrEl2, 22),
-        (8, Reg::TcrEl1, 39),
-        (9, Reg::TcrEl1, 40),
-    ] {
+    for &(place, reg, bit) in SWITCHES.as_slice() {
         let fields = config(&only(reg, 1 << bit));
         for (other, on) in switches(&fields).iter().enumerate() {
             assert!(rt; *on == (other == place));
         }
     }
-    for (place, low, high) in [
-        (0, 0x80, 0x80_0000),
-        (1, 0x20_0000_0000, 0x40_0000_0000),
-        (2, 0x200_0000_0000, 0x400_0000_0000),
-        (3, 0x8_0000_0000_0000, 0x10_0000_0000_0000),
-        (4, 0x80_0000_0000_0000, 0x100_0000_0000_0000),
-    ] {
+    for &(place, low, high) in SIDES.as_slice() {
         for (w, on, off) in [(low, Side::Low, Side::High), (high, Side::High, Side::Low)] {
             let fields = config(&only(Reg::TcrEl1, w));
             for (other, found) in of_side(&fields, on).iter().enumerate() {
@@ -115,6 +127,18 @@ fn switches_of_registers(rt: HostRuntime) {
     let fields = config(&only(Reg::TcrEl1, 0x1a_0019));
     assert!(rt; (fields.txsz(Side::Low), fields.txsz(Side::High)) == (25, 26));
 }
+
+/// The code of a size, and the bits that it means with 4 or 16 KB and with 64 KB.
+const OUTPUTS: [(u32, u32, u32); 8] = [
+    (0, 32, 32),
+    (1, 36, 36),
+    (2, 40, 40),
+    (3, 42, 42),
+    (4, 44, 44),
+    (5, 48, 48),
+    (6, 48, 52),
+    (7, 48, 52),
+];
 
 #[test]
 fn identifiers_and_sizes(rt: HostRuntime) {
@@ -132,16 +156,7 @@ fn identifiers_and_sizes(rt: HostRuntime) {
         regs.set(Reg::VtcrEl2, vtcr);
         assert!(rt; (asid(&regs), vmid(&regs)) == want);
     }
-    for (code, four, sixty_four) in [
-        (0, 32, 32),
-        (1, 36, 36),
-        (2, 40, 40),
-        (3, 42, 42),
-        (4, 44, 44),
-        (5, 48, 48),
-        (6, 48, 52),
-        (7, 48, 52),
-    ] {
+    for &(code, four, sixty_four) in OUTPUTS.as_slice() {
         let found = (
             output_size(Tg::K4, code),
             output_size(Tg::K16, code),
@@ -181,32 +196,38 @@ fn bases_of_start_tables(rt: HostRuntime) {
     }
 }
 
+/// A register, and its bit that is refused.
+const REFUSED: [(Reg, u32, Field); 8] = [
+    (Reg::SctlrEl1, 25, Field::Ee),
+    (Reg::TcrEl1, 59, Field::Ds),
+    (Reg::HcrEl2, 12, Field::Dc),
+    (Reg::HcrEl2, 27, Field::Tge),
+    (Reg::HcrEl2, 32, Field::Cd),
+    (Reg::HcrEl2, 33, Field::Id),
+    (Reg::HcrEl2, 46, Field::Fwb),
+    (Reg::VtcrEl2, 32, Field::Ds),
+];
+
+/// A register with all bits that are not refused.
+const ACCEPTED: [(Reg, u64); 8] = [
+    (Reg::SctlrEl1, 0xffff_ffff_fdff_ffff),
+    (Reg::TcrEl1, 0xf7ff_ffff_ffff_ffff),
+    (Reg::Ttbr0El1, u64::MAX),
+    (Reg::Ttbr1El1, u64::MAX),
+    (Reg::MairEl1, u64::MAX),
+    (Reg::HcrEl2, 0xffff_bffc_f7ff_efff),
+    (Reg::VtcrEl2, 0xffff_fffe_ffff_ffff),
+    (Reg::VttbrEl2, u64::MAX),
+];
+
 #[test]
 fn refused_fields_and_equality(rt: HostRuntime) {
-    for (reg, bit, field) in [
-        (Reg::SctlrEl1, 25, Field::Ee),
-        (Reg::TcrEl1, 59, Field::Ds),
-        (Reg::HcrEl2, 12, Field::Dc),
-        (Reg::HcrEl2, 27, Field::Tge),
-        (Reg::HcrEl2, 32, Field::Cd),
-        (Reg::HcrEl2, 33, Field::Id),
-        (Reg::HcrEl2, 46, Field::Fwb),
-        (Reg::VtcrEl2, 32, Field::Ds),
-    ] {
+    for &(reg, bit, field) in REFUSED.as_slice() {
         let refused = Err(Unsupported { reg, field });
         let found = (check_reg(reg, 1 << bit), check_reg(reg, u64::MAX << bit));
         assert!(rt; found == (refused, refused));
     }
-    for (reg, value) in [
-        (Reg::SctlrEl1, 0xffff_ffff_fdff_ffff),
-        (Reg::TcrEl1, 0xf7ff_ffff_ffff_ffff),
-        (Reg::Ttbr0El1, u64::MAX),
-        (Reg::Ttbr1El1, u64::MAX),
-        (Reg::MairEl1, u64::MAX),
-        (Reg::HcrEl2, 0xffff_bffc_f7ff_efff),
-        (Reg::VtcrEl2, 0xffff_fffe_ffff_ffff),
-        (Reg::VttbrEl2, u64::MAX),
-    ] {
+    for &(reg, value) in ACCEPTED.as_slice() {
         assert!(rt; check_reg(reg, value) == Ok(()));
     }
     let fields = config(&Regs::zero());

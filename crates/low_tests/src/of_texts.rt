@@ -1,26 +1,29 @@
 use texts::{Line, number};
 
+/// A word, and its number.
+const NUMBERS: [(&str, Option<u64>); 17] = [
+    ("0", Some(0)),
+    ("0x0", Some(0)),
+    ("0xfFfFfFfFfFfFfFfF", Some(u64::MAX)),
+    ("18446744073709551615", Some(u64::MAX)),
+    ("00000000000000000012", Some(12)),
+    ("18446744073709551616", None),
+    ("99999999999999999999", None),
+    ("000000000000000000012", None),
+    ("0x00000000000000001", None),
+    ("", None),
+    ("0x", None),
+    ("0X1", None),
+    ("0xg", None),
+    ("1f", None),
+    ("+1", None),
+    ("-1", None),
+    (" 1", None),
+];
+
 #[test]
 fn reads_numbers(rt: HostRuntime) {
-    for (word, expected) in [
-        ("0", Some(0)),
-        ("0x0", Some(0)),
-        ("0xfFfFfFfFfFfFfFfF", Some(u64::MAX)),
-        ("18446744073709551615", Some(u64::MAX)),
-        ("00000000000000000012", Some(12)),
-        ("18446744073709551616", None),
-        ("99999999999999999999", None),
-        ("000000000000000000012", None),
-        ("0x00000000000000001", None),
-        ("", None),
-        ("0x", None),
-        ("0X1", None),
-        ("0xg", None),
-        ("1f", None),
-        ("+1", None),
-        ("-1", None),
-        (" 1", None),
-    ] {
+    for &(word, expected) in NUMBERS.as_slice() {
         assert!(rt; number(word.as_bytes()) == expected);
     }
 }

@@ -15,34 +15,45 @@ enum Act {
     Isb,
 }
 
-fn does(cpu: &mut Cpu, act: &Act) {
+fn does(cpu: &mut Cpu, act: Act) {
     match act {
-        Act::Write(value) => cpu.msr(Reg::Ttbr0El1, *value),
+        Act::Write(value) => cpu.msr(Reg::Ttbr0El1, value),
         Act::Settle => cpu.settle(),
         Act::Isb => cpu.isb(),
     }
 }
 
+/// What is done, and TTBR0_EL1 after it.
+const ACTS: [(Act, u64); 10] = [
+    (Act::Settle, 0),
+    (Act::Write(1), 0),
+    (Act::Settle, 1),
+    (Act::Write(2), 1),
+    (Act::Write(3), 1),
+    (Act::Settle, 2),
+    (Act::Write(4), 2),
+    (Act::Isb, 4),
+    (Act::Settle, 4),
+    (Act::Isb, 4),
+];
+
 #[test]
 fn writes_wait(rt: HostRuntime) -> Result<(), Fail> {
     let mut cpu = Cpu::opened(rt.alloc(), 0, Size::NoRows, Policy::Fifo)?;
-    for (act, ttbr0) in [
-        (Act::Settle, 0),
-        (Act::Write(1), 0),
-        (Act::Settle, 1),
-        (Act::Write(2), 1),
-        (Act::Write(3), 1),
-        (Act::Settle, 2),
-        (Act::Write(4), 2),
-        (Act::Isb, 4),
-        (Act::Settle, 4),
-        (Act::Isb, 4),
-    ] {
-        does(&mut cpu, &act);
+    for &(act, ttbr0) in ACTS.as_slice() {
+        does(&mut cpu, act);
         assert!(rt; cpu.regs().ttbr0_el1 == ttbr0);
     }
     Ok(())
 }
+
+/// What is done to a full queue, and TTBR0_EL1 after it.
+const FULL: [(Act, u64); 4] = [
+    (Act::Write(65), 1),
+    (Act::Write(66), 2),
+    (Act::Settle, 3),
+    (Act::Isb, 66),
+];
 
 #[test]
 fn oldest_write_leaves_a_full_queue(rt: HostRuntime) -> Result<(), Fail> {
@@ -51,13 +62,8 @@ fn oldest_write_leaves_a_full_queue(rt: HostRuntime) -> Result<(), Fail> {
         cpu.msr(Reg::Ttbr0El1, value);
         assert!(rt; cpu.regs().ttbr0_el1 == 0);
     }
-    for (act, ttbr0) in [
-        (Act::Write(65), 1),
-        (Act::Write(66), 2),
-        (Act::Settle, 3),
-        (Act::Isb, 66),
-    ] {
-        does(&mut cpu, &act);
+    for &(act, ttbr0) in FULL.as_slice() {
+        does(&mut cpu, act);
         assert!(rt; cpu.regs().ttbr0_el1 == ttbr0);
     }
     Ok(())

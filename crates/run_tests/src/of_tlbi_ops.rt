@@ -10,92 +10,98 @@ fn given(op: Op, at_el1: bool, operand: u64, hcr_el2: u64, tcr_el1: u64) -> Inva
     decode(op, false, at_el1, operand, &regs, 0, 0)
 }
 
+/// An operation at EL1, its operand, where its addresses start, how many bytes they have, and its granule.
+const ADDRESSES: [(Op, u64, u64, u64, Option<u32>); 18] = [
+    (Op::Rvaae1, 0x5180_0000_0100, 0x10_0000, 0x10_0000, Some(12)),
+    (
+        Op::Rvae1,
+        0x401f_ffff_ffff,
+        0xff_ffff_ffff_f000,
+        0x1000,
+        Some(12),
+    ),
+    (Op::Rvae1, 0x100, 0, 0, None),
+    (Op::Rvale1, 0x8000_0000_0001, 0x4000, 0x8000, Some(14)),
+    (
+        Op::Rvaale1,
+        0xff80_0000_0002,
+        0x2_0000,
+        0x20_0000_0000,
+        Some(16),
+    ),
+    (
+        Op::Ripas2e1,
+        0xc00f_ffff_ffff,
+        0xf_ffff_ffff_0000,
+        0x1_0000,
+        Some(16),
+    ),
+    (
+        Op::Ripas2e1,
+        0xc01f_ffff_ffff,
+        0x1f_ffff_ffff_0000,
+        0,
+        Some(16),
+    ),
+    (
+        Op::Ripas2le1,
+        0x4010_0000_0000,
+        0x1_0000_0000_0000,
+        0x2000,
+        Some(12),
+    ),
+    (
+        Op::Vae1,
+        0x1_0fff_ffff_ffff,
+        0xff_ffff_ffff_f000,
+        0x1000,
+        None,
+    ),
+    (Op::Vale1, 0x4_0201, 0x4020_1000, 0x1000, None),
+    (Op::Vaae1, 0x4_0201, 0x4020_1000, 0x1000, None),
+    (Op::Vaale1, 0x4_0201, 0x4020_1000, 0x1000, None),
+    (
+        Op::Ipas2e1,
+        0xff_ffff_ffff,
+        0xf_ffff_ffff_f000,
+        0x1000,
+        None,
+    ),
+    (Op::Ipas2le1, 0x100_0000_0001, 0x1000, 0x1000, None),
+    (Op::Vmalle1, 7, 0, 0x100_0000_0000_0000, None),
+    (Op::Aside1, 7, 0, 0x100_0000_0000_0000, None),
+    (Op::Vmalls12e1, 7, 0, 0x100_0000_0000_0000, None),
+    (Op::Alle1, 7, 0, 0x100_0000_0000_0000, None),
+];
+
 #[test]
 fn names_addresses(rt: HostRuntime) {
-    for (op, operand, start, count, granule) in [
-        (Op::Rvaae1, 0x5180_0000_0100, 0x10_0000, 0x10_0000, Some(12)),
-        (
-            Op::Rvae1,
-            0x401f_ffff_ffff,
-            0xff_ffff_ffff_f000,
-            0x1000,
-            Some(12),
-        ),
-        (Op::Rvae1, 0x100, 0, 0, None),
-        (Op::Rvale1, 0x8000_0000_0001, 0x4000, 0x8000, Some(14)),
-        (
-            Op::Rvaale1,
-            0xff80_0000_0002,
-            0x2_0000,
-            0x20_0000_0000,
-            Some(16),
-        ),
-        (
-            Op::Ripas2e1,
-            0xc00f_ffff_ffff,
-            0xf_ffff_ffff_0000,
-            0x1_0000,
-            Some(16),
-        ),
-        (
-            Op::Ripas2e1,
-            0xc01f_ffff_ffff,
-            0x1f_ffff_ffff_0000,
-            0,
-            Some(16),
-        ),
-        (
-            Op::Ripas2le1,
-            0x4010_0000_0000,
-            0x1_0000_0000_0000,
-            0x2000,
-            Some(12),
-        ),
-        (
-            Op::Vae1,
-            0x1_0fff_ffff_ffff,
-            0xff_ffff_ffff_f000,
-            0x1000,
-            None,
-        ),
-        (Op::Vale1, 0x4_0201, 0x4020_1000, 0x1000, None),
-        (Op::Vaae1, 0x4_0201, 0x4020_1000, 0x1000, None),
-        (Op::Vaale1, 0x4_0201, 0x4020_1000, 0x1000, None),
-        (
-            Op::Ipas2e1,
-            0xff_ffff_ffff,
-            0xf_ffff_ffff_f000,
-            0x1000,
-            None,
-        ),
-        (Op::Ipas2le1, 0x100_0000_0001, 0x1000, 0x1000, None),
-        (Op::Vmalle1, 7, 0, 0x100_0000_0000_0000, None),
-        (Op::Aside1, 7, 0, 0x100_0000_0000_0000, None),
-        (Op::Vmalls12e1, 7, 0, 0x100_0000_0000_0000, None),
-        (Op::Alle1, 7, 0, 0x100_0000_0000_0000, None),
-    ] {
+    for &(op, operand, start, count, granule) in ADDRESSES.as_slice() {
         let inval = given(op, true, operand, 0, 0);
         assert!(rt; (inval.start, inval.count, inval.granule) == (start, count, granule));
         assert!(rt; inval.op == op && !inval.broadcast);
     }
 }
 
+/// An operation, whether it is issued at EL1, its registers, and its ASID and whether it is broadcast, for one operand.
+const ASIDS: [(Op, bool, u64, u64, u16, bool); 12] = [
+    (Op::Vae1, true, 0x200, 0, 0x01, true),
+    (Op::Vae1, false, 0x200, 0, 0x01, false),
+    (Op::Vale1, true, 0, 0x10_0000_0000, 0x701, false),
+    (Op::Rvae1, true, 0x200, 0x10_0000_0000, 0x701, true),
+    (Op::Rvale1, true, 0x200, 0, 0x01, true),
+    (Op::Aside1, true, 0x200, 0x10_0000_0000, 0x701, true),
+    (Op::Vaae1, true, 0x200, 0x10_0000_0000, 0, true),
+    (Op::Vmalle1, true, 0x200, 0, 0, true),
+    (Op::Ipas2e1, true, 0x200, 0, 0, false),
+    (Op::Vmalls12e1, true, 0x200, 0, 0, false),
+    (Op::Alle1, true, 0x200, 0, 0, false),
+    (Op::Ripas2le1, true, 0x200, 0, 0, false),
+];
+
 #[test]
 fn names_asids_and_cores(rt: HostRuntime) {
-    for (op, at_el1, hcr_el2, tcr_el1, asid, broadcast) in [
-        (Op::Vae1, true, 0x200, 0, 0x01, true),
-        (Op::Vae1, false, 0x200, 0, 0x01, false),
-        (Op::Vale1, true, 0, 0x10_0000_0000, 0x701, false),
-        (Op::Rvae1, true, 0x200, 0x10_0000_0000, 0x701, true),
-        (Op::Rvale1, true, 0x200, 0, 0x01, true),
-        (Op::Aside1, true, 0x200, 0x10_0000_0000, 0x701, true),
-        (Op::Vaae1, true, 0x200, 0x10_0000_0000, 0, true),
-        (Op::Vmalle1, true, 0x200, 0, 0, true),
-        (Op::Ipas2e1, true, 0x200, 0, 0, false),
-        (Op::Vmalls12e1, true, 0x200, 0, 0, false),
-        (Op::Alle1, true, 0x200, 0, 0, false),
-        (Op::Ripas2le1, true, 0x200, 0, 0, false),
-    ] {
+    for &(op, at_el1, hcr_el2, tcr_el1, asid, broadcast) in ASIDS.as_slice() {
         let inval = given(op, at_el1, 0x701_0000_0004_0201, hcr_el2, tcr_el1);
         assert!(rt; (inval.asid, inval.broadcast) == (asid, broadcast));
     }
@@ -124,19 +130,24 @@ fn two_pages(op: Op) -> Inval {
     }
 }
 
-/// The page at a place, of VMID 2 and ASID 1.
-fn page(start: u64) -> Tag {
-    Tag {
-        start,
-        class: 12,
-        granule: 12,
-        asid: 1,
-        vmid: 2,
-        stage: Stage::S1,
-        table: false,
-        global: false,
-    }
-}
+/// The page at 0x4000, of VMID 2 and ASID 1.
+const PAGE: Tag = Tag {
+    start: 0x4000,
+    class: 12,
+    granule: 12,
+    asid: 1,
+    vmid: 2,
+    stage: Stage::S1,
+    table: false,
+    global: false,
+};
+
+/// The same of stage 2.
+const PAGE2: Tag = Tag {
+    asid: 0,
+    stage: Stage::S2,
+    ..PAGE
+};
 
 /// All operations.
 const ALL: [Op; 16] = [
@@ -170,93 +181,109 @@ fn takers(tag: &Tag) -> [u8; 16] {
 }
 
 /// Rows of stage 1, and what takes them.
+const ROWS1: [(Tag, &[u8; 16]); 11] = [
+    (PAGE, b"xxxxxx--xxxxxx--"),
+    (
+        Tag {
+            start: 0x5000,
+            ..PAGE
+        },
+        b"xxxxxx--xxxxxx--",
+    ),
+    (
+        Tag {
+            start: 0x3000,
+            ..PAGE
+        },
+        b"x----x--xx------",
+    ),
+    (
+        Tag {
+            start: 0x6000,
+            ..PAGE
+        },
+        b"x----x--xx------",
+    ),
+    (
+        Tag {
+            table: true,
+            ..PAGE
+        },
+        b"xxx--x--xxxx----",
+    ),
+    (
+        Tag {
+            global: true,
+            asid: 9,
+            ..PAGE
+        },
+        b"xxxxx---xxxxxx--",
+    ),
+    (Tag { asid: 9, ..PAGE }, b"x-x-x---xx-x-x--"),
+    (Tag { vmid: 3, ..PAGE }, b"---------x------"),
+    (
+        Tag {
+            class: 14,
+            granule: 14,
+            ..PAGE
+        },
+        b"xxxxxx--xx------",
+    ),
+    (
+        Tag {
+            start: 0,
+            class: 21,
+            ..PAGE
+        },
+        b"xxxxxx--xxxxxx--",
+    ),
+    (
+        Tag {
+            start: 0,
+            class: 64,
+            ..PAGE
+        },
+        b"xxxxxx--xxxxxx--",
+    ),
+];
+
 #[test]
 fn takes_rows_of_stage_1(rt: HostRuntime) {
-    let leaf = page(0x4000);
-    for (tag, want) in [
-        (leaf, b"xxxxxx--xxxxxx--"),
-        (page(0x5000), b"xxxxxx--xxxxxx--"),
-        (page(0x3000), b"x----x--xx------"),
-        (page(0x6000), b"x----x--xx------"),
-        (
-            Tag {
-                table: true,
-                ..leaf
-            },
-            b"xxx--x--xxxx----",
-        ),
-        (
-            Tag {
-                global: true,
-                asid: 9,
-                ..leaf
-            },
-            b"xxxxx---xxxxxx--",
-        ),
-        (Tag { asid: 9, ..leaf }, b"x-x-x---xx-x-x--"),
-        (Tag { vmid: 3, ..leaf }, b"---------x------"),
-        (
-            Tag {
-                class: 14,
-                granule: 14,
-                ..leaf
-            },
-            b"xxxxxx--xx------",
-        ),
-        (
-            Tag {
-                start: 0,
-                class: 21,
-                ..leaf
-            },
-            b"xxxxxx--xxxxxx--",
-        ),
-        (
-            Tag {
-                start: 0,
-                class: 64,
-                ..leaf
-            },
-            b"xxxxxx--xxxxxx--",
-        ),
-    ] {
+    for &(tag, want) in ROWS1.as_slice() {
         assert!(rt; takers(&tag) == *want);
     }
 }
 
-/// Rows of stage 2, ranges of no granule, and ranges of no address.
+/// Rows of stage 2, and what takes them.
+const ROWS2: [(Tag, &[u8; 16]); 4] = [
+    (PAGE2, b"------xxxx----xx"),
+    (
+        Tag {
+            table: true,
+            ..PAGE2
+        },
+        b"------x-xx----x-",
+    ),
+    (
+        Tag {
+            start: 0x6000,
+            ..PAGE2
+        },
+        b"--------xx------",
+    ),
+    (
+        Tag {
+            start: 0,
+            class: 30,
+            ..PAGE2
+        },
+        b"------xxxx----xx",
+    ),
+];
+
 #[test]
 fn takes_rows_of_stage_2(rt: HostRuntime) {
-    let leaf = Tag {
-        stage: Stage::S2,
-        asid: 0,
-        ..page(0x4000)
-    };
-    for (tag, want) in [
-        (leaf, b"------xxxx----xx"),
-        (
-            Tag {
-                table: true,
-                ..leaf
-            },
-            b"------x-xx----x-",
-        ),
-        (
-            Tag {
-                start: 0x6000,
-                ..leaf
-            },
-            b"--------xx------",
-        ),
-        (
-            Tag {
-                start: 0,
-                class: 30,
-                ..leaf
-            },
-            b"------xxxx----xx",
-        ),
-    ] {
+    for &(tag, want) in ROWS2.as_slice() {
         assert!(rt; takers(&tag) == *want);
     }
     let range = two_pages(Op::Rvaae1);
@@ -266,7 +293,7 @@ fn takes_rows_of_stage_2(rt: HostRuntime) {
                 granule: None,
                 ..range
             },
-            &page(0x4000)
+            &PAGE
         )
     );
     assert!(rt;
@@ -275,7 +302,7 @@ fn takes_rows_of_stage_2(rt: HostRuntime) {
             &Tag {
                 class: 30,
                 start: 0,
-                ..page(0)
+                ..PAGE
             }
         )
     );
