@@ -1,44 +1,25 @@
 -- A trace that is run while its report is written: what is written so far, and that each step has a text.
 use Rattle.std.proofs.Common.{◌≡◌, ℕ, zero, suc, ◌+◌, ◌≤◌, ◌^◌, List, [], ◌∷◌, ◌++◌, length, take, get_or, false, true, Option, Some, None, Result, Ok, Err, IsOk, IsErr, IfOk, refl, ap, sym, subst, append_assoc, ◌∙◌, arith}
 use Rattle.std.proofs.lemmas.List.{length-append}
-use Rattle.trails.specs.declared.outcome.Outcome.{Outcome}
-use Rattle.trails.specs.declared.outcome.Outcome.TheVariants.{Mapped, Faulted, Absent, Conflict}
-use Rattle.trails.specs.declared.step.Answer.{Answer}
 use Rattle.trails.specs.declared.step.Step.{Step}
 use Rattle.trails.specs.declared.event.Event.{Event}
 use Rattle.explain_text.specs.Written.{Wrote}
-use Rattle.explain_text.specs.Explained.{HasText, printed}
 use Rattle.trace_lang.specs.Traces.{Parts, IsTrace}
-use Rattle.machine_spec.specs.Allowed.{is_conflict}
 use Rattle.machine_spec.specs.Header.{Header}
 use Rattle.machine_spec.specs.Machine.{World, opened, after_event, step_of, run_from, run_of}
-use Rattle.machine_laws.specs.Headline.{RunsAreAllowed}
-use Rattle.cpu_model.specs.Cores.{HasRunLine}
-use Rattle.machine.specs.Runs.{MachineState, IsTold, AreTold}
+use Rattle.machine_laws.specs.Promise.{RunsKeepTheirPromise}
+use Rattle.machine.specs.Runs.{MachineState}
 use Rattle.machine.proofs.Steps.{all_of_cores}
-use Rattle.report_text.specs.Report.{report_text, IsPrintable, ArePrintable}
+use Rattle.report_text.specs.Report.{report_text}
 use Rattle.report_text.specs.Waits.{Started}
 use Rattle.report_text.specs.Reports.{ReportState, IsReportOf, GoesOn}
 use Rattle.run_answer.specs.Run.{IsReport}
 
-has_text : (o : Outcome) → (is_conflict o ≡ false → HasRunLine o) → HasText (printed true o)
-has_text (Mapped pa perms mem sh) h = tt
-has_text (Faulted f) h = h refl
-has_text (Absent s level pa s1ptw) h = h refl
-has_text Conflict h = tt
-
-is_printable : (a : Option Answer) → IsTold a → IsPrintable a
-is_printable None h = tt
-is_printable (Some a) h = has_text a.outcome h
-
-pub are_printable : (log : List Step) → AreTold log → ArePrintable log
-are_printable log h = λ i d l. is_printable _ (h i d l)
-
 module _ (t : Parts) (limits : IsTrace t) {E : Type 0} where
   -- what a machine answers before its first event
-  pub ready_report : RunsAreAllowed → (r : Result MachineState E) → IfOk r (λ m. m.trace ≡ t)
+  pub ready_report : RunsKeepTheirPromise → (r : Result MachineState E) → IfOk r (λ m. m.trace ≡ t)
       → IfOk r (λ m. IsReport t (report_text (run_of m.trace.header m.trace.events)))
-  ready_report laws (Ok m) e = record { limits = limits; is = ap (λ (u : Parts). report_text (run_of u.header u.events)) e; allowed = laws t.header t.events (all_of_cores t limits) }
+  ready_report laws (Ok m) e = record { limits = limits; is = ap (λ (u : Parts). report_text (run_of u.header u.events)) e; promise = laws t.header t.events (all_of_cores t limits) }
   ready_report laws (Err x) e = tt
 
   pub ready_printable : (r : Result MachineState E) → IfOk r (λ m. m.trace ≡ t) → IfOk r (λ m. m.log ≡ [])

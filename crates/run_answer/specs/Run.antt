@@ -5,8 +5,8 @@ use Rattle.dump_file.specs.Held.{Holding, Untold, Absent, Bytes}
 use Rattle.trace_lang.specs.Traces.{Parts, IsTrace}
 use Rattle.trace_lang.specs.Limits.{IsBuilt}
 use Rattle.trace_lang.specs.Lines.{trace_of}
-use Rattle.machine_spec.specs.Allowed.{AllAllowed}
 use Rattle.machine_spec.specs.Machine.{run_of}
+use Rattle.machine_laws.specs.Promise.{KeepsPromise}
 use Rattle.machine.specs.Runs.{MachineState}
 use Rattle.report_text.specs.Report.{report_text}
 use Rattle.statuses.specs.declared.status.Status.{Status}
@@ -30,12 +30,13 @@ FailsBy before now ReadFault = Rose before now
 FailsBy before now NoMemory = Unit {0}
 FailsBy before now status = ⊥
 
--- The report of the run of a trace, each step of which is allowed: an answer is what the walk gives on a kept trail, the word
--- that memory lacks behind one, or a conflict of two kept trails. The trace alone determines it.
+-- The report of the run of a trace, which keeps the promise: each answer is allowed, that is, what the walk gives on a kept trail,
+-- the word that memory lacks behind one, or a conflict of two kept trails; of an unchanged trail, and without rows, it is that of
+-- the fresh walk. The trace alone determines it.
 pub record IsReport (trace : Parts) (text : List ℕ) : Type 0 where
   pub limits : IsTrace trace
   pub is : text ≡ report_text (run_of trace.header trace.events)
-  pub allowed : AllAllowed trace.header (run_of trace.header trace.events)
+  pub promise : KeepsPromise trace.header (run_of trace.header trace.events)
 
 -- the text of a run over the trace that a file is
 abbrev pub IsRunText : (held : Holding) (text : List ℕ) → Type 0

@@ -13,7 +13,7 @@ use bitwords::NoMemory;
 use dump_file::{Files, fill_from};
 use explain_text::{Sink, WriteFailed};
 use machine::Machine;
-use machine_laws::runs_are_allowed;
+use machine_laws::runs_keep_their_promise;
 use report_text::Report;
 use statuses::{Status, no_file};
 use std::alloc::Global;
@@ -129,7 +129,7 @@ pub fn ready(alloc: Global, trace: Trace) -> Result<Machine, NoMemory>
     ensures report { IfOk result (λ m. IsReport trace (run_text m)) }
     ensures printable { IfOk result (λ m. IsReady m) }
 {
-    runs_are_allowed();
+    runs_keep_their_promise();
     Machine::opened(alloc, trace)
 }
 
