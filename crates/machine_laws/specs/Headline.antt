@@ -3,7 +3,7 @@
 use Rattle.std.specs.Prelude.{◌≡◌, ℕ, ◌<◌, false, List, length, take, slice_get, All, Option, Some, None}
 use Rattle.sysregs.specs.declared.regs.Regs.{Regs}
 use Rattle.trails.specs.declared.event.Event.{Event}
-use Rattle.trails.specs.declared.event.Event.TheVariants.{Store, Msr, Settle, Isb, Tlbi, Dsb, Deliver, Access as AccessOf, Prefetch}
+use Rattle.trails.specs.declared.event.Event.TheVariants.{Access as AccessOf, Prefetch}
 use Rattle.trails.specs.declared.outcome.Access.{Access}
 use Rattle.trails.specs.declared.step.Answer.{Answer}
 use Rattle.trails.specs.declared.step.Step.{Step}

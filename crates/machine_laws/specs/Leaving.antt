@@ -3,7 +3,7 @@ use Rattle.std.specs.Prelude.{◌≡◌, ◌⊎◌, ℕ, ◌<◌, true, false, n
 use Rattle.std.specs.Prelude.{◌++◌, length, slice_get, filter, take, Option, Some, None}
 use Rattle.std.specs.List.{list_any}
 use Rattle.trails.specs.declared.event.Event.{Event}
-use Rattle.trails.specs.declared.event.Event.TheVariants.{Store, Msr, Settle, Isb, Tlbi, Dsb, Deliver, Access as AccessOf, Prefetch}
+use Rattle.trails.specs.declared.event.Event.TheVariants.{Tlbi, Dsb, Deliver, Access as AccessOf, Prefetch}
 use Rattle.trails.specs.declared.outcome.Access.{Access}
 use Rattle.trace_lang.specs.declared.header.Policy.TheVariants.{Lru}
 use Rattle.tlbi_ops.specs.declared.inval.Inval.{Inval}

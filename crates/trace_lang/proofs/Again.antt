@@ -2,7 +2,7 @@
 use Rattle.std.proofs.Common.{◌≡◌, ℕ, ◌+◌, ◌*◌, ◌<◌, ◌≤◌, ◌^◌, true, false, not, ◌&&◌, List, [], ◌∷◌, ◌++◌, length, flat_map, Result, Ok, Err, refl, sym, ◌∙◌, ap, arith, subst, codes, append_assoc, append-nil, length-append}
 use Rattle.std.specs.Prelude.{decimal, nat_lt, nat_le, bytes_eq, take, All}
 use Rattle.std.specs.List.{slice_split, list_any}
-use Rattle.std.proofs.lemmas.Bool.{and_from, cond-false, not_from_false, lt-ltb, lt-leb, le-leb, le-ltb}
+use Rattle.std.proofs.lemmas.Bool.{and_from, cond-false, not_from_false, lt-leb, le-leb, le-ltb}
 use Rattle.std.proofs.lemmas.List.Elements.{All-head, All-tail}
 use Rattle.texts.specs.Numbers.{number_of}
 use Rattle.texts.specs.Texts.{hex_text}

@@ -9,10 +9,8 @@ use Rattle.trace_lang.specs.declared.refusals.Phase.TheVariants.{Cores, Ranges, 
 use Rattle.trace_lang.specs.declared.refusals.LineRefusal.{LineRefusal}
 use Rattle.trace_lang.specs.declared.refusals.LineRefusal.TheVariants.{NotText, LongLine, TooMany, NotAtEl1}
 use Rattle.trace_lang.specs.declared.refusals.TraceRefusal.{TraceRefusal}
-use Rattle.sysregs.specs.Ops.{form_of, has_operand}
-use Rattle.permissions.specs.AccessNames.{el_text, kind_text, el_of, kind_of}
-use Rattle.phys_mem.specs.Memory.{is_aligned}
-use Rattle.phys_mem.specs.Ranges.{is_range, share_byte, bytes_of}
+use Rattle.permissions.specs.AccessNames.{el_of, kind_of}
+use Rattle.phys_mem.specs.Ranges.{share_byte}
 use Rattle.trace_lang.specs.Traces.{Header, most_ranges, most_events, may_issue}
 use Rattle.trace_lang.specs.Words.{word_or, word_at, number_at, name_at, no_word_at, named, words_of, is_text, in_range}
 use Rattle.trace_lang.specs.Events.{Verb, store, msr, settle, isb, tlbi, dsb, deliver, access, event_of, event_by, core_at, place_at, operand_at, pan_at, verbs, reg_names, op_names, origins, barriers}
@@ -71,13 +69,13 @@ caches_built : (s : State) (ws : List (List ℕ)) → Builds s → IfOk (caches_
 caches_built s ws h =
     then_with (λ z. z ≡ NoRows) Builds (name_at (named sizes) ws 2) _ (name_is NoRows _ ws 2) (λ z e.
     then_any Builds (no_word_at ws 3) (λ _. Ok (with_header s PolicyDue (record s.trace.header { size = z }))) (λ _.
-        (record { size = e; policy = h.0.policy }, h.1)))
+    (record { size = e; policy = h.0.policy }, h.1)))
 
 policy_built : (s : State) (ws : List (List ℕ)) → Builds s → IfOk (policy_met s ws) Builds
 policy_built s ws h =
     then_with (λ p. p ≡ Fifo) Builds (name_at (named policies) ws 2) _ (name_is Fifo _ ws 2) (λ p e.
     then_any Builds (no_word_at ws 3) (λ _. Ok (with_header s Events (record s.trace.header { policy = p }))) (λ _.
-        (record { size = h.0.size; policy = e }, h.1)))
+    (record { size = h.0.size; policy = e }, h.1)))
 
 cores_built : (s : State) (ws : List (List ℕ)) → Builds s → IfOk (cores_met s ws) Builds
 cores_built s ws h =

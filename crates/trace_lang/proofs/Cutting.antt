@@ -43,7 +43,7 @@ pub all_behind : (p : ℕ → Bool) (xs : List ℕ) (i : ℕ) → i < length xs 
     list_all p xs ≡ list_all p (take (length xs - (i + 1)) (drop (i + 1) xs))
 all_behind p xs i h f t =
     all_here p xs i h f ∙ ap (λ b. b && list_all p (drop (suc i) xs)) t
-        ∙ ap (list_all p) (ap (λ (j : ℕ). drop j xs) (sym (add-one i)) ∙ sym (take_rest xs (i + 1)))
+    ∙ ap (list_all p) (ap (λ (j : ℕ). drop j xs) (sym (add-one i)) ∙ sym (take_rest xs (i + 1)))
 
 pub all_passed : (p : ℕ → Bool) (xs : List ℕ) → ((k : ℕ) → k < length xs → p (get_or xs k 0) ≡ true) → list_all p xs ≡ true
 all_passed p [] f = refl

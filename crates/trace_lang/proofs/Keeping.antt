@@ -16,9 +16,9 @@ use Rattle.trace_lang.specs.declared.refusals.LineRefusal.{LineRefusal}
 use Rattle.trace_lang.specs.declared.refusals.LineRefusal.TheVariants.{NotText, LongLine, OutOfRange, NotAtEl1, TooMany}
 use Rattle.trace_lang.specs.declared.refusals.TraceRefusal.{TraceRefusal}
 use Rattle.sysregs.specs.Ops.{form_of, has_operand}
-use Rattle.permissions.specs.AccessNames.{el_text, kind_text, el_of, kind_of}
+use Rattle.permissions.specs.AccessNames.{el_of, kind_of}
 use Rattle.phys_mem.specs.Memory.{is_aligned}
-use Rattle.phys_mem.specs.Ranges.{is_range, share_byte, bytes_of}
+use Rattle.phys_mem.specs.Ranges.{share_byte, bytes_of}
 use Rattle.trace_lang.specs.Traces.{Header, Parts, IsTrace, RangeFits, RangesFitBehind, EventFits, is_within, may_issue, most_cores, most_ranges, most_events, most_memory}
 use Rattle.trace_lang.specs.Words.{◌>>=◌, in_range, number_at, name_at, no_word_at, named, words_of, is_text}
 use Rattle.trace_lang.specs.Events.{Verb, store, msr, settle, isb, tlbi, dsb, deliver, access, event_of, event_by, core_at, place_at, operand_at, pan_at, supported_by, verbs, reg_names, op_names, origins, barriers}
@@ -179,16 +179,26 @@ range_keeps s ws t e l =
 caches_keeps : (s : State) (ws : List (List ℕ)) → IsTrace s.trace → s.trace.events ≡ [] → IfOk (caches_met s ws) KeepsLimits
 caches_keeps s ws t e =
     then_any KeepsLimits (name_at (named sizes) ws 2) _ (λ z.
-        then_any KeepsLimits (no_word_at ws 3) (λ _. Ok (with_header s PolicyDue (record s.trace.header { size = z }))) (λ _.
-    (without_events (record s.trace.header { size = z }) s.trace.events e record { some_cores = t.some_cores; cores = t.cores; count = t.count;
-    ranges = t.ranges }, e)))
+    then_any KeepsLimits (no_word_at ws 3) (λ _. Ok (with_header s PolicyDue (record s.trace.header { size = z }))) (λ _. (
+      without_events (record s.trace.header { size = z }) s.trace.events e record {
+        some_cores = t.some_cores;
+        cores = t.cores;
+        count = t.count;
+        ranges = t.ranges;
+      },
+      e,
+    )))
 
 policy_keeps : (s : State) (ws : List (List ℕ)) → IsTrace s.trace → s.trace.events ≡ [] → IfOk (policy_met s ws) KeepsLimits
 policy_keeps s ws t e =
     then_any KeepsLimits (name_at (named policies) ws 2) _ (λ p.
-        then_any KeepsLimits (no_word_at ws 3) (λ _. Ok (with_header s Events (record s.trace.header { policy = p }))) (λ _.
-    without_events (record s.trace.header { policy = p }) s.trace.events e record { some_cores = t.some_cores; cores = t.cores; count = t.count;
-        ranges = t.ranges }))
+    then_any KeepsLimits (no_word_at ws 3) (λ _. Ok (with_header s Events (record s.trace.header { policy = p }))) (λ _.
+    without_events (record s.trace.header { policy = p }) s.trace.events e record {
+      some_cores = t.some_cores;
+      cores = t.cores;
+      count = t.count;
+      ranges = t.ranges;
+    }))
 
 ranges_keep : (s : State) (w : List ℕ) (ws : List (List ℕ)) → IsTrace s.trace → s.trace.events ≡ [] → IfOk (ranges_met s w ws) KeepsLimits
 ranges_keep s w ws t e =

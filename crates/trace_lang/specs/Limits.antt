@@ -1,7 +1,7 @@
 -- What holds of a trace while its lines are read, and of one that its text gives back (this project's own rules).
 use Rattle.std.specs.Prelude.{◌≡◌, ◌<◌, ◌^◌, Bool, true, false, [], All}
 use Rattle.trails.specs.declared.event.Event.{Event}
-use Rattle.trails.specs.declared.event.Event.TheVariants.{Store, Msr, Settle, Isb, Tlbi, Dsb, Deliver, Access, Prefetch}
+use Rattle.trails.specs.declared.event.Event.TheVariants.{Store, Msr, Tlbi, Access, Prefetch}
 use Rattle.trace_lang.specs.declared.refusals.Phase.{Phase}
 use Rattle.trace_lang.specs.declared.refusals.Phase.TheVariants.{Cores, Ranges, Policy as PolicyDue, Events, Ended}
 use Rattle.trace_lang.specs.declared.header.Size.TheVariants.{NoRows}

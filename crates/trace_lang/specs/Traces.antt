@@ -1,6 +1,6 @@
 -- What a trace is, and its limits (this project's own rules).
-use Rattle.std.specs.Prelude.{◌≡◌, ℕ, ◌+◌, ◌%◌, ◌^◌, ◌<◌, ◌≤◌, Bool, true, false, ◌==◌, ◌&&◌, nat_lt, nat_le}
-use Rattle.std.specs.Prelude.{List, [], ◌∷◌, ◌++◌, length, fold, All, None}
+use Rattle.std.specs.Prelude.{◌≡◌, ℕ, ◌+◌, ◌^◌, ◌<◌, ◌≤◌, Bool, true, false}
+use Rattle.std.specs.Prelude.{List, [], ◌∷◌, ◌++◌, length, All, None}
 use Rattle.std.specs.List.{list_any}
 use Rattle.sysregs.specs.declared.regs.Op.{Op}
 use Rattle.sysregs.specs.Ops.{form_of, has_operand, is_of_el1}
