@@ -1,7 +1,7 @@
 ghost use Rattle.geometry.specs.Tables.{IsGranule};
 
 use geometry::{
-    block_allowed, case_table, entry_class, goes_to, index, leaf_class, place, run_class,
+    block_allowed, case_table, class_at, entry_class, goes_to, index, leaf_class, place, run_class,
     start_level1, start_level2, suits2,
 };
 
@@ -142,6 +142,7 @@ fn places_and_runs(rt: HostRuntime) {
         (leaf_class::<12>(33, 2, 0x4_0000_0000, true, 0x7000), 30),
         (leaf_class::<12>(48, 3, 0, true, 0x7000), 39),
         (leaf_class::<16>(48, 0, 0x21_0000, true, 0x7008), 21),
+        (class_at::<14>(2), 36),
     ] {
         assert!(rt; found == want);
     }
