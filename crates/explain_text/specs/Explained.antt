@@ -1,5 +1,5 @@
 -- The text of one access: its line, the items of its walk, and its outcome. Its form is this project's own rule.
-use Rattle.std.specs.Prelude.{ℕ, List, [], ◌∷◌, ◌++◌, Bool, true, false, flat_map, codes}
+use Rattle.std.specs.Prelude.{ℕ, List, [], ◌∷◌, ◌++◌, Bool, false, flat_map, codes}
 use Rattle.sysregs.specs.Registers.{asid_of, vmid_of}
 use Rattle.sysregs.specs.declared.regs.Regs.{Regs}
 use Rattle.permissions.specs.AccessNames.{el_text, kind_text}

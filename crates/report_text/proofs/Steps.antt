@@ -37,7 +37,7 @@ steps_on n x more = refl
 -- the lines of one more step are a first part of what each longer log has
 report_parts : (log : List Step) (x : Step) (more : List Step)
     → (steps_text 0 log ++ step_text (length log) x) ++ (steps_text (length log + 1) more ++ summary_text (summary (log ++ x ∷ more)))
-        ≡ report_text (log ++ x ∷ more)
+    ≡ report_text (log ++ x ∷ more)
 report_parts log x more =
     let end : List ℕ = summary_text (summary (log ++ x ∷ more)) in
     let place : 0 + length log ≡ length log = omega arith in
@@ -63,8 +63,8 @@ goes_on_by a b (Err y) old new x p counted steps before log h =
     let first : Started before b (steps_text 0 log ++ step_text (length log) x) =
     subst (λ (k : ℕ). Started before b (steps_text 0 log ++ step_text k x)) h.steps (p before (steps_text 0 log) h.text) in
     subst (Started before b) (report_parts log x more)
-        (started_in before b (steps_text 0 log ++ step_text (length log) x) (steps_text (length log + 1) more ++ summary_text (summary (log ++ x ∷ more)))
-        first)
+    (started_in before b (steps_text 0 log ++ step_text (length log) x) (steps_text (length log + 1) more ++ summary_text (summary (log ++ x ∷ more)))
+    first)
 
 -- the summary line ends the report
 pub ends_by : {T E : Type 0} (a b : Option (List ℕ)) (r : Result T E) (old : ReportState) (left : List ℕ) → OnOk r (left ≡ [])

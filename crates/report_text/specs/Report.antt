@@ -1,16 +1,14 @@
 -- The report of a run, from its log. Its form is this project's own rule.
 use Rattle.std.specs.Prelude.{ℕ, ◌+◌, List, [], ◌∷◌, ◌++◌, true, flat_map, codes, decimal, Option, Some, None}
-use Rattle.std.specs.List.{All}
 use Rattle.trails.specs.declared.item.Item.{Item}
 use Rattle.trails.specs.declared.outcome.Access.{Access}
 use Rattle.trails.specs.declared.event.Event.{Event}
-use Rattle.trails.specs.declared.event.Event.TheVariants.{Store, Msr, Settle, Isb, Tlbi, Dsb, Deliver, Access as AccessOf, Prefetch}
+use Rattle.trails.specs.declared.event.Event.TheVariants.{Access as AccessOf, Prefetch}
 use Rattle.trails.specs.declared.step.Answer.{Answer}
 use Rattle.trails.specs.declared.step.Step.{Step}
 use Rattle.texts.specs.Texts.{joined_text}
 use Rattle.explain_text.specs.Texts.{item_text}
 use Rattle.explain_text.specs.Explained.{access_text, outcome_text}
-use Rattle.trails.specs.Printed.{printed, HasText}
 use Rattle.machine_spec.specs.Summary.{Summary, summary}
 
 -- the line of an event, as `event 8 core 0 access 0x40201abc el1 read asid 0x0 vmid 0x0`: the number of its step, counted

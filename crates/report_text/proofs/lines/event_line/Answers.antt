@@ -14,7 +14,18 @@ by_parts n core word a asid vmid =
 
 pub returns-clause-text : goal.returns-clause-text
 returns-clause-text g c = same_text _ _ c.put.result _ _
-    (rw (c.bytes.ensures, c.text-5.ensures.text, c.decimal-2.ensures.text, c.text-4.ensures.text, c.decimal.ensures.text, c.text-3.ensures.text,
-        c.text-2.ensures.text, c.as_bytes.ensures.value, c.put_access.ensures.text, c.text.ensures.text, c.new-line.ensures)
+    (rw (
+      c.bytes.ensures,
+      c.text-5.ensures.text,
+      c.decimal-2.ensures.text,
+      c.text-4.ensures.text,
+      c.decimal.ensures.text,
+      c.text-3.ensures.text,
+      c.text-2.ensures.text,
+      c.as_bytes.ensures.value,
+      c.put_access.ensures.text,
+      c.text.ensures.text,
+      c.new-line.ensures,
+    )
     (by_parts c.args.number c.args.core c.args.word.now c.args.access.now c.args.answer.now.asid c.args.answer.now.vmid))
     c.put.ensures.text
