@@ -10,7 +10,7 @@ use Rattle.clap.specs.declared.error.kind.ErrorKind.{ErrorKind}
 use Rattle.clap.specs.declared.error.kind.ErrorKind.TheVariants.{MissingRequiredArgument, UnknownArgument}
 use Rattle.clap.proofs.OnLiterals.{clap_on_literals}
 use Rattle.commands.specs.Asked.{RawWords, ExplainWords, RunWords}
-use Rattle.commands.specs.Command.{is_plain, raw_read, explain_read, run_read, access_with}
+use Rattle.commands.specs.Command.{is_plain, raw_asked, explain_asked, run_asked, access_with}
 use Rattle.permissions.specs.AccessNames.{el_of, kind_of}
 use Rattle.commands.specs.Clap.{raw_app, explain_app, run_app, run_by, number_by, raw_by, explain_by, pan_by}
 
@@ -168,7 +168,7 @@ unfolding clap_on_literals
 raw_meets_more x1 x2 x3 x4 x5 t1 t2 t3 t4 t5 h1 h2 h3 h4 h5 = simp h1 (simp h2 (simp h3 (simp h4 (simp h5))))
 
 -- where there is no fault, the matches are what the words say
-pub raw_read : (words : List Text) → Plain words → fault_of raw_app words ≡ [] → raw_in (matches_of raw_app words) ≡ raw_read words
+pub raw_read : (words : List Text) → Plain words → fault_of raw_app words ≡ [] → raw_in (matches_of raw_app words) ≡ raw_asked words
 raw_read _ none e = absurd (a_fault MissingRequiredArgument [] (raw_has_0) e)
 raw_read _ (one x1 t1 _ h1 none) e = absurd (a_fault MissingRequiredArgument [] (raw_has_1 x1 t1 h1) e)
 raw_read _ (one x1 t1 _ h1 (one x2 t2 _ h2 none)) e = absurd (a_fault MissingRequiredArgument [] (raw_has_2 x1 x2 t1 t2 h1 h2) e)
@@ -180,7 +180,7 @@ raw_read _ (one x1 t1 _ h1 (one x2 t2 _ h2 (one x3 t3 _ h3 (one x4 t4 _ h4 (one 
     (raw_meets_more x1 x2 x3 x4 x5 t1 t2 t3 t4 t5 h1 h2 h3 h4 h5)) e)
 
 -- where there is a fault, the words are not those of `raw`
-pub raw_refused : (words : List Text) → Plain words → (fault_of raw_app words ≡ [] → ⊥) → raw_read words ≡ None
+pub raw_refused : (words : List Text) → Plain words → (fault_of raw_app words ≡ [] → ⊥) → raw_asked words ≡ None
 raw_refused _ none f = refl
 raw_refused _ (one x1 t1 _ h1 none) f = refl
 raw_refused _ (one x1 t1 _ h1 (one x2 t2 _ h2 none)) f = refl
@@ -245,8 +245,8 @@ unfolding clap_on_literals
 explain_reads_6 x1 x2 x3 x4 x5 x6 t1 t2 t3 t4 t5 t6 h1 h2 h3 h4 h5 h6 = simp h1 (simp h2 (simp h3 (simp h4 (simp h5 (rw h6 (rw h6 refl))))))
 
 -- where there is no fault, the matches are what the words say
-pub explain_read : (words : List Text) → Plain words → length words ≤ 6 → fault_of explain_app words ≡ [] →
-    explain_in (matches_of explain_app words) ≡ explain_read words
+pub explain_read : (words : List Text) → Plain words → length words ≤ 6 → fault_of explain_app words ≡ []
+    → explain_in (matches_of explain_app words) ≡ explain_asked words
 explain_read _ none n e = absurd (a_fault MissingRequiredArgument [] (explain_has_0) e)
 explain_read _ (one x1 t1 _ h1 none) n e = absurd (a_fault MissingRequiredArgument [] (explain_has_1 x1 t1 h1) e)
 explain_read _ (one x1 t1 _ h1 (one x2 t2 _ h2 none)) n e = absurd (a_fault MissingRequiredArgument [] (explain_has_2 x1 x2 t1 t2 h1 h2) e)
@@ -262,7 +262,7 @@ explain_read _ (one x1 t1 _ h1 (one x2 t2 _ h2 (one x3 t3 _ h3 (one x4 t4 _ h4 (
     let short : suc (suc (suc (suc (suc (suc (suc (length rest))))))) ≤ 6 = n in absurd (omega arith)
 
 -- where there is a fault, the words are not those of `explain`
-pub explain_refused : (words : List Text) → Plain words → (fault_of explain_app words ≡ [] → ⊥) → explain_read words ≡ None
+pub explain_refused : (words : List Text) → Plain words → (fault_of explain_app words ≡ [] → ⊥) → explain_asked words ≡ None
 explain_refused _ none f = refl
 explain_refused _ (one x1 t1 _ h1 none) f = refl
 explain_refused _ (one x1 t1 _ h1 (one x2 t2 _ h2 none)) f = refl
@@ -275,7 +275,7 @@ explain_refused _ (one x1 t1 _ h1 (one x2 t2 _ h2 (one x3 t3 _ h3 (one x4 t4 _ h
 explain_refused _ (one x1 t1 _ h1 (one x2 t2 _ h2 (one x3 t3 _ h3 (one x4 t4 _ h4 (one x5 t5 _ h5 (one x6 t6 _ h6 (one x7 t7 _ h7 p))))))) f = refl
 
 -- more words than `explain` takes
-pub explain_long : (words : List Text) → 6 < length words → explain_read words ≡ None
+pub explain_long : (words : List Text) → 6 < length words → explain_asked words ≡ None
 explain_long [] h = absurd (omega arith)
 explain_long (a ∷ []) h = absurd (omega arith)
 explain_long (a ∷ b ∷ []) h = absurd (omega arith)
@@ -310,14 +310,14 @@ unfolding clap_on_literals
 run_meets_more x1 x2 t1 t2 h1 h2 = simp h1 (simp h2)
 
 -- where there is no fault, the matches are what the words say
-pub run_read : (words : List Text) → Plain words → fault_of run_app words ≡ [] → run_in (matches_of run_app words) ≡ run_read words
+pub run_read : (words : List Text) → Plain words → fault_of run_app words ≡ [] → run_in (matches_of run_app words) ≡ run_asked words
 run_read _ none e = absurd (a_fault MissingRequiredArgument [] (run_has_0) e)
 run_read _ (one x1 t1 _ h1 none) e = ap run_by_texts (run_reads_1 x1 t1 h1)
 run_read _ (one x1 t1 _ h1 (one x2 t2 _ h2 p)) e =
     absurd (a_fault UnknownArgument [] (fault_first run_app ((x1 ∷ t1) ∷ (x2 ∷ t2) ∷ []) _ UnknownArgument refl (run_meets_more x1 x2 t1 t2 h1 h2)) e)
 
 -- where there is a fault, the words are not those of `run`
-pub run_refused : (words : List Text) → Plain words → (fault_of run_app words ≡ [] → ⊥) → run_read words ≡ None
+pub run_refused : (words : List Text) → Plain words → (fault_of run_app words ≡ [] → ⊥) → run_asked words ≡ None
 run_refused _ none f = refl
 run_refused _ (one x1 t1 _ h1 none) f = absurd (f (run_has_1 x1 t1 h1))
 run_refused _ (one x1 t1 _ h1 (one x2 t2 _ h2 p)) f = refl

@@ -19,9 +19,9 @@ raw_with image (Some tcr) (Some ttbr0) (Some va) = Some (record { image = image;
 raw_with image _ _ _ = None
 
 -- the words behind `raw`: IMAGE TCR TTBR0 VA
-abbrev pub raw_read : (words : List (List ℕ)) → Option RawWords
-raw_read (image ∷ tcr ∷ ttbr0 ∷ va ∷ []) = raw_with image (number_of tcr) (number_of ttbr0) (number_of va)
-raw_read _ = None
+abbrev pub raw_asked : (words : List (List ℕ)) → Option RawWords
+raw_asked (image ∷ tcr ∷ ttbr0 ∷ va ∷ []) = raw_with image (number_of tcr) (number_of ttbr0) (number_of va)
+raw_asked _ = None
 
 -- `pan`
 abbrev pub pan_of : (word : List ℕ) → Option Bool
@@ -37,25 +37,25 @@ abbrev pub explain_with : (registers dump : List ℕ) (access : Option Access) �
 explain_with registers dump access = option_map (λ a. record { registers = registers; dump = dump; access = a }) access
 
 -- the words behind `explain`: REGS DUMP VA EL KIND, and `pan` or not
-abbrev pub explain_read : (words : List (List ℕ)) → Option ExplainWords
-explain_read (registers ∷ dump ∷ va ∷ el ∷ kind ∷ []) =
+abbrev pub explain_asked : (words : List (List ℕ)) → Option ExplainWords
+explain_asked (registers ∷ dump ∷ va ∷ el ∷ kind ∷ []) =
     explain_with registers dump (access_with (number_of va) (el_of el) (kind_of kind) (Some false))
-explain_read (registers ∷ dump ∷ va ∷ el ∷ kind ∷ pan ∷ []) =
+explain_asked (registers ∷ dump ∷ va ∷ el ∷ kind ∷ pan ∷ []) =
     explain_with registers dump (access_with (number_of va) (el_of el) (kind_of kind) (pan_of pan))
-explain_read _ = None
+explain_asked _ = None
 
 -- the word behind `run`: TRACE
-abbrev pub run_read : (words : List (List ℕ)) → Option RunWords
-run_read (trace ∷ []) = Some (record { trace = trace })
-run_read _ = None
+abbrev pub run_asked : (words : List (List ℕ)) → Option RunWords
+run_asked (trace ∷ []) = Some (record { trace = trace })
+run_asked _ = None
 
 -- the first word names the command
 abbrev pub named : (words : List (List ℕ)) → Option Asked
 named [] = None
 named (name ∷ rest) =
-    if bytes_eq name (codes "raw") then option_map Raw (raw_read rest)
-    else (if bytes_eq name (codes "explain") then option_map Explain (explain_read rest)
-    else (if bytes_eq name (codes "run") then option_map Run (run_read rest) else None))
+    if bytes_eq name (codes "raw") then option_map Raw (raw_asked rest)
+    else (if bytes_eq name (codes "explain") then option_map Explain (explain_asked rest)
+    else (if bytes_eq name (codes "run") then option_map Run (run_asked rest) else None))
 
 -- a command and its arguments, all words plain
 abbrev pub command_of : (words : List (List ℕ)) → Option Asked

@@ -3,7 +3,7 @@ ghost use Rattle.std.specs.List.{list_all};
 ghost use Rattle.clap.specs.Simple.{app_of};
 ghost use Rattle.permissions.specs.AccessNames.{el_of, kind_of};
 ghost use Rattle.commands.specs.Asked.{explain_words_of};
-ghost use Rattle.commands.specs.Command.{is_plain, explain_read, access_with};
+ghost use Rattle.commands.specs.Command.{is_plain, explain_asked, access_with};
 ghost use Rattle.clap.specs.Walk.{rows_of};
 ghost use Rattle.clap.specs.Matches.{found_of};
 ghost use Rattle.commands.specs.Clap.{access_in, with_access, explain_app, explain_by, pan_by};
@@ -106,7 +106,7 @@ fn access_of(m: &ArgMatches<'_>) -> Option<Access>
 fn explain_few(alloc: Global, words: &[String]) -> Result<Option<ExplainArgs<'_>>, NoMemory>
     requires plain { list_all is_plain (map string_bytes words.now) ≡ true }
     requires few { length words.now ≤ 6 }
-    ensures { IfOk result (λ args. option_map explain_words_of args ≡ explain_read (map string_bytes words.now)) }
+    ensures { IfOk result (λ args. option_map explain_words_of args ≡ explain_asked (map string_bytes words.now)) }
 {
     let Ok(command) = explain_command(alloc) else {
         return Err(NoMemory);
@@ -120,7 +120,7 @@ fn explain_few(alloc: Global, words: &[String]) -> Result<Option<ExplainArgs<'_>
 /// The words behind `explain`: REGS DUMP VA EL KIND, and `pan` or not. None where they are others.
 pub fn explain(alloc: Global, words: &[String]) -> Result<Option<ExplainArgs<'_>>, NoMemory>
     requires { list_all is_plain (map string_bytes words.now) ≡ true }
-    ensures { IfOk result (λ args. option_map explain_words_of args ≡ explain_read (map string_bytes words.now)) }
+    ensures { IfOk result (λ args. option_map explain_words_of args ≡ explain_asked (map string_bytes words.now)) }
 {
     if words.len() > 6 {
         return Ok(None);

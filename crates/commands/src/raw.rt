@@ -2,7 +2,7 @@ ghost use Rattle.std.specs.Prelude.{◌≡◌, IfOk, map, string_bytes, true, op
 ghost use Rattle.std.specs.List.{list_all};
 ghost use Rattle.clap.specs.Simple.{app_of};
 ghost use Rattle.commands.specs.Asked.{raw_words_of};
-ghost use Rattle.commands.specs.Command.{is_plain, raw_read};
+ghost use Rattle.commands.specs.Command.{is_plain, raw_asked};
 ghost use Rattle.commands.specs.Clap.{raw_app, raw_by};
 
 use crate::matched::{matched, named, number_in, text_of, with_two};
@@ -45,7 +45,7 @@ fn raw_from<'a>(
 /// The words behind `raw`: IMAGE TCR TTBR0 VA. None where they are others.
 pub fn raw(alloc: Global, words: &[String]) -> Result<Option<RawArgs<'_>>, NoMemory>
     requires { list_all is_plain (map string_bytes words.now) ≡ true }
-    ensures { IfOk result (λ args. option_map raw_words_of args ≡ raw_read (map string_bytes words.now)) }
+    ensures { IfOk result (λ args. option_map raw_words_of args ≡ raw_asked (map string_bytes words.now)) }
 {
     let Ok(command) = raw_command(alloc) else {
         return Err(NoMemory);

@@ -2,7 +2,7 @@ ghost use Rattle.std.specs.Prelude.{◌≡◌, IfOk, map, string_bytes, true, op
 ghost use Rattle.std.specs.List.{list_all};
 ghost use Rattle.clap.specs.Simple.{app_of};
 ghost use Rattle.commands.specs.Asked.{run_words_of};
-ghost use Rattle.commands.specs.Command.{is_plain, run_read};
+ghost use Rattle.commands.specs.Command.{is_plain, run_asked};
 ghost use Rattle.commands.specs.Clap.{run_app, run_by};
 
 use crate::matched::{matched, named, text_of, with_needed};
@@ -31,7 +31,7 @@ fn run_from<'a>(trace: Option<&'a str>) -> Option<RunArgs<'a>>
 /// The word behind `run`: TRACE. None where there are others.
 pub fn run(alloc: Global, words: &[String]) -> Result<Option<RunArgs<'_>>, NoMemory>
     requires { list_all is_plain (map string_bytes words.now) ≡ true }
-    ensures { IfOk result (λ args. option_map run_words_of args ≡ run_read (map string_bytes words.now)) }
+    ensures { IfOk result (λ args. option_map run_words_of args ≡ run_asked (map string_bytes words.now)) }
 {
     let Ok(command) = run_command(alloc) else {
         return Err(NoMemory);
