@@ -16,7 +16,8 @@ rose_then a b c p q r h k l m n =
     elim (cases_lt a b) [ inl x ↦ rose_weaker p p r q (omega arith) k (l x) | inr x ↦ rose_weaker p q r r h (omega arith) (m (omega arith)) ]
 
 -- one read and then another of the same file
-both : {F : Type 0} (holds : F → List ℕ → Holding) (faults missing : F → List ℕ → ℕ) (name : List ℕ) (s t u : F) (m n o : ℕ) → Keeps holds faults missing name s t m n → Keeps holds faults missing name t u n o
+both : {F : Type 0} (holds : F → List ℕ → Holding) (faults missing : F → List ℕ → ℕ) (name : List ℕ) (s t u : F) (m n o : ℕ)
+    → Keeps holds faults missing name s t m n → Keeps holds faults missing name t u n o
     → Keeps holds faults missing name s u m o
 both holds faults missing name s t u m n o h k = record {
   held = k.held ∙ h.held;

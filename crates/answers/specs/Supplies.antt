@@ -28,7 +28,8 @@ pub record Keeps {F : Type 0} (holds : F → List ℕ → Holding) (faults missi
   pub failed : m < n → Rose (faults s name) (faults t name)
 
 -- the same of a file and files that are borrowed under a name, both of which stay
-pub record KeepsLoan {F N : Type 0} (holds : F → List ℕ → Holding) (faults missing : F → List ℕ → ℕ) (x y : N) (before after : List ℕ) (s t : F) (m n : ℕ) : Type 0 where
+pub record KeepsLoan {F N : Type 0} (holds : F → List ℕ → Holding) (faults missing : F → List ℕ → ℕ) (x y : N) (before after : List ℕ) (s t : F)
+    (m n : ℕ) : Type 0 where
   pub loan : y ≡ x
   pub name : after ≡ before
   pub keeps : Keeps holds faults missing before s t m n

@@ -24,7 +24,8 @@ behind_before : (front : List Segment) (s : Segment) (due : Result (List Segment
 behind_before front s (Ok others) = ap Ok (sym (append_assoc front (s ∷ []) others))
 behind_before front s (Err why) = refl
 
-opened : (size index count : ℕ) (table : List ℕ) → index < count → left size index count table ≡ with_header size index (take 56 (drop (56 * index) table)) (left size (index + 1) count table)
+opened : (size index count : ℕ) (table : List ℕ) → index < count
+    → left size index count table ≡ with_header size index (take 56 (drop (56 * index) table)) (left size (index + 1) count table)
 opened size index count table h =
     let more : count - index ≡ suc (count - (index + 1)) = omega arith in
     let place : 56 + 56 * index ≡ 56 * (index + 1) = omega arith in
@@ -52,7 +53,8 @@ module _ (size index count : ℕ) (table : List ℕ) (front : List Segment) wher
   header = take 56 (drop (56 * index) table)
 
   -- a program header that isn't loaded
-  pub passed : index < count → None ≡ (if is_loaded header then Some (segment_of header) else None) → behind front (left size index count table) ≡ behind front (left size (index + 1) count table)
+  pub passed : index < count → None ≡ (if is_loaded header then Some (segment_of header) else None)
+      → behind front (left size index count table) ≡ behind front (left size (index + 1) count table)
   passed h e = rw (opened size index count table h, not_read _ _ e) refl
 
   module _ (s : Segment) (h : index < count) (e : Some s ≡ (if is_loaded header then Some (segment_of header) else None)) where
@@ -60,12 +62,16 @@ module _ (size index count : ℕ) (table : List ℕ) (front : List Segment) wher
     pub taken : s.offset + s.size ≤ size → behind front (left size index count table) ≡ behind (front ++ s ∷ []) (left size (index + 1) count table)
     taken w =
         let is = is_read _ _ _ e in
-        let within : nat_lt size ((segment_of header).offset + (segment_of header).size) ≡ false = ap (λ (t : Segment). nat_lt size (t.offset + t.size)) (sym is.1) ∙ fits size _ w in
-        rw (opened size index count table h, is.0, within) (ap (λ (t : Segment). behind front (before t (left size (index + 1) count table))) (sym is.1) ∙ behind_before front s (left size (index + 1) count table))
+        let within : nat_lt size ((segment_of header).offset + (segment_of header).size) ≡ false =
+            ap (λ (t : Segment). nat_lt size (t.offset + t.size)) (sym is.1) ∙ fits size _ w in
+        rw (opened size index count table h, is.0, within)
+            (ap (λ (t : Segment). behind front (before t (left size (index + 1) count table))) (sym is.1)
+            ∙ behind_before front s (left size (index + 1) count table))
 
     -- one that is, and doesn't
     pub past : size < s.offset + s.size → behind front (left size index count table) ≡ Err (PastEnd index)
     past w =
         let is = is_read _ _ _ e in
-        let out : nat_lt size ((segment_of header).offset + (segment_of header).size) ≡ true = ap (λ (t : Segment). nat_lt size (t.offset + t.size)) (sym is.1) ∙ beyond size _ w in
+        let out : nat_lt size ((segment_of header).offset + (segment_of header).size) ≡ true =
+            ap (λ (t : Segment). nat_lt size (t.offset + t.size)) (sym is.1) ∙ beyond size _ w in
         rw (opened size index count table h, is.0, out) refl

@@ -10,7 +10,8 @@ use Rattle.dump_file.specs.Filled.{IsFront}
 behind : (done k : ℕ) (into rest : List ℕ) → done ≤ length into → drop done (put_mid done k into rest) ≡ rest ++ post_of done k into
 behind done k into rest h = drop_at (take done into) (rest ++ post_of done k into) done (length-take-le done into h)
 
-front : (done k got : ℕ) (into rest : List ℕ) → done ≤ length into → got ≤ length rest → take (done + got) (put_mid done k into rest) ≡ take done into ++ take got rest
+front : (done k got : ℕ) (into rest : List ℕ) → done ≤ length into → got ≤ length rest
+    → take (done + got) (put_mid done k into rest) ≡ take done into ++ take got rest
 front done k got into rest h m =
     take-add done got (put_mid done k into rest)
     ∙ ap (λ (x : List ℕ). x ++ take got (drop done (put_mid done k into rest))) (take-put_mid_below done k into rest done (omega arith) h)
@@ -23,7 +24,8 @@ front_none Untold at into = tt
 front_none Absent at into = refl
 front_none (Bytes bytes) at into = (omega arith, refl)
 
-pub front_more : (held : Holding) (before now at done k got : ℕ) (into rest : List ℕ) → done ≤ length into → got ≤ length rest → IsFront held at into done → IsRead held before now (at + done) rest got → IsFront held at (put_mid done k into rest) (done + got)
+pub front_more : (held : Holding) (before now at done k got : ℕ) (into rest : List ℕ) → done ≤ length into → got ≤ length rest → IsFront held at into done
+    → IsRead held before now (at + done) rest got → IsFront held at (put_mid done k into rest) (done + got)
 front_more Untold before now at done k got into rest h m p r = tt
 front_more Absent before now at done k got into rest h m p r = omega arith
 front_more (Bytes bytes) before now at done k got into rest h m p r = (
@@ -36,7 +38,8 @@ front_more (Bytes bytes) before now at done k got into rest h m p r = (
 
 module _ {F : Type 0} (read : F → ℕ → List ℕ → F → Type 0) (at done k got : ℕ) (into rest : List ℕ) (before between after : F) where
   -- one more read from where the last one ended
-  pub turns_more : done ≤ length into → got ≤ length rest → InTurns read at before (take done into) between → read between (at + done) (take got rest) after → InTurns read at before (take (done + got) (put_mid done k into rest)) after
+  pub turns_more : done ≤ length into → got ≤ length rest → InTurns read at before (take done into) between → read between (at + done) (take got rest) after
+      → InTurns read at before (take (done + got) (put_mid done k into rest)) after
   turns_more h m t r = record {
     turns = suc t.turns;
     came = (
@@ -50,7 +53,8 @@ module _ {F : Type 0} (read : F → ℕ → List ℕ → F → Type 0) (at done 
   }
 
   -- the last read gave nothing
-  pub turns_end : done ≤ length into → got ≡ 0 → InTurns read at before (take done into) between → read between (at + done) (take got rest) after → InTurns read at before (take done (put_mid done k into rest)) after
+  pub turns_end : done ≤ length into → got ≡ 0 → InTurns read at before (take done into) between → read between (at + done) (take got rest) after
+      → InTurns read at before (take done (put_mid done k into rest)) after
   turns_end h e t r =
       let same : done + got ≡ done = omega arith in
       subst (λ (n : ℕ). InTurns read at before (take n (put_mid done k into rest)) after) same (turns_more h (omega arith) t r)

@@ -29,8 +29,10 @@ put_added c number page p m = elim (Contains-put_entries nat_eq c number page p 
   | inr new ↦ inr (elim new.1 [ inl same ↦ same | inr there ↦ same_number number p.0 there.2 ], ap (λ (x : Vec ℕ Global). x.items) new.0)
 ]
 
-pub after_put : {T E : Type 0} (r : Result T E) (c d : LruCache ℕ (Vec ℕ Global)) (number : ℕ) (page : Vec ℕ Global) → OnOk r (d ≡ lru_cache (put_entries nat_eq c number page) c.cap) → OnErr r (d ≡ c) → IsAdded c.entries d.entries number page.items
-after_put (Ok x) c d number page ok err = subst (λ (x : LruCache ℕ (Vec ℕ Global)). IsAdded c.entries x.entries number page.items) (sym ok) (put_added c number page)
+pub after_put : {T E : Type 0} (r : Result T E) (c d : LruCache ℕ (Vec ℕ Global)) (number : ℕ) (page : Vec ℕ Global)
+    → OnOk r (d ≡ lru_cache (put_entries nat_eq c number page) c.cap) → OnErr r (d ≡ c) → IsAdded c.entries d.entries number page.items
+after_put (Ok x) c d number page ok err =
+    subst (λ (x : LruCache ℕ (Vec ℕ Global)). IsAdded c.entries x.entries number page.items) (sym ok) (put_added c number page)
 after_put (Err x) c d number page ok err = λ p m. inl (subst (λ (x : LruCache ℕ (Vec ℕ Global)). Contains x.entries p) err m)
 
 -- a part of a front
@@ -46,7 +48,8 @@ pub written : (len : ℕ) (new items : List ℕ) → length new ≡ len → take
 written len new items h = take-append-le len new (drop (length new) items) (omega arith) ∙ take_all len new (omega arith)
 
 -- a part of a page that is kept
-pub part_of_page : (bytes : List ℕ) (at size : ℕ) (page new : List ℕ) → at % 4096 + size ≤ 4096 → page ≡ page_of bytes (at / 4096) → new ≡ take size (drop (at % 4096) page) → new ≡ take size (drop at bytes)
+pub part_of_page : (bytes : List ℕ) (at size : ℕ) (page new : List ℕ) → at % 4096 + size ≤ 4096 → page ≡ page_of bytes (at / 4096)
+    → new ≡ take size (drop (at % 4096) page) → new ≡ take size (drop at bytes)
 part_of_page bytes at size page new h p e =
     let place : 4096 * (at / 4096) + at % 4096 ≡ at = omega arith in
     e ∙ ap (λ (x : List ℕ). take size (drop (at % 4096) x)) p
@@ -64,7 +67,8 @@ stay_among (Bytes bytes) size before after a = λ e h page m. h page (a page m)
 
 module _ (size : ℕ) (pages : List (ℕ × Vec ℕ Global)) (before now : ℕ) where
   -- bytes that were read and not kept
-  pub part_direct : (held : Holding) (at n : ℕ) (new : List ℕ) → at + length new ≤ size → n ≤ length new → IsFilled held before now at new n → IsPart held size pages before now at new (nat_eq n (length new))
+  pub part_direct : (held : Holding) (at n : ℕ) (new : List ℕ) → at + length new ≤ size → n ≤ length new → IsFilled held before now at new n
+      → IsPart held size pages before now at new (nat_eq n (length new))
   part_direct Untold at n new w b f = λ e. f (grind (arith, nat_tests))
   part_direct Absent at n new w b f = tt
   part_direct (Bytes bytes) at n new w b f = λ e h.
@@ -74,13 +78,15 @@ module _ (size : ℕ) (pages : List (ℕ × Vec ℕ Global)) (before now : ℕ) 
 
   module _ (start n : ℕ) (page : List ℕ) (l : length page ≡ min 4096 (size - start)) where
     -- a page whose bytes didn't come
-    pub part_short : (held : Holding) (at : ℕ) (new : List ℕ) → IsFilled held before now start page n → n < length page → IsPart held size pages before now at new false
+    pub part_short : (held : Holding) (at : ℕ) (new : List ℕ) → IsFilled held before now start page n → n < length page
+        → IsPart held size pages before now at new false
     part_short Untold at new f k = λ _. f k
     part_short Absent at new f k = tt
     part_short (Bytes bytes) at new f k = λ e h. absurd (omega (arith, f.0))
 
     -- a page whose bytes came
-    pub part_whole : (held : Holding) (offset at : ℕ) (new : List ℕ) → IsFilled held before now start page n → start + offset ≡ at → offset + length new ≤ n → new ≡ take (length new) (drop offset page) → IsPart held size pages before now at new true
+    pub part_whole : (held : Holding) (offset at : ℕ) (new : List ℕ) → IsFilled held before now start page n → start + offset ≡ at → offset + length new ≤ n
+        → new ≡ take (length new) (drop offset page) → IsPart held size pages before now at new true
     part_whole Untold offset at new f s k c = λ e. cc
     part_whole Absent offset at new f s k c = tt
     part_whole (Bytes bytes) offset at new f s k c = λ e h. (
@@ -91,7 +97,8 @@ module _ (size : ℕ) (pages : List (ℕ × Vec ℕ Global)) (before now : ℕ) 
           ∙ ap (take (length new)) (drop-drop offset start bytes ∙ ap (λ (m : ℕ). drop m bytes) s),
     )
 
-    page_is : (bytes : List ℕ) (number : ℕ) → IsFilled (Bytes bytes) before now start page n → size ≡ length bytes → start ≡ 4096 * number → length page ≤ n → n ≤ length page → page ≡ page_of bytes number
+    page_is : (bytes : List ℕ) (number : ℕ) → IsFilled (Bytes bytes) before now start page n → size ≡ length bytes → start ≡ 4096 * number → length page ≤ n
+        → n ≤ length page → page ≡ page_of bytes number
     page_is bytes number f e s k b =
         let many : n ≡ min 4096 (length (drop start bytes)) = omega (arith, length-drop start bytes) in
         sym (take_all n page (omega arith)) ∙ f.1 ∙ ap (λ (m : ℕ). take m (drop start bytes)) many
@@ -113,19 +120,22 @@ module _ (size : ℕ) (pages : List (ℕ × Vec ℕ Global)) (before now : ℕ) 
       ]
 
 -- the same by pages of which each was kept before
-pub part_among : {E : Type 0} (r : Result Bool E) (held : Holding) (size : ℕ) (pages between : List (ℕ × Vec ℕ Global)) (before now at : ℕ) (new : List ℕ) → AreAmong pages between → IfOk r (IsPart held size between before now at new) → IfOk r (IsPart held size pages before now at new)
+pub part_among : {E : Type 0} (r : Result Bool E) (held : Holding) (size : ℕ) (pages between : List (ℕ × Vec ℕ Global)) (before now at : ℕ) (new : List ℕ)
+    → AreAmong pages between → IfOk r (IsPart held size between before now at new) → IfOk r (IsPart held size pages before now at new)
 part_among (Err e) held size pages between before now at new a h = tt
 part_among (Ok came) Untold size pages between before now at new a h = h
 part_among (Ok came) Absent size pages between before now at new a h = tt
 part_among (Ok came) (Bytes bytes) size pages between before now at new a h = λ e k. h e (λ page m. k page (a page m))
 
-pub stay_then : (held : Holding) (size : ℕ) (before between after : List (ℕ × Vec ℕ Global)) → StayOf held size before between → StayOf held size between after → StayOf held size before after
+pub stay_then : (held : Holding) (size : ℕ) (before between after : List (ℕ × Vec ℕ Global)) → StayOf held size before between
+    → StayOf held size between after → StayOf held size before after
 stay_then Untold size before between after h k = tt
 stay_then Absent size before between after h k = tt
 stay_then (Bytes bytes) size before between after h k = λ e m. k e (h e m)
 
 -- two parts, the second from where the first ends
-pub part_joined : {E : Type 0} (r : Result Bool E) (held : Holding) (size : ℕ) (pages between : List (ℕ × Vec ℕ Global)) (before mid now at front : ℕ) (first second : List ℕ)
+pub part_joined : {E : Type 0} (r : Result Bool E) (held : Holding) (size : ℕ) (pages between : List (ℕ × Vec ℕ Global)) (before mid now at front : ℕ)
+    (first second : List ℕ)
     → length first ≡ front → before ≤ mid → StayOf held size pages between → IsPart held size pages before mid at first true
     → IfOk r (IsPart held size between mid now (at + front) second) → IfOk r (IsPart held size pages before now at (first ++ second))
 part_joined (Err e) held size pages between before mid now at front first second l b s p q = tt
@@ -136,7 +146,8 @@ part_joined (Ok came) (Bytes bytes) size pages between before mid now at front f
     let two = (q e (s e h)).1 in (
       (q e (s e h)).0,
       ap (λ (x : List ℕ). x ++ second) one
-          ∙ ap (λ (x : List ℕ). take (length first) (drop at bytes) ++ x) (two ∙ ap (take (length second)) (sym (drop-drop (length first) at bytes ∙ ap (λ (n : ℕ). drop (at + n) bytes) l)))
+          ∙ ap (λ (x : List ℕ). take (length first) (drop at bytes) ++ x)
+              (two ∙ ap (take (length second)) (sym (drop-drop (length first) at bytes ∙ ap (λ (n : ℕ). drop (at + n) bytes) l)))
           ∙ sym (take-add (length first) (length second) (drop at bytes))
           ∙ ap (λ (n : ℕ). take n (drop at bytes)) (sym (length-append first second)),
     )

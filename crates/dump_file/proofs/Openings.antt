@@ -16,7 +16,8 @@ module _ (before now n : ℕ) (new : List ℕ) (size : ℕ) (l : length new ≡ 
       sym all ∙ f.1 ∙ ap (λ (m : ℕ). take m bytes) same
 
   -- a header that names a table
-  pub head_ok : (held : Holding) (t : TableAt) → IsOfSize held size → IsFilled held before now 0 new n → table_of new size ≡ Ok (record { place = t.place; count = t.count }) → IsTable held t
+  pub head_ok : (held : Holding) (t : TableAt) → IsOfSize held size → IsFilled held before now 0 new n
+      → table_of new size ≡ Ok (record { place = t.place; count = t.count }) → IsTable held t
   head_ok Untold t h f e = tt
   head_ok Absent t h f e = tt
   head_ok (Bytes bytes) t h f e = ap (λ (x : List ℕ). table_of x (length bytes)) (sym (head_is bytes f)) ∙ ap (table_of new) (sym h) ∙ e

@@ -17,5 +17,6 @@ word_served (Ok word) Absent dump before now pa s f h = tt
 word_served (Ok word) (Bytes bytes) dump before now pa s f h = λ st.
     h st.size st.pages ∙ ap (option_map (λ (t : Segment). little_number 8 (drop (file_place pa t) bytes))) (sym f)
 
-pub stands_after : (bytes : List ℕ) (dump : Opened) (pages : List (ℕ × Vec ℕ Global)) → StayOf (Bytes bytes) dump.size dump.pages pages → StandsFor bytes dump → StandsFor bytes (record dump { pages = pages })
+pub stands_after : (bytes : List ℕ) (dump : Opened) (pages : List (ℕ × Vec ℕ Global)) → StayOf (Bytes bytes) dump.size dump.pages pages → StandsFor bytes dump
+    → StandsFor bytes (record dump { pages = pages })
 stands_after bytes dump pages h st = record { size = st.size; segments = st.segments; pages = h st.size st.pages }

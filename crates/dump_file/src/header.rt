@@ -15,7 +15,7 @@ pub const HEADER: usize = 64;
 pub const ENTRY: usize = 56;
 
 /// Where the table of program headers begins, in bytes, and how many there are.
-#[derive(Clone, Copy, Debug, PartialEq, Eq)]
+#[derive(Clone, Copy)]
 pub struct TableAt {
     pub place: u64,
     pub count: u16,

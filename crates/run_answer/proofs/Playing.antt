@@ -19,12 +19,14 @@ module _ (t : Parts) (limits : IsTrace t) {E : Type 0} where
   -- what a machine answers before its first event
   pub ready_report : RunsKeepTheirPromise → (r : Result MachineState E) → IfOk r (λ m. m.trace ≡ t)
       → IfOk r (λ m. IsReport t (report_text (run_of m.trace.header m.trace.events)))
-  ready_report laws (Ok m) e = record { limits = limits; is = ap (λ (u : Parts). report_text (run_of u.header u.events)) e; promise = laws t.header t.events (all_of_cores t limits) }
+  ready_report laws (Ok m) e =
+      record { limits = limits; is = ap (λ (u : Parts). report_text (run_of u.header u.events)) e; promise = laws t.header t.events (all_of_cores t limits) }
   ready_report laws (Err x) e = tt
 
   pub ready_printable : (r : Result MachineState E) → IfOk r (λ m. m.trace ≡ t) → IfOk r (λ m. m.log ≡ [])
       → IfOk r (λ m. (m.log ≡ []) × (length m.trace.events ≤ 2 ^ 32))
-  ready_printable (Ok m) e f = let same : length m.trace.events ≡ length t.events = ap (λ (u : Parts). length u.events) e in (f, omega (arith, same, limits.events))
+  ready_printable (Ok m) e f = let same : length m.trace.events ≡ length t.events = ap (λ (u : Parts). length u.events) e in
+      (f, omega (arith, same, limits.events))
   ready_printable (Err x) e f = tt
 
 -- the run of some first events is a front of the whole run
@@ -38,12 +40,14 @@ pub more : (new old : List Step) (s : Step) (n : ℕ) → new ≡ old ++ s ∷ [
 more new old s n e l = ap length e ∙ length-append old (s ∷ []) ∙ ap (λ k. k + 1) l
 
 -- a report that has the steps so far has one more, or a first part of the whole was written
-module _ {T E : Type 0} (before now : Option (List ℕ)) (report : ReportState) (h : Header) (events : List Event) (old new : List Step) (s x : Step) (e : new ≡ old ++ s ∷ []) (d : x ≡ s) where
+module _ {T E : Type 0} (before now : Option (List ℕ)) (report : ReportState) (h : Header) (events : List Event) (old new : List Step) (s x : Step)
+    (e : new ≡ old ++ s ∷ []) (d : x ≡ s) where
   pub one_more : (r : Result T E) → IsOk r → GoesOn before now r report old x → IsReportOf before now report new
   one_more (Ok y) k g = subst (IsReportOf before now report) (ap (λ (z : Step). old ++ z ∷ []) d ∙ sym e) g
   one_more (Err y) k g = cc
 
-  pub part_written : {U F : Type 0} (n : ℕ) → new ≡ run_of h (take n events) → (r : Result T E) (q : Result U F) → IsErr r → IsErr q → GoesOn before now r report old x
+  pub part_written : {U F : Type 0} (n : ℕ) → new ≡ run_of h (take n events) → (r : Result T E) (q : Result U F) → IsErr r → IsErr q
+      → GoesOn before now r report old x
       → Wrote before now q (report_text (run_of h events))
   part_written n is (Ok y) q k l g = cc
   part_written n is (Err y) (Ok z) k l g = cc

@@ -130,7 +130,8 @@ module _ (r : Reading) where
   ends_not x g (f ∷ fs) (inl t) = g f t
   ends_not x g (f ∷ fs) (inr t) = ends_not x g fs t.1
 
-  ends_by : (x : Status) (o : Option Why) (fs : List Named) → ((why : Why) → x ≢ Refused why) → x ≢ NoMemory → ((f : Named) → Stops r f x → ⊥) → MayEndBy r o fs x → ⊥
+  ends_by : (x : Status) (o : Option Why) (fs : List Named) → ((why : Why) → x ≢ Refused why) → x ≢ NoMemory → ((f : Named) → Stops r f x → ⊥)
+      → MayEndBy r o fs x → ⊥
   ends_by x (Some why) fs n m g (inl e) = n why e
   ends_by x (Some why) fs n m g (inr e) = m e
   ends_by x None fs n m g t = ends_not x g fs t
@@ -152,7 +153,8 @@ module _ (r : Reading) where
     was_due (Err st) status x (inl w) e n m = ap (λ z. Err z) (sym w.0 ∙ e)
     was_due due status x (inr f) e n m = absurd (m (sym e ∙ f.0))
 
-    due_as : (asked : Option Asked) (due : Due) (status x : Status) → IsDue r asked due → Tells out err due status → status ≡ x → x ≢ Done → x ≢ WriteFault → IsDue r asked (Err x)
+    due_as : (asked : Option Asked) (due : Due) (status x : Status) → IsDue r asked due → Tells out err due status → status ≡ x → x ≢ Done → x ≢ WriteFault
+        → IsDue r asked (Err x)
     due_as asked due status x d t e n m = subst (IsDue r asked) (was_due due status x t e n m) d
 
     -- what was due comes
@@ -188,12 +190,14 @@ module _ (r : Reading) where
     }
 
     -- what surely ends a command comes
-    ends_due : (a : Asked) (o : Option Why) (want st status : Status) → SurelyEndsBy r o (files_of a) want → MayEndBy r o (files_of a) st → Tells out err (Err st) status → Comes err want status
+    ends_due : (a : Asked) (o : Option Why) (want st status : Status) → SurelyEndsBy r o (files_of a) want → MayEndBy r o (files_of a) st
+        → Tells out err (Err st) status → Comes err want status
     ends_due a (Some why) want st status s (inl e) t = comes_as st want status (e ∙ sym s) t
     ends_due a (Some why) want st status s (inr e) t = comes_memory want status (comes_as st NoMemory status e t)
     ends_due a None want st status s d t = comes_by want st status (agree_in (files_of a) want st s d) t
 
-    ends_comes : (a : Asked) (want : Status) (due : Due) (status : Status) → SurelyEnds r a want → IsDue r (Some a) due → Tells out err due status → Comes err want status
+    ends_comes : (a : Asked) (want : Status) (due : Due) (status : Status) → SurelyEnds r a want → IsDue r (Some a) due → Tells out err due status
+        → Comes err want status
     ends_comes a want (Ok text) status s d t = absurd (text_ends a (words_refusal a) want text d.0 s d.1)
     ends_comes a want (Err st) status s d t = ends_due a (words_refusal a) want st status s d t
 
@@ -217,12 +221,14 @@ module _ (r : Reading) where
     pub read_fault_where : (asked : Option Asked) (due : Due) (status : Status) → IsDue r asked due → Tells out err due status → ReadFaultWhere r asked status
     read_fault_where asked due status d t e = ended asked ReadFault (λ h. cc) (λ h. cc) (due_as asked due status ReadFault d t e (λ h. cc) (λ h. cc))
 
-    pub write_fault_where : (asked : Option Asked) (due : Due) (status : Status) → IsDue r asked due → Tells out err due status → WriteFaultWhere r out err asked status
+    pub write_fault_where : (asked : Option Asked) (due : Due) (status : Status) → IsDue r asked due → Tells out err due status
+        → WriteFaultWhere r out err asked status
     write_fault_where asked (Ok text) status d (inl w) e = let h : WriteFault ≡ Done = sym e ∙ w.0 in absurd cc
     write_fault_where asked (Err st) status d (inl w) e = absurd (never_write asked (subst (λ z. IsDue r asked (Err z)) (sym w.0 ∙ e) d))
     write_fault_where asked due status d (inr f) e = (due, d, f.1)
 
-    done_by : (asked : Option Asked) (text : List ℕ) → IsDue r asked (Ok text) → Got out text → GotNothing err → (a : Asked) × (text : List ℕ) × (asked ≡ Some a) × IsText r a text × Got out text × GotNothing err
+    done_by : (asked : Option Asked) (text : List ℕ) → IsDue r asked (Ok text) → Got out text → GotNothing err
+        → (a : Asked) × (text : List ℕ) × (asked ≡ Some a) × IsText r a text × Got out text × GotNothing err
     done_by None text d t e = absurd d
     done_by (Some a) text d t e = (a, text, refl, d, t, e)
 
@@ -235,7 +241,8 @@ module _ (r : Reading) where
     complete_by (Some why) fs st e p d = absurd (let bad : Some why ≡ None = e in cc)
     complete_by None fs st e p d = pass_in fs st p d
 
-    complete_due : (a : Asked) (due : Due) (status : Status) → IsAnswerable r a → (WriteFails out → ⊥) → IsDue r (Some a) due → Tells out err due status → Completes err status
+    complete_due : (a : Asked) (due : Due) (status : Status) → IsAnswerable r a → (WriteFails out → ⊥) → IsDue r (Some a) due → Tells out err due status
+        → Completes err status
     complete_due a (Ok text) status k g d (inl w) = inl w.0
     complete_due a (Ok text) status k g d (inr w) = absurd (g w.1.0)
     complete_due a (Err st) status k g d t = inr (comes_as st NoMemory status (complete_by (words_refusal a) (files_of a) st k.0 k.1 d) t)

@@ -4,7 +4,9 @@ use Rattle.dump_file.proofs.Filling.{front_none, front_more, turns_more, turns_e
 use Rattle.dump_file.proofs.fill.fill_from.Goals as goal
 
 pub loop-done-init : goal.loop-done-init
-loop-done-init g c = record { within = omega arith; same = refl; missing = omega arith; faults = omega arith; others = λ n h. (refl, refl); front = front_none _ _ _; turns = record { turns = 0; came = (refl, refl) } }
+loop-done-init g c =
+    record { within = omega arith; same = refl; missing = omega arith; faults = omega arith; others = λ n h. (refl, refl); front = front_none _ _ _;
+    turns = record { turns = 0; came = (refl, refl) } }
 
 pub loop-done-preserved : goal.loop-done-preserved
 loop-done-preserved g c =
@@ -20,4 +22,5 @@ loop-done-preserved g c =
     }
 
 pub returns-then-count-eq0-clause-turns : goal.returns-then-count-eq0-clause-turns
-returns-then-count-eq0-clause-turns g c = turns_end _ _ _ _ _ _ _ _ _ _ c.loop-done.invariant.within c.if-count-eq0.true c.loop-done.invariant.turns c.in_ok-count.ensures.read
+returns-then-count-eq0-clause-turns g c =
+    turns_end _ _ _ _ _ _ _ _ _ _ c.loop-done.invariant.within c.if-count-eq0.true c.loop-done.invariant.turns c.in_ok-count.ensures.read
