@@ -1,4 +1,4 @@
-use sysregs::fields::{asid, base1, base2, check_reg, config, output_size, vmid};
+use sysregs::fields::{asid, base1, base2, check_msr, check_reg, config, output_size, vmid};
 use sysregs::{Config, Field, Reg, Regs, Side, Tg, Unsupported, same_config, side};
 
 /// The registers that are 0 but for one.
@@ -219,6 +219,27 @@ const ACCEPTED: [(Reg, u64); 8] = [
     (Reg::VtcrEl2, 0xffff_fffe_ffff_ffff),
     (Reg::VttbrEl2, u64::MAX),
 ];
+
+/// What a trace's register write is refused for besides.
+const REFUSED_WRITES: [(Reg, u32, Field); 4] = [
+    (Reg::TcrEl1, 39, Field::Ha),
+    (Reg::TcrEl1, 40, Field::Hd),
+    (Reg::VtcrEl2, 21, Field::Ha),
+    (Reg::VtcrEl2, 22, Field::Hd),
+];
+
+#[test]
+fn refused_writes(rt: HostRuntime) {
+    for &(reg, bit, field) in REFUSED_WRITES.as_slice() {
+        let refused = Err(Unsupported { reg, field });
+        let found = (check_msr(reg, 1 << bit), check_msr(reg, u64::MAX << bit));
+        assert!(rt; found == (refused, refused));
+    }
+    for &(reg, bit, field) in REFUSED.as_slice() {
+        assert!(rt; check_msr(reg, 1 << bit) == Err(Unsupported { reg, field }));
+    }
+    assert!(rt; check_msr(Reg::MairEl1, u64::MAX) == Ok(()));
+}
 
 #[test]
 fn refused_fields_and_equality(rt: HostRuntime) {
