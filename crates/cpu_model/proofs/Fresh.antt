@@ -1,5 +1,5 @@
 -- An access without rows.
-use Rattle.std.proofs.Common.{◌≡◌, ℕ, List, false, refl, sym, ap, ◌∙◌, arith, Some, None, subst}
+use Rattle.std.proofs.Common.{◌≡◌, ℕ, List, true, false, refl, sym, ap, ◌∙◌, arith, Some, None, subst}
 use Rattle.bitwords.specs.Causes.{Rose}
 use Rattle.sysregs.specs.declared.regs.Regs.{Regs}
 use Rattle.sysregs.specs.Registers.{asid_of, vmid_of}
@@ -10,7 +10,6 @@ use Rattle.trails.specs.declared.step.Answer.{Answer}
 use Rattle.table_reads.specs.Memory.{Memory}
 use Rattle.trace_lang.specs.declared.header.Size.TheVariants.{NoRows}
 use Rattle.walk_spec.specs.Walked.{IsFresh, HasLine}
-use Rattle.walk_spec.specs.Fresh.{fresh_outcome}
 use Rattle.machine_spec.specs.Header.{Header}
 use Rattle.machine_spec.specs.Sets.{Cache}
 use Rattle.machine_spec.specs.Machine.{Visited, visited}
