@@ -21,7 +21,7 @@ use Rattle.table_reads.specs.Memory.{Memory}
 use Rattle.machine_spec.specs.Header.{Header}
 use Rattle.machine_spec.specs.Moments.{settled, drained, queued, banked, stored}
 use Rattle.machine_spec.specs.Invalidations.{is_at_el1, issued_by}
-use Rattle.machine_spec.specs.Machine.{Core, World, no_core, most_held, delivered_by, delivered, posted, mailed, mailed_by, finished, seat_of, core_of, regs_in, accessed, acted, moved, answer_to}
+use Rattle.machine_spec.specs.Machine.{Core, World, no_core, most_held, delivered_by, delivered, posted, mailed, mailed_by, finished, seat_of, core_numbered, regs_in, accessed, acted, moved, answer_to}
 use Rattle.cpu_model.specs.Cores.{Suits, seat_at}
 use Rattle.machine.specs.Runs.{asked_of}
 use Rattle.machine.specs.Seats.{SeatState, core_at, build_of, no_seat, AreSeats, with_bank, world_of}
@@ -109,7 +109,7 @@ module _ (h : Header) (w : World) (j : ℕ) where
 
 -- the core of a number
 pub core_in : (k : ℕ) (m : Memory) (seats : List SeatState) (j : ℕ) (x : SeatState) → j < length seats
-    → core_of (world_of k m seats) j ≡ core_at (get_or seats j x)
+    → core_numbered (world_of k m seats) j ≡ core_at (get_or seats j x)
 core_in k m seats j x lt = get_or-map core_at seats j x no_core lt
 
 -- ACCESSES

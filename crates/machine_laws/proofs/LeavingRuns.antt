@@ -19,7 +19,7 @@ use Rattle.machine_spec.specs.Rows.{Row}
 use Rattle.machine_spec.specs.Made.{Maker, key_of, rows_of, combined_rows}
 use Rattle.machine_spec.specs.Sets.{Cache, same_set, filled}
 use Rattle.machine_spec.specs.Served.{Reply, Stop, came, clash, served}
-use Rattle.machine_spec.specs.Machine.{Core, World, no_core, killed, Seat, visited_by, seat_of, core_of, regs_in, accessed, acted, moved, after_event, opened, world_after}
+use Rattle.machine_spec.specs.Machine.{Core, World, no_core, killed, Seat, visited_by, seat_of, core_numbered, regs_in, accessed, acted, moved, after_event, opened, world_after}
 use Rattle.machine_laws.specs.Leaving.{In, Used, effective, IsRemoved, used_by, used_here, used_at, uses_from, uses_of, IsEvicted, RowsLeaveForACause, LruLosesTheLongestUnused}
 use Rattle.machine_laws.proofs.Events.{each_length}
 use Rattle.machine_laws.proofs.Gone.{IsNumbered, numbered_are, numbered_front, Ranks, AreRanked, IsRanked, filled_ranked, filled_next, filled_stays, thin_all, thin_next, all_keep, pushed_kills, deliver_kills}
@@ -34,7 +34,7 @@ use Rattle.machine_laws.proofs.Theorem.{world_on}
 
 module _ (h : Header) (w : World) (c : ℕ) where
   abbrev core_here : Core
-  core_here = core_of w c
+  core_here = core_numbered w c
 
   abbrev seat_here : Seat
   seat_here = seat_of h w c core_here
@@ -143,7 +143,7 @@ module _ (h : Header) (c : ℕ) where
   abbrev IsRun : List Event → Type 0
   IsRun es =
       let w = world_after h es in
-      (length w.cores ≡ h.cores) × IsRanked h c w.step (uses_of h c es) (core_of w c).cache.rows
+      (length w.cores ≡ h.cores) × IsRanked h c w.step (uses_of h c es) (core_numbered w c).cache.rows
 
   run_ranked : c < h.cores → (es : List Event) → IsRun es
   run_ranked lt es = from_end IsRun more first es
@@ -171,7 +171,7 @@ rows_leave_for_a_cause h events e c lt r i =
     let w : World = world_after h events in
     let run = run_ranked h c lt events in
     let goes = event_goes h w c (uses_of h c events) run.1 e in
-    subst (λ (v : Core). In r v.cache.rows ⊎ (IsRemoved w c (core_of w c).inbox e r ⊎ IsEvicted h c (core_of w c).cache (used_at h w c e) r))
+    subst (λ (v : Core). In r v.cache.rows ⊎ (IsRemoved w c (core_numbered w c).inbox e r ⊎ IsEvicted h c (core_numbered w c).cache (used_at h w c e) r))
     (sym (moved_at h w run.0 e c lt)) (goes.stays r i)
 
 pub lru_loses_the_longest_unused : LruLosesTheLongestUnused
@@ -180,7 +180,7 @@ lru_loses_the_longest_unused h events e c lru lt earlier later new made first ot
     let run = run_ranked h c lt events in
     let used = used_at h w c e in
     let o = orderly h w c e in
-    let l = (core_of w c).cache in
+    let l = (core_numbered w c).cache in
     let test = same_set (shape_of h.size new.kind) new in
     let u = uses_of h c events ++ (used.served ++ earlier) in
     let at = numbered_front w.step 0 earlier (new ∷ later) (subst (IsNumbered w.step 0) made o.at) in

@@ -33,9 +33,10 @@ use Rattle.machine_spec.specs.Rows.{Row}
 use Rattle.machine_spec.specs.Sets.{Cache, added, touched, filled}
 use Rattle.machine_spec.specs.Served.{Supplied, supplied_by, Place, supply, came, Reply, pushed, goes_on, serve, served}
 use Rattle.machine_spec.specs.Machine.{Core, World, no_core, killed, delivered_by, delivered, most_held, posted, mailed, mailed_by}
-use Rattle.machine_spec.specs.Machine.{Visited, Seat, is_old, is_stale, made_by, visited_by, visited, seat_of, core_of, regs_in, accessed, acted, moved}
+use Rattle.machine_spec.specs.Machine.{Visited, Seat, is_old, is_stale, made_by, visited_by, visited, seat_of, core_numbered, regs_in, accessed, acted, moved}
 use Rattle.machine_spec.specs.Machine.{opened, after_event, world_after, answer_in, answer_to, step_of, run_of}
-use Rattle.machine_laws.specs.Headline.{core_named, AreOfCores, IsFreshNow, IsFreshFor, RunsWithoutRowsAreFresh}
+use Rattle.trace_lang.specs.Traces.{core_of}
+use Rattle.machine_laws.specs.Headline.{AreOfCores, IsFreshNow, IsFreshFor, RunsWithoutRowsAreFresh}
 use Rattle.machine_laws.proofs.Facts.{view_of, AllFacts}
 use Rattle.machine_laws.proofs.Fine.{place_of, ServesWell, MakesWell}
 use Rattle.machine_laws.proofs.Lists.{from_end, none_some}
@@ -220,16 +221,16 @@ module _ (h : Header) (w : World) (none : h.size ≡ NoRows) (c : ℕ) (v : Core
 -- RUNS
 
 module _ (h : Header) (log : List Step) (w : World) (all : AllFacts h log w) (none : h.size ≡ NoRows) where
-  answer_fresh : (c : ℕ) → c < h.cores → IsBare (core_of w c) → (a : Access) → IsFreshNow h log c a (answer_in h w c a)
+  answer_fresh : (c : ℕ) → c < h.cores → IsBare (core_numbered w c) → (a : Access) → IsFreshNow h log c a (answer_in h w c a)
   answer_fresh c lt b a =
       let v : View = view_of h log c (side_of a.va) in
-      let x : Core = core_of w c in
+      let x : Core = core_numbered w c in
       let is : answer_in h w c a ≡ fresh_answer (place_of v x.cache.rows) a =
       ap (λ (u : Visited). u.answer) (visited_fresh (seat_of h w c x) a none (ap (λ (l : Cache). l.rows) b))
       ∙ ap (λ p. fresh_answer p a) (place_is h log w all c (side_of a.va) lt) in
       subst (IsFreshNow h log c a) (sym is) record { outcome = refl; first = refl; second = refl; old = refl; stale = refl; evicted = refl }
 
-  fresh_one : ((c : ℕ) → c < h.cores → IsBare (core_of w c)) → (e : Event) → core_named e < h.cores → IsFreshFor h log e (answer_to h w e)
+  fresh_one : ((c : ℕ) → c < h.cores → IsBare (core_numbered w c)) → (e : Event) → core_of e < h.cores → IsFreshFor h log e (answer_to h w e)
   unfolding answer_to
   fresh_one b (Store core pa value) own = refl
   fresh_one b (Msr core reg value) own = refl
@@ -247,22 +248,22 @@ AllFresh h log = (k : ℕ) (s : Step) → slice_get log k ≡ Some s → IsFresh
 module _ (serves : ServesWell) (makes : MakesWell) (h : Header) (none : h.size ≡ NoRows) where
   -- the caches are as at first, and each access was the fresh walk of its moment
   abbrev IsFreshRun : List Event → Type 0
-  IsFreshRun events = AreOfCores h events → ((c : ℕ) → c < h.cores → IsBare (core_of (world_after h events) c)) × AllFresh h (run_of h events)
+  IsFreshRun events = AreOfCores h events → ((c : ℕ) → c < h.cores → IsBare (core_numbered (world_after h events) c)) × AllFresh h (run_of h events)
 
-  bare_first : (c : ℕ) → c < h.cores → IsBare (core_of (opened h) c)
+  bare_first : (c : ℕ) → c < h.cores → IsBare (core_numbered (opened h) c)
   bare_first c lt = ap (λ (v : Core). v.cache) (get_or-replicate h.cores c no_core no_core lt)
 
-  bare_next : (w : World) (e : Event) → length w.cores ≡ h.cores → ((c : ℕ) → c < h.cores → IsBare (core_of w c)) → (c : ℕ) → c < h.cores
-      → IsBare (core_of (after_event h w e) c)
+  bare_next : (w : World) (e : Event) → length w.cores ≡ h.cores → ((c : ℕ) → c < h.cores → IsBare (core_numbered w c)) → (c : ℕ) → c < h.cores
+      → IsBare (core_numbered (after_event h w e) c)
   bare_next w e count b c lt =
-      ap (λ (v : Core). v.cache) (each_at (moved h w e) w.cores c no_core (omega (arith, count, lt))) ∙ bare_moved h w none c (core_of w c) (b c lt) e
+      ap (λ (v : Core). v.cache) (each_at (moved h w e) w.cores c no_core (omega (arith, count, lt))) ∙ bare_moved h w none c (core_numbered w c) (b c lt) e
 
   fresh_run : (events : List Event) → IsFreshRun events
   fresh_run events = from_end IsFreshRun more (λ own. (bare_first, λ k s at. none_some s at)) events
     where
       more : (es : List Event) (e : Event) → IsFreshRun es → IsFreshRun (es ++ e ∷ [])
       more es e before own =
-          let parts = All-pop (λ d. core_named d < h.cores) (es ++ e ∷ []) es (Some e) refl own in
+          let parts = All-pop (λ d. core_of d < h.cores) (es ++ e ∷ []) es (Some e) refl own in
           let b = before parts.0 in
           let all : AllFacts h (run_of h es) (world_after h es) = facts_of_run serves makes h es parts.0 in
           rw (run_on h es e, world_on h es e) (

@@ -30,7 +30,7 @@ use Rattle.machine_spec.specs.Marks.{Part, nothing, table, leaf, Mark, marks, is
 use Rattle.machine_spec.specs.Rows.{Row}
 use Rattle.machine_spec.specs.Made.{Maker, key_of, key_for, only_if, row_of, rows_by, is_read_now, chain_with, rows_of, last_first, leaf_row, leaf_rows, combined_rows, numbered, rows_made}
 use Rattle.machine_spec.specs.Served.{Place, Reply, Stop, came, clash, served}
-use Rattle.machine_spec.specs.Machine.{Core, World, no_core, delivered_by, delivered, most_held, posted, mailed, mailed_by, finished, Seat, made_by, visited_by, seat_of, core_of, regs_in, accessed, acted, moved, after_event, opened, world_after}
+use Rattle.machine_spec.specs.Machine.{Core, World, no_core, delivered_by, delivered, most_held, posted, mailed, mailed_by, finished, Seat, made_by, visited_by, seat_of, core_numbered, regs_in, accessed, acted, moved, after_event, opened, world_after}
 use Rattle.machine_laws.specs.Rules.{NoRowOutlivesItsVmid}
 use Rattle.machine_laws.proofs.Facts.{In}
 use Rattle.machine_laws.proofs.Lists.{In-filter, In-from_filter, In-left, In-last, In-append}
@@ -241,23 +241,23 @@ In-mailed v i false = In-last (delivered v).inbox i
 -- a machine with all its cores, each of whose rows has the VMID of its key in what invalidations look at
 record IsTagged (h : Header) (w : World) : Type 0 where
   count : length w.cores ≡ h.cores
-  tags : (c : ℕ) → c < h.cores → (r : Row) → In r (core_of w c).cache.rows → r.tag.vmid ≡ r.key.vmid
+  tags : (c : ℕ) → c < h.cores → (r : Row) → In r (core_numbered w c).cache.rows → r.tag.vmid ≡ r.key.vmid
 
 -- a machine behind a step that issued an invalidation: where a core still has a row of the VMID that was made before that
 -- step, or in it, the invalidation is in its inbox
 record IsBehind (h : Header) (w : World) (step vmid : ℕ) (i : Inval) : Type 0 where
   past : step < w.step
-  rows : (c : ℕ) → c < h.cores → (r : Row) → In r (core_of w c).cache.rows → r.key.vmid ≡ vmid
-      → In i (core_of w c).inbox ⊎ (step < r.made.step)
+  rows : (c : ℕ) → c < h.cores → (r : Row) → In r (core_numbered w c).cache.rows → r.key.vmid ≡ vmid
+      → In i (core_numbered w c).inbox ⊎ (step < r.made.step)
 
 module _ (h : Header) where
   pub moved_at : (w : World) → length w.cores ≡ h.cores → (e : Event) (c : ℕ) → c < h.cores
-      → core_of (after_event h w e) c ≡ moved h w e c (core_of w c)
+      → core_numbered (after_event h w e) c ≡ moved h w e c (core_numbered w c)
   moved_at w count e c lt = each_at (moved h w e) w.cores c no_core (omega (arith, count))
 
   rows_come : (w : World) → length w.cores ≡ h.cores → (e : Event) (c : ℕ) → c < h.cores
-      → AllCome w.step (core_of w c) (core_of (after_event h w e) c)
-  rows_come w count e c lt = subst (λ (u : Core). AllCome w.step (core_of w c) u) (sym (moved_at w count e c lt)) (event_come h w e c (core_of w c))
+      → AllCome w.step (core_numbered w c) (core_numbered (after_event h w e) c)
+  rows_come w count e c lt = subst (λ (u : Core). AllCome w.step (core_numbered w c) u) (sym (moved_at w count e c lt)) (event_come h w e c (core_numbered w c))
 
   tagged_on : (w : World) → IsTagged h w → (e : Event) → IsTagged h (after_event h w e)
   tagged_on w t e = record {
@@ -308,18 +308,18 @@ module _ (h : Header) where
     past = omega arith;
     rows = λ c lt r m same.
         let i : Inval = whole (regs_in w core) core w.step in
-        inl (subst (λ (v : Core). In i v.inbox) (sym (moved_at w count (issue core) c lt)) (comes_in w core c (core_of w c)));
+        inl (subst (λ (v : Core). In i v.inbox) (sym (moved_at w count (issue core) c lt)) (comes_in w core c (core_numbered w c)));
   }
 
   -- behind the barrier it is in no inbox
   gone : (w : World) → length w.cores ≡ h.cores → (regs : Regs) (core step c : ℕ) → c < h.cores
-      → In (whole regs core step) (core_of (after_event h w (Dsb core Ish)) c).inbox → ⊥
+      → In (whole regs core step) (core_numbered (after_event h w (Dsb core Ish)) c).inbox → ⊥
   gone w count regs core step c lt m =
       let i : Inval = whole regs core step in
-      let at : In i (moved h w (Dsb core Ish) c (core_of w c)).inbox = subst (λ (v : Core). In i v.inbox) (moved_at w count (Dsb core Ish) c lt) m in
-      let empty = barrier_empties_inboxes h w core c (core_of w c) in
+      let at : In i (moved h w (Dsb core Ish) c (core_numbered w c)).inbox = subst (λ (v : Core). In i v.inbox) (moved_at w count (Dsb core Ish) c lt) m in
+      let empty = barrier_empties_inboxes h w core c (core_numbered w c) in
       both_ways (core == i.issuer)
-      (in_of_all (λ (j : Inval). (core == j.issuer) ≡ false) (moved h w (Dsb core Ish) c (core_of w c)).inbox empty i at)
+      (in_of_all (λ (j : Inval). (core == j.issuer) ≡ false) (moved h w (Dsb core Ish) c (core_numbered w c)).inbox empty i at)
       (issuer_is regs core step)
 
   world_is : (before between : List Event) (core : ℕ) → world_after h (before ++ issue core ∷ (between ++ Dsb core Ish ∷ []))
@@ -336,7 +336,7 @@ module _ (h : Header) where
     vmid_then = vmid_of (regs_in first core)
 
     late_rows : (w : World) → w ≡ fold (after_event h) (after_event h first (issue core)) between → (r : Row)
-        → In r (core_of (after_event h w (Dsb core Ish)) c).cache.rows → r.key.vmid ≡ vmid_then → length before < r.made.step
+        → In r (core_numbered (after_event h w (Dsb core Ish)) c).cache.rows → r.key.vmid ≡ vmid_then → length before < r.made.step
     late_rows w e r m same =
         let i : Inval = whole (regs_in first core) core first.step in
         let cover = whole_covers (regs_in first core) core first.step in
@@ -354,8 +354,8 @@ module _ (h : Header) where
 pub no_row_outlives_its_vmid : NoRowOutlivesItsVmid
 no_row_outlives_its_vmid h before between core own c lt =
     let before_dsb : World = fold (after_event h) (after_event h (world_after h before) (issue core)) between in
-    subst (λ (w : World). All (λ r. r.key.vmid ≡ vmid_of (regs_in (world_after h before) core) → length before < r.made.step) (core_of w c).cache.rows)
+    subst (λ (w : World). All (λ r. r.key.vmid ≡ vmid_of (regs_in (world_after h before) core) → length before < r.made.step) (core_numbered w c).cache.rows)
     (sym (world_is h before between core))
     (all_of_in (λ (r : Row). r.key.vmid ≡ vmid_of (regs_in (world_after h before) core) → length before < r.made.step)
-    (core_of (after_event h before_dsb (Dsb core Ish)) c).cache.rows
+    (core_numbered (after_event h before_dsb (Dsb core Ish)) c).cache.rows
     (λ r m same. late_rows h before between core c lt before_dsb refl r m same))

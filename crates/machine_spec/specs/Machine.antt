@@ -157,12 +157,12 @@ seat_of h w c core = record {
 }
 
 -- the core of a number
-abbrev pub core_of : (world : World) (number : ℕ) → Core
-core_of w c = get_or w.cores c no_core
+abbrev pub core_numbered : (world : World) (number : ℕ) → Core
+core_numbered w c = get_or w.cores c no_core
 
 -- the registers in force of the cores
 abbrev pub regs_in : (world : World) (number : ℕ) → Regs
-regs_in w c = (core_of w c).bank.regs
+regs_in w c = (core_numbered w c).bank.regs
 
 -- what an access leaves of a core
 abbrev pub accessed : (header : Header) (world : World) (number : ℕ) (core : Core) (access : Access) → Core
@@ -199,7 +199,7 @@ abbrev pub world_after : (header : Header) (events : List Event) → World
 world_after h events = fold (after_event h) (opened h) events
 
 abbrev pub answer_in : (header : Header) (world : World) (number : ℕ) (access : Access) → Answer
-answer_in h w c a = (visited (seat_of h w c (core_of w c)) a).answer
+answer_in h w c a = (visited (seat_of h w c (core_numbered w c)) a).answer
 
 -- the answer of an event, which an access and a prefetch have
 unfoldable pub answer_to : (header : Header) (world : World) (event : Event) → Option Answer
