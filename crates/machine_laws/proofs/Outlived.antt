@@ -29,8 +29,8 @@ use Rattle.machine_spec.specs.Invalidations.{issued_by, completes}
 use Rattle.machine_spec.specs.Marks.{Part, nothing, table, leaf, Mark, marks, is_leaf1 as is_mark_leaf1}
 use Rattle.machine_spec.specs.Rows.{Row}
 use Rattle.machine_spec.specs.Made.{Maker, key_of, key_for, only_if, row_of, rows_by, is_read_now, chain_with, rows_of, last_first, leaf_row, leaf_rows, combined_rows, numbered, rows_made}
-use Rattle.machine_spec.specs.Served.{Place, Reply, Stop, came, clash, served}
-use Rattle.machine_spec.specs.Machine.{Core, World, no_core, delivered_by, delivered, most_held, posted, mailed, mailed_by, finished, Seat, made_by, visited_by, seat_of, core_numbered, regs_in, accessed, acted, moved, after_event, opened, world_after}
+use Rattle.machine_spec.specs.Served.{Place, Reply, Halt, came, clash, served}
+use Rattle.machine_spec.specs.Machine.{Core, World, no_core, delivered_by, delivered, most_held, posted, mailed, mailed_by, finished, Visit, made_by, visited_by, visit_of, core_numbered, regs_in, accessed, acted, moved, after_event, opened, world_after}
 use Rattle.machine_laws.specs.Rules.{NoRowOutlivesItsVmid}
 use Rattle.machine_laws.proofs.Facts.{In}
 use Rattle.machine_laws.proofs.Lists.{In-filter, In-from_filter, In-left, In-last, In-append}
@@ -114,7 +114,7 @@ module _ (k : Maker) where
       ])
       x i
 
-reply_new : (p : Place) (a : Access) (r : Reply) (t : Stop) (x : Row) → In x (made_by p a r t) → IsNew p.step x
+reply_new : (p : Place) (a : Access) (r : Reply) (t : Halt) (x : Row) → In x (made_by p a r t) → IsNew p.step x
 reply_new p a r (came end) x i =
     let c = config_of p.regs in
     made_new (record { regs = p.regs; step = p.step }) (untagged a.va) r.items
@@ -122,7 +122,7 @@ reply_new p a r (came end) x i =
 reply_new p a r (clash one two) x i = absurd i
 
 -- each row behind an access was there, or is new
-visited_rows : (s : Seat) (a : Access) (r : Reply) → ((x : Row) → In x r.by → In x s.cache.rows) → (t : Stop) (x : Row)
+visited_rows : (s : Visit) (a : Access) (r : Reply) → ((x : Row) → In x r.by → In x s.cache.rows) → (t : Halt) (x : Row)
     → In x (visited_by s a r t).cache.rows → In x s.cache.rows ⊎ IsNew s.place.step x
 visited_rows s a r live (came end) x i = elim (In-filled s.header s.number s.cache r.by (made_by s.place a r (came end)) x i) [
   | inl (inl j) ↦ inl j
@@ -191,10 +191,10 @@ delivered_if n v false = same_come n v
 
 accessed_if : (h : Header) (w : World) (c : ℕ) (v : Core) (a : Access) (own : Bool) → AllCome w.step v (cond own (accessed h w c v a) v)
 accessed_if h w c v a true r i =
-    let s : Seat = seat_of h w c v in
+    let s : Visit = visit_of h w c v in
     let y : Reply = served s.place a in
     let live = (λ (x : Row) (m : In x y.by). (In-from_filter (is_own (key_of s.place.regs)) s.place.rows x (served_own s.place a x m)).0) in
-    elim (visited_rows s a y live y.stop r i) [
+    elim (visited_rows s a y live y.halt r i) [
       | inl old ↦ inl (old, λ j m cov. m)
       | inr new ↦ inr new
     ]

@@ -3,7 +3,7 @@ use Rattle.std.specs.Prelude.{◌≡◌, ◌⊎◌, ℕ, ◌<◌, true, false, n
 use Rattle.std.specs.Prelude.{◌++◌, length, slice_get, filter, take, Option, Some, None}
 use Rattle.std.specs.List.{list_any}
 use Rattle.trails.specs.declared.event.Event.{Event}
-use Rattle.trails.specs.declared.event.Event.TheVariants.{Store, Msr, Settle, Isb, Tlbi, Dsb, Deliver, Access as AccessOf, Prefetch}
+use Rattle.trails.specs.declared.event.Event.TheVariants.{Tlbi, Dsb, Deliver, Access as AccessOf, Prefetch}
 use Rattle.trails.specs.declared.outcome.Access.{Access}
 use Rattle.trace_lang.specs.declared.header.Policy.TheVariants.{Lru}
 use Rattle.tlbi_ops.specs.declared.inval.Inval.{Inval}
@@ -13,8 +13,8 @@ use Rattle.machine_spec.specs.Header.{Header, shape_of}
 use Rattle.machine_spec.specs.Invalidations.{issued_by, completes}
 use Rattle.machine_spec.specs.Rows.{Row}
 use Rattle.machine_spec.specs.Sets.{Cache, victim, same_set, same_key, is_row, filled}
-use Rattle.machine_spec.specs.Served.{Place, Reply, Stop, came, clash, served}
-use Rattle.machine_spec.specs.Machine.{World, most_held, made_by, seat_of, core_numbered, regs_in, after_event, opened, world_after}
+use Rattle.machine_spec.specs.Served.{Place, Reply, Halt, came, clash, served}
+use Rattle.machine_spec.specs.Machine.{World, most_held, made_by, visit_of, core_numbered, regs_in, after_event, opened, world_after}
 
 -- an element of a list
 abbrev pub In : {X : Type 0} → (element : X) (list : List X) → Type 0
@@ -50,12 +50,12 @@ abbrev pub none_used : Used
 none_used = record { served = []; made = [] }
 
 -- a conflict uses none
-abbrev pub used_by : (place : Place) (access : Access) (reply : Reply) (stop : Stop) → Used
+abbrev pub used_by : (place : Place) (access : Access) (reply : Reply) (halt : Halt) → Used
 used_by p a r (came end) = record { served = r.by; made = made_by p a r (came end) }
 used_by p a r (clash one two) = none_used
 
 abbrev pub used_here : (header : Header) (world : World) (number : ℕ) (access : Access) → Used
-used_here h w c a = let p = (seat_of h w c (core_numbered w c)).place in let r = served p a in used_by p a r r.stop
+used_here h w c a = let p = (visit_of h w c (core_numbered w c)).place in let r = served p a in used_by p a r r.halt
 
 -- the rows that an event uses at a core
 abbrev pub used_at : (header : Header) (world : World) (number : ℕ) (event : Event) → Used

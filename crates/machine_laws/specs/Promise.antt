@@ -1,7 +1,7 @@
 -- What a run promises, in one piece: each step is allowed, and fresh where it has to be.
 use Rattle.std.specs.Prelude.{◌≡◌, ℕ, false, List, length, take, slice_get, Option, Some, None}
 use Rattle.trails.specs.declared.event.Event.{Event}
-use Rattle.trails.specs.declared.event.Event.TheVariants.{Store, Msr, Settle, Isb, Tlbi, Dsb, Deliver, Access as AccessOf, Prefetch}
+use Rattle.trails.specs.declared.event.Event.TheVariants.{Access as AccessOf, Prefetch}
 use Rattle.trails.specs.declared.outcome.Access.{Access}
 use Rattle.trails.specs.declared.step.Answer.{Answer}
 use Rattle.trails.specs.declared.step.Step.{Step}

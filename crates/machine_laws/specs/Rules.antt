@@ -5,7 +5,7 @@ use Rattle.std.specs.List.{remove}
 use Rattle.sysregs.specs.declared.regs.Op.TheVariants.{Vmalls12e1}
 use Rattle.sysregs.specs.Registers.{config_of, vmid_of}
 use Rattle.trails.specs.declared.event.Event.{Event}
-use Rattle.trails.specs.declared.event.Event.TheVariants.{Store, Msr, Settle, Isb, Tlbi, Dsb, Deliver, Access as AccessOf, Prefetch}
+use Rattle.trails.specs.declared.event.Event.TheVariants.{Store, Msr, Settle, Isb, Tlbi, Dsb}
 use Rattle.trails.specs.declared.event.Barrier.TheVariants.{Ish}
 use Rattle.trails.specs.declared.event.Origin.TheVariants.{El2}
 use Rattle.trails.specs.declared.outcome.Access.{Access}

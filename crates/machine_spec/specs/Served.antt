@@ -62,38 +62,38 @@ supply p a (base2 x) =
     chain_of (fresh_of p a (base2 x)) (matching (matches leaf2 k x) p.rows) (deepest (matches table2 k x) p.rows)
 supply p a (word w) = fresh_of p a (word w)
 
--- how a service stops: as the walk came out, or with two trails of which one would have to go on
-pub data Stop : Type 0 where
-  came : Fed Need (End Landing) → Stop
-  clash : (one two : List Item) → Stop
+-- how a service halts: as the walk came out, or with two trails of which one would have to go on
+pub data Halt : Type 0 where
+  came : Fed Need (End Landing) → Halt
+  clash : (one two : List Item) → Halt
 
--- what was served: the items, how it stopped, and the rows that served, in the order of the trail
+-- what was served: the items, how it halted, and the rows that served, in the order of the trail
 pub record Reply : Type 0 where
   pub items : List Item
-  pub stop : Stop
+  pub halt : Halt
   pub by : List Row
 
 abbrev pub pushed : (item : Item) (rows : List Row) (reply : Reply) → Reply
-pushed i rows r = record { items = i ∷ r.items; stop = r.stop; by = rows ++ r.by }
+pushed i rows r = record { items = i ∷ r.items; halt = r.halt; by = rows ++ r.by }
 
-abbrev pub stopped : (stop : Stop) → Reply
-stopped s = record { items = []; stop = s; by = [] }
+abbrev pub halted : (halt : Halt) → Reply
+halted s = record { items = []; halt = s; by = [] }
 
 abbrev pub goes_on : (need : Need) (supplied : Supplied) (next : Item → List Item → Reply) → Reply
 goes_on n (gives i rest rows) next = pushed i rows (next i rest)
-goes_on n nothing next = stopped (came (lacks n))
-goes_on n (both one two) next = stopped (clash one two)
+goes_on n nothing next = halted (came (lacks n))
+goes_on n (both one two) next = halted (clash one two)
 
 -- a walk takes the items that it has already, and then what is supplied
 abbrev pub serve : (supply : Need → Supplied) (items : List Item) (walk : Ask Need Item (End Landing)) → Reply
-serve sup items (done e) = stopped (came (ended e))
+serve sup items (done e) = halted (came (ended e))
 serve sup [] (ask n k) = goes_on n (sup n) (λ i rest. serve sup rest (k i))
 serve sup (i ∷ items) (ask n k) = pushed i [] (serve sup items (k i))
 
 -- a walk takes the items of a row's trail up to its end
 abbrev pub taken : (items : List Item) (walk : Ask Need Item (End Landing)) → Reply
-taken items (done e) = stopped (came (ended e))
-taken [] (ask n k) = stopped (came (lacks n))
+taken items (done e) = halted (came (ended e))
+taken [] (ask n k) = halted (came (lacks n))
 taken (i ∷ items) (ask n k) = pushed i [] (taken items (k i))
 
 abbrev pub credited : (row : Row) (reply : Reply) → Reply
@@ -108,7 +108,7 @@ begun1 (Some r) next = credited r (next r.trail)
 abbrev pub combined : (leaves : List Row) (table : Option Row) (supply : Need → Supplied) (walk : Ask Need Item (End Landing)) → Reply
 combined [] t sup w = begun1 t (λ items. serve sup items w)
 combined (r ∷ []) t sup w = credited r (taken r.trail w)
-combined (r ∷ s ∷ more) t sup w = stopped (clash r.trail s.trail)
+combined (r ∷ s ∷ more) t sup w = halted (clash r.trail s.trail)
 
 -- An access is served. What stage 1 refuses before its tables comes before any row, and without stage 1 no row of it is asked.
 abbrev pub served : (place : Place) (access : Access) → Reply
