@@ -84,13 +84,15 @@ goes_on n (gives i rest rows) next = pushed i rows (next i rest)
 goes_on n nothing next = halted (came (lacks n))
 goes_on n (both one two) next = halted (clash one two)
 
--- a walk takes the items that it has already, and then what is supplied
+-- A walk takes the items that it has already, and then what is supplied; the rest of a chain answers the needs that follow. In
+-- a run none flows beyond its stage 2 translation: a row holds just what a walk took up to its word, and so will this walk.
 abbrev pub serve : (supply : Need → Supplied) (items : List Item) (walk : Ask Need Item (End Landing)) → Reply
 serve sup items (done e) = halted (came (ended e))
 serve sup [] (ask n k) = goes_on n (sup n) (λ i rest. serve sup rest (k i))
 serve sup (i ∷ items) (ask n k) = pushed i [] (serve sup items (k i))
 
--- a walk takes the items of a row's trail up to its end
+-- A walk takes the items of a row's trail up to its end. Where the stage 1 leaf refuses the access, those behind it are
+-- dropped: they are stage 2 of its output, for which this walk doesn't ask.
 abbrev pub taken : (items : List Item) (walk : Ask Need Item (End Landing)) → Reply
 taken items (done e) = halted (came (ended e))
 taken [] (ask n k) = halted (came (lacks n))
