@@ -26,7 +26,7 @@ use Rattle.walk_spec.specs.Stage1.{untagged}
 use Rattle.walk_spec.specs.BothStages.{Landing, walk}
 use Rattle.machine_spec.specs.Header.{Header, Kind, table1, leaf2, table2}
 use Rattle.machine_spec.specs.Invalidations.{issued_by, completes}
-use Rattle.machine_spec.specs.Marks.{Part, nothing, table, leaf, Mark, marks, is_leaf1 as is_mark_leaf1}
+use Rattle.machine_spec.specs.Marks.{Part, nothing, table, leaf_of_stage1, leaf_of_stage2, Mark, marks, is_leaf1}
 use Rattle.machine_spec.specs.Rows.{Row}
 use Rattle.machine_spec.specs.Made.{Maker, key_of, key_for, only_if, row_of, rows_by, is_read_now, chain_with, rows_of, last_first, leaf_row, leaf_rows, combined_rows, numbered, rows_made}
 use Rattle.machine_spec.specs.Served.{Place, Reply, Halt, came, clash, served}
@@ -62,10 +62,12 @@ module _ (k : Maker) where
   by_new : (m : Mark) (whole chain : List Item) (s : Stage) (part : Part) (x : Row) → In x (rows_by k m whole chain s part) → IsNew k.step x
   by_new m whole chain S1 nothing x i = absurd i
   by_new m whole chain S1 (table cached) x i = new_if cached k.step (row_of k m table1 whole) x (row_new m table1 whole) i
-  by_new m whole chain S1 (leaf global cached) x i = absurd i
+  by_new m whole chain S1 (leaf_of_stage1 global) x i = absurd i
+  by_new m whole chain S1 (leaf_of_stage2 cached) x i = absurd i
   by_new m whole chain S2 nothing x i = absurd i
   by_new m whole chain S2 (table cached) x i = new_if cached k.step (row_of k m table2 chain) x (row_new m table2 chain) i
-  by_new m whole chain S2 (leaf global cached) x i = new_if cached k.step (row_of k m leaf2 chain) x (row_new m leaf2 chain) i
+  by_new m whole chain S2 (leaf_of_stage1 global) x i = absurd i
+  by_new m whole chain S2 (leaf_of_stage2 cached) x i = new_if cached k.step (row_of k m leaf2 chain) x (row_new m leaf2 chain) i
 
   read_new : (m : Mark) (whole chain : List Item) (b : Bool) (x : Row) → In x (cond b (rows_by k m whole chain m.stage m.part) []) → IsNew k.step x
   read_new m whole chain true x i = by_new m whole chain m.stage m.part x i
@@ -81,15 +83,10 @@ module _ (k : Maker) where
         | inr j ↦ rows_new ms whole2 chain2 x j
       ]
 
-  leaf_if : (class address : ℕ) (m : Mark) (trail : List Item) (b : Bool) (x : Row) → In x (cond b (leaf_row k class address m trail ∷ []) [])
-      → IsNew k.step x
-  leaf_if class address m trail true x (inl e) = subst (IsNew k.step) (sym e) (record { vmid = key_vmid k.regs m.stage; step_is = refl })
-  leaf_if class address m trail true x (inr i) = absurd i
-  leaf_if class address m trail false x i = absurd i
-
   leaf_new : (class address : ℕ) (trail : List Item) (last : Option Mark) (x : Row) → In x (leaf_rows k class address trail last) → IsNew k.step x
   leaf_new class address trail None x i = absurd i
-  leaf_new class address trail (Some m) x i = leaf_if class address m trail (is_mark_leaf1 m && is_read_now k m) x i
+  leaf_new class address trail (Some m) x i =
+      new_if (is_leaf1 m && is_read_now k m) k.step (leaf_row k class address m trail) x (record { vmid = key_vmid k.regs m.stage; step_is = refl }) i
 
   pub combined_new : (address : ℕ) (trail : List Item) (ms : List Mark) (end : Fed Need (End Landing)) (x : Row)
       → In x (combined_rows k address trail ms end) → IsNew k.step x
