@@ -15,37 +15,101 @@ use Rattle.cpu_model.specs.Cores.{IsBank}
 -- the register that is set holds the value, and each other one what it held
 set_accepted : (r : Regs) (reg : Reg) (value : ℕ) → AreAccepted r → refused_field reg value ≡ None → AreAccepted (set_of r reg value)
 set_accepted r SctlrEl1 value ok h at =
-    elim at as (λ x. refused_field x (value_of (set_of r SctlrEl1 value) x) ≡ None)
-    [ SctlrEl1 ↦ h | TcrEl1 ↦ ok TcrEl1 | Ttbr0El1 ↦ ok Ttbr0El1 | Ttbr1El1 ↦ ok Ttbr1El1 | MairEl1 ↦ ok MairEl1 | HcrEl2 ↦ ok HcrEl2 | VtcrEl2 ↦
-    ok VtcrEl2 | VttbrEl2 ↦ ok VttbrEl2 ]
+    elim at as (λ x. refused_field x (value_of (set_of r SctlrEl1 value) x) ≡ None) [
+      | SctlrEl1 ↦ h
+      | TcrEl1 ↦ ok TcrEl1
+      | Ttbr0El1 ↦ ok Ttbr0El1
+      | Ttbr1El1 ↦ ok Ttbr1El1
+      | MairEl1 ↦ ok MairEl1
+      | HcrEl2 ↦ ok HcrEl2
+      | VtcrEl2 ↦
+          ok VtcrEl2
+      | VttbrEl2 ↦ ok VttbrEl2
+    ]
 set_accepted r TcrEl1 value ok h at =
-    elim at as (λ x. refused_field x (value_of (set_of r TcrEl1 value) x) ≡ None)
-    [ SctlrEl1 ↦ ok SctlrEl1 | TcrEl1 ↦ h | Ttbr0El1 ↦ ok Ttbr0El1 | Ttbr1El1 ↦ ok Ttbr1El1 | MairEl1 ↦ ok MairEl1 | HcrEl2 ↦ ok HcrEl2 | VtcrEl2 ↦
-    ok VtcrEl2 | VttbrEl2 ↦ ok VttbrEl2 ]
+    elim at as (λ x. refused_field x (value_of (set_of r TcrEl1 value) x) ≡ None) [
+      | SctlrEl1 ↦ ok SctlrEl1
+      | TcrEl1 ↦ h
+      | Ttbr0El1 ↦ ok Ttbr0El1
+      | Ttbr1El1 ↦ ok Ttbr1El1
+      | MairEl1 ↦ ok MairEl1
+      | HcrEl2 ↦ ok HcrEl2
+      | VtcrEl2 ↦
+          ok VtcrEl2
+      | VttbrEl2 ↦ ok VttbrEl2
+    ]
 set_accepted r Ttbr0El1 value ok h at =
-    elim at as (λ x. refused_field x (value_of (set_of r Ttbr0El1 value) x) ≡ None)
-    [ SctlrEl1 ↦ ok SctlrEl1 | TcrEl1 ↦ ok TcrEl1 | Ttbr0El1 ↦ h | Ttbr1El1 ↦ ok Ttbr1El1 | MairEl1 ↦ ok MairEl1 | HcrEl2 ↦ ok HcrEl2 | VtcrEl2 ↦
-    ok VtcrEl2 | VttbrEl2 ↦ ok VttbrEl2 ]
+    elim at as (λ x. refused_field x (value_of (set_of r Ttbr0El1 value) x) ≡ None) [
+      | SctlrEl1 ↦ ok SctlrEl1
+      | TcrEl1 ↦ ok TcrEl1
+      | Ttbr0El1 ↦ h
+      | Ttbr1El1 ↦ ok Ttbr1El1
+      | MairEl1 ↦ ok MairEl1
+      | HcrEl2 ↦ ok HcrEl2
+      | VtcrEl2 ↦
+          ok VtcrEl2
+      | VttbrEl2 ↦ ok VttbrEl2
+    ]
 set_accepted r Ttbr1El1 value ok h at =
-    elim at as (λ x. refused_field x (value_of (set_of r Ttbr1El1 value) x) ≡ None)
-    [ SctlrEl1 ↦ ok SctlrEl1 | TcrEl1 ↦ ok TcrEl1 | Ttbr0El1 ↦ ok Ttbr0El1 | Ttbr1El1 ↦ h | MairEl1 ↦ ok MairEl1 | HcrEl2 ↦ ok HcrEl2 | VtcrEl2 ↦
-    ok VtcrEl2 | VttbrEl2 ↦ ok VttbrEl2 ]
+    elim at as (λ x. refused_field x (value_of (set_of r Ttbr1El1 value) x) ≡ None) [
+      | SctlrEl1 ↦ ok SctlrEl1
+      | TcrEl1 ↦ ok TcrEl1
+      | Ttbr0El1 ↦ ok Ttbr0El1
+      | Ttbr1El1 ↦ h
+      | MairEl1 ↦ ok MairEl1
+      | HcrEl2 ↦ ok HcrEl2
+      | VtcrEl2 ↦
+          ok VtcrEl2
+      | VttbrEl2 ↦ ok VttbrEl2
+    ]
 set_accepted r MairEl1 value ok h at =
-    elim at as (λ x. refused_field x (value_of (set_of r MairEl1 value) x) ≡ None)
-    [ SctlrEl1 ↦ ok SctlrEl1 | TcrEl1 ↦ ok TcrEl1 | Ttbr0El1 ↦ ok Ttbr0El1 | Ttbr1El1 ↦ ok Ttbr1El1 | MairEl1 ↦ h | HcrEl2 ↦ ok HcrEl2 | VtcrEl2 ↦
-    ok VtcrEl2 | VttbrEl2 ↦ ok VttbrEl2 ]
+    elim at as (λ x. refused_field x (value_of (set_of r MairEl1 value) x) ≡ None) [
+      | SctlrEl1 ↦ ok SctlrEl1
+      | TcrEl1 ↦ ok TcrEl1
+      | Ttbr0El1 ↦ ok Ttbr0El1
+      | Ttbr1El1 ↦ ok Ttbr1El1
+      | MairEl1 ↦ h
+      | HcrEl2 ↦ ok HcrEl2
+      | VtcrEl2 ↦
+          ok VtcrEl2
+      | VttbrEl2 ↦ ok VttbrEl2
+    ]
 set_accepted r HcrEl2 value ok h at =
-    elim at as (λ x. refused_field x (value_of (set_of r HcrEl2 value) x) ≡ None)
-    [ SctlrEl1 ↦ ok SctlrEl1 | TcrEl1 ↦ ok TcrEl1 | Ttbr0El1 ↦ ok Ttbr0El1 | Ttbr1El1 ↦ ok Ttbr1El1 | MairEl1 ↦ ok MairEl1 | HcrEl2 ↦ h | VtcrEl2 ↦
-    ok VtcrEl2 | VttbrEl2 ↦ ok VttbrEl2 ]
+    elim at as (λ x. refused_field x (value_of (set_of r HcrEl2 value) x) ≡ None) [
+      | SctlrEl1 ↦ ok SctlrEl1
+      | TcrEl1 ↦ ok TcrEl1
+      | Ttbr0El1 ↦ ok Ttbr0El1
+      | Ttbr1El1 ↦ ok Ttbr1El1
+      | MairEl1 ↦ ok MairEl1
+      | HcrEl2 ↦ h
+      | VtcrEl2 ↦
+          ok VtcrEl2
+      | VttbrEl2 ↦ ok VttbrEl2
+    ]
 set_accepted r VtcrEl2 value ok h at =
-    elim at as (λ x. refused_field x (value_of (set_of r VtcrEl2 value) x) ≡ None)
-    [ SctlrEl1 ↦ ok SctlrEl1 | TcrEl1 ↦ ok TcrEl1 | Ttbr0El1 ↦ ok Ttbr0El1 | Ttbr1El1 ↦ ok Ttbr1El1 | MairEl1 ↦ ok MairEl1 | HcrEl2 ↦ ok HcrEl2 | VtcrEl2 ↦
-    h | VttbrEl2 ↦ ok VttbrEl2 ]
+    elim at as (λ x. refused_field x (value_of (set_of r VtcrEl2 value) x) ≡ None) [
+      | SctlrEl1 ↦ ok SctlrEl1
+      | TcrEl1 ↦ ok TcrEl1
+      | Ttbr0El1 ↦ ok Ttbr0El1
+      | Ttbr1El1 ↦ ok Ttbr1El1
+      | MairEl1 ↦ ok MairEl1
+      | HcrEl2 ↦ ok HcrEl2
+      | VtcrEl2 ↦
+          h
+      | VttbrEl2 ↦ ok VttbrEl2
+    ]
 set_accepted r VttbrEl2 value ok h at =
-    elim at as (λ x. refused_field x (value_of (set_of r VttbrEl2 value) x) ≡ None)
-    [ SctlrEl1 ↦ ok SctlrEl1 | TcrEl1 ↦ ok TcrEl1 | Ttbr0El1 ↦ ok Ttbr0El1 | Ttbr1El1 ↦ ok Ttbr1El1 | MairEl1 ↦ ok MairEl1 | HcrEl2 ↦ ok HcrEl2 | VtcrEl2 ↦
-    ok VtcrEl2 | VttbrEl2 ↦ h ]
+    elim at as (λ x. refused_field x (value_of (set_of r VttbrEl2 value) x) ≡ None) [
+      | SctlrEl1 ↦ ok SctlrEl1
+      | TcrEl1 ↦ ok TcrEl1
+      | Ttbr0El1 ↦ ok Ttbr0El1
+      | Ttbr1El1 ↦ ok Ttbr1El1
+      | MairEl1 ↦ ok MairEl1
+      | HcrEl2 ↦ ok HcrEl2
+      | VtcrEl2 ↦
+          ok VtcrEl2
+      | VttbrEl2 ↦ h
+    ]
 
 pub zero_accepted : AreAccepted zero_regs
 zero_accepted at =

@@ -58,7 +58,7 @@ asks_finer : {N M I X A : Type 0} (Q : N → Type 0) (P : M → Type 0) (stop : 
 asks_finer Q P stop how (done a) h g = tt
 asks_finer Q P stop how (ask n k) h g =
     asks_after P (how n) (go_on stop (λ i. finer stop how (k i))) (g n h.0)
-        (λ r. asks_go P stop (λ i. finer stop how (k i)) r (λ i. asks_finer Q P stop how (k i) (h.1 i) g))
+    (λ r. asks_go P stop (λ i. finer stop how (k i)) r (λ i. asks_finer Q P stop how (k i) (h.1 i) g))
 
 asks_step : {N L T : Type 0} (P : N → Type 0) (s : Step L T) (below : T → Ask N Item (End L)) → ((t : T) → Asks P (below t)) → Asks P (step_then below s)
 asks_step P (Down t) below h = h t
@@ -122,8 +122,8 @@ module _ (q : Asked) (start2 : q.regime.stage2.start ≤ most_left) where
   module _ (start1 : is_refused1 q.regime.config q.access ≡ false → q.regime.stage1.start ≤ most_left) where
     asks_large : (big : Bool) (base : ℕ) → q.regime.stage1.start ≤ most_left
         → Asks IsLow
-            (cond big (done (stops (fault1 AddressSize most_left)))
-            (finer stops (word_of q.regime) (walk1_from q q.regime.stage1.start record { address = base; bits = no_bits })))
+        (cond big (done (stops (fault1 AddressSize most_left)))
+        (finer stops (word_of q.regime) (walk1_from q q.regime.stage1.start record { address = base; bits = no_bits })))
     asks_large true base h = tt
     asks_large false base h =
         asks_finer IsLowEntry IsLow stops (word_of q.regime) (walk1_from q q.regime.stage1.start record { address = base; bits = no_bits })

@@ -150,7 +150,7 @@ module _ (laws : RunsAreAllowed) (t : Parts) (m : Memory) (seats : List SeatStat
       let old : c < length seats = omega (arith, lt, l, n) in
       get_or-map core_at after c no_seat no_core (omega (arith, old, n)) ∙ did.cores h are c old
       ∙ sym (each_at (moved h w e) (map core_at seats) c no_core (omega (arith, old, l2))
-          ∙ ap (moved h w e c) (get_or-map core_at seats c no_seat no_core old)))
+      ∙ ap (moved h w e c) (get_or-map core_at seats c no_seat no_core old)))
 
   world_next : world_of (length log + 1) next after ≡ world_after h (front ++ e ∷ [])
   world_next =
@@ -164,9 +164,9 @@ module _ (laws : RunsAreAllowed) (t : Parts) (m : Memory) (seats : List SeatStat
   allowed : IsAllowed h log done
   allowed =
       let at : slice_get (run_of h (front ++ e ∷ [])) (length log) ≡ Some done =
-          subst (λ l. slice_get l (length log) ≡ Some done) run_next (get-last log done) in
+      subst (λ l. slice_get l (length log) ≡ Some done) run_next (get-last log done) in
       let before : take (length log) (run_of h (front ++ e ∷ [])) ≡ log =
-          subst (λ l. take (length log) l ≡ log) run_next (take_at log (done ∷ []) (length log) refl) in
+      subst (λ l. take (length log) l ≡ log) run_next (take_at log (done ∷ []) (length log) refl) in
       subst (λ l. IsAllowed h l done) before (laws h (front ++ e ∷ []) of_cores (length log) done at)
 
   kept : IsRun t (log ++ done ∷ []) (world_of (length (log ++ done ∷ [])) next after)

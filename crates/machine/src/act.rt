@@ -43,7 +43,15 @@ fn post_all(seats: &mut [Seat], inval: &Inval)
 }
 
 /// A TLBI of a core: its invalidation, by the registers in force of the core, comes in at the cores that it reaches.
-fn issue(seats: &mut [Seat], core: u8, from: Origin, op: Op, shared: bool, operand: u64, moment: u32)
+fn issue(
+    seats: &mut [Seat],
+    core: u8,
+    from: Origin,
+    op: Op,
+    shared: bool,
+    operand: u64,
+    moment: u32,
+)
     requires { core < length seats.old }
     ensures cores { (c : ℕ) → c < length seats.old → core_at (slice_index_or seats.new c no_seat)
         ≡ mailed_by c (core_at (slice_index_or seats.old c no_seat))

@@ -7,7 +7,7 @@ use Rattle.trails.specs.declared.event.Barrier.TheVariants.{Nsh, Ish, Sy}
 use Rattle.trails.specs.declared.event.Origin.{Origin}
 use Rattle.trails.specs.declared.event.Origin.TheVariants.{El1, El2}
 use Rattle.trails.specs.declared.event.Event.{Event}
-use Rattle.trails.specs.declared.event.Event.TheVariants.{Store, Msr, Settle, Isb, Tlbi, Dsb, Deliver, Access, Prefetch}
+use Rattle.trails.specs.declared.event.Event.TheVariants.{Tlbi, Dsb}
 use Rattle.trails.specs.declared.step.Step.{Step}
 use Rattle.tlbi_ops.specs.declared.inval.Inval.{Inval}
 use Rattle.tlbi_ops.specs.Operands.{inval_of}

@@ -9,7 +9,7 @@ use Rattle.trails.specs.declared.item.Item.{Item}
 use Rattle.trails.specs.declared.outcome.Access.{Access}
 use Rattle.trails.specs.declared.outcome.Outcome.TheVariants.{Conflict}
 use Rattle.trails.specs.declared.event.Event.{Event}
-use Rattle.trails.specs.declared.event.Event.TheVariants.{Store, Msr, Settle, Isb, Tlbi, Dsb, Deliver, Access as AccessOf, Prefetch}
+use Rattle.trails.specs.declared.event.Event.TheVariants.{Tlbi, Dsb, Deliver, Access as AccessOf, Prefetch}
 use Rattle.trails.specs.declared.step.Answer.{Answer}
 use Rattle.trails.specs.declared.step.Step.{Step}
 use Rattle.table_reads.specs.Memory.{Memory}

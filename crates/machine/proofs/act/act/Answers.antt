@@ -18,24 +18,24 @@ pub returns-in-Msr-clause-cores : goal.returns-in-Msr-clause-cores
 returns-in-Msr-clause-cores c h are d lt =
     let w : World = world_of c.args.moment (memory_of c.args.phys.now) c.args.seats.now in
     rw c.in-Msr.is
-        (one_at core_at (moved h w (Msr c.in-Msr.core c.in-Msr.reg c.in-Msr.value)) c.args.seats.now c.in-Msr.core c.index-seats-core.result c.msr.new.self
-        (rw c.in-Msr.is at c.requires.here)
+    (one_at core_at (moved h w (Msr c.in-Msr.core c.in-Msr.reg c.in-Msr.value)) c.args.seats.now c.in-Msr.core c.index-seats-core.result c.msr.new.self
+    (rw c.in-Msr.is at c.requires.here)
     (c.msr.ensures.core ∙ msr_own h w c.in-Msr.core c.in-Msr.reg c.in-Msr.value _) (λ k v ne. msr_other h w c.in-Msr.core c.in-Msr.reg c.in-Msr.value k v ne) d)
 
 pub returns-in-Settle-clause-cores : goal.returns-in-Settle-clause-cores
 returns-in-Settle-clause-cores c h are d lt =
     let w : World = world_of c.args.moment (memory_of c.args.phys.now) c.args.seats.now in
     rw c.in-Settle.is
-        (one_at core_at (moved h w (Settle c.in-Settle.core)) c.args.seats.now c.in-Settle.core c.index-seats-core-in-Settle.result c.settle.new.self
-        (rw c.in-Settle.is at c.requires.here)
+    (one_at core_at (moved h w (Settle c.in-Settle.core)) c.args.seats.now c.in-Settle.core c.index-seats-core-in-Settle.result c.settle.new.self
+    (rw c.in-Settle.is at c.requires.here)
     (c.settle.ensures.core ∙ settle_own h w c.in-Settle.core _) (λ k v ne. settle_other h w c.in-Settle.core k v ne) d)
 
 pub returns-in-Isb-clause-cores : goal.returns-in-Isb-clause-cores
 returns-in-Isb-clause-cores c h are d lt =
     let w : World = world_of c.args.moment (memory_of c.args.phys.now) c.args.seats.now in
     rw c.in-Isb.is
-        (one_at core_at (moved h w (Isb c.in-Isb.core)) c.args.seats.now c.in-Isb.core c.index-seats-core-in-Isb.result c.isb.new.self
-        (rw c.in-Isb.is at c.requires.here)
+    (one_at core_at (moved h w (Isb c.in-Isb.core)) c.args.seats.now c.in-Isb.core c.index-seats-core-in-Isb.result c.isb.new.self
+    (rw c.in-Isb.is at c.requires.here)
     (c.isb.ensures.core ∙ isb_own h w c.in-Isb.core _) (λ k v ne. isb_other h w c.in-Isb.core k v ne) d)
 
 pub returns-in-Tlbi-clause-cores : goal.returns-in-Tlbi-clause-cores
@@ -58,6 +58,6 @@ pub returns-in-Deliver-clause-cores : goal.returns-in-Deliver-clause-cores
 returns-in-Deliver-clause-cores c h are d lt =
     let w : World = world_of c.args.moment (memory_of c.args.phys.now) c.args.seats.now in
     rw c.in-Deliver.is
-        (one_at core_at (moved h w (Deliver c.in-Deliver.core)) c.args.seats.now c.in-Deliver.core c.index-seats-core-in-Deliver.result c.deliver.new.self
-        (rw c.in-Deliver.is at c.requires.here)
+    (one_at core_at (moved h w (Deliver c.in-Deliver.core)) c.args.seats.now c.in-Deliver.core c.index-seats-core-in-Deliver.result c.deliver.new.self
+    (rw c.in-Deliver.is at c.requires.here)
     (c.deliver.ensures.core ∙ deliver_own h w c.in-Deliver.core _) (λ k v ne. deliver_other h w c.in-Deliver.core k v ne) d)

@@ -19,7 +19,7 @@ returns-clause-answer c h e is are =
     let x = c.index-seats-core.result in
     let by_walk = ap Some (c.access.ensures.answer h (suits h c.args.moment m s are j x c.requires)
     ∙ ap (λ (p : Visit). (visited p a).answer)
-        (visit_is h c.args.moment m s are j x c.requires ∙ ap (visit_of h w j) (sym (core_in c.args.moment m s j x c.requires)))) in
+    (visit_is h c.args.moment m s are j x c.requires ∙ ap (visit_of h w j) (sym (core_in c.args.moment m s j x c.requires)))) in
     by_asked (λ (v : Event). Some c.access.result ≡ answer_to h w v) j a by_walk by_walk e is
 
 pub returns-clause-cores : goal.returns-clause-cores
@@ -35,7 +35,7 @@ returns-clause-cores c h e is are d lt =
     by_asked (λ (v : Event). core_at (get_or (set s j c.access.new.self) d no_seat) ≡ moved h w v d (core_at (get_or s d no_seat))) j a
     (one_at core_at (moved h w (AccessOf j a)) s j x c.access.new.self c.requires (visit ∙ access_own h w j a _) (λ k v ne. access_other h w j a k v ne) d)
     (one_at core_at (moved h w (Prefetch j a)) s j x c.access.new.self c.requires (visit ∙ prefetch_own h w j a _) (λ k v ne. prefetch_other h w j a k v ne)
-        d) e is
+    d) e is
 
 pub returns-clause-text : goal.returns-clause-text
 returns-clause-text c = line_text (printed true c.access.result.outcome) c.access.ensures.line

@@ -8,18 +8,18 @@ pub returns-clause-answer : goal.returns-clause-answer
 returns-clause-answer c =
     let s = c.self.inside in
     let core : CoreState =
-        record { number = s.number; size = s.size; policy = s.policy; bank = record { regs = s.force; queue = s.queue.items }; cache = no_rows } in
+    record { number = s.number; size = s.size; policy = s.policy; bank = record { regs = s.force; queue = s.queue.items }; cache = no_rows } in
     rw (← c.self.view_is, c.asid.ensures, c.vmid.ensures, c.regs.ensures, c.regs-2.ensures)
     (λ h suits.
-        answered core (memory_of c.args.phys.now) c.args.moment c.args.access.now c.self.invariant.2 refl h suits c.translate_at-outcome.result
-        c.translate_at-outcome.new.trail
+    answered core (memory_of c.args.phys.now) c.args.moment c.args.access.now c.self.invariant.2 refl h suits c.translate_at-outcome.result
+    c.translate_at-outcome.new.trail
     c.translate_at-outcome.ensures.fresh)
 
 pub returns-clause-after : goal.returns-clause-after
 returns-clause-after c =
     let s = c.self.inside in
     let core : CoreState =
-        record { number = s.number; size = s.size; policy = s.policy; bank = record { regs = s.force; queue = s.queue.items }; cache = no_rows } in
+    record { number = s.number; size = s.size; policy = s.policy; bank = record { regs = s.force; queue = s.queue.items }; cache = no_rows } in
     rw (← c.self.view_is) (λ h suits. kept core (memory_of c.args.phys.now) c.args.moment c.args.access.now c.self.invariant.2 refl h suits)
 
 pub returns-clause-line : goal.returns-clause-line

@@ -24,5 +24,5 @@ returns-clause-machine c =
     c.in-Ok.ensures.items c.ranges-2.ensures.value c.cores.ensures.value c.size.ensures.value c.policy.ensures.value
     c.in_ok-phys.ensures.memory c.in_ok-seats.ensures.count c.in_ok-seats.ensures.each in
     subst (λ l. world_of (length c.in-Ok.log.items) (memory_of c.in_ok-phys.phys) c.in_ok-seats.seats.items
-        ≡ world_after c.args.trace.header (take (length l) c.args.trace.events))
+    ≡ world_after c.args.trace.header (take (length l) c.args.trace.events))
     c.in-Ok.ensures.items o.0.world_is

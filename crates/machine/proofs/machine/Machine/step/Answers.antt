@@ -16,7 +16,7 @@ act-requires-clause-doable c =
     let s = c.self.inside in
     let e : Event = get_or c.events.result.now c.len-k.result (Store 0 0 0) in
     let left : length s.log.items < length s.trace.events =
-        subst (λ (v : MachineState). length v.log < length v.trace.events) (sym c.self.view_is) c.requires in
+    subst (λ (v : MachineState). length v.log < length v.trace.events) (sym c.self.view_is) c.requires in
     let lt : c.len-k.result < length s.trace.events = omega (arith, left, c.len-k.ensures, s.log.ok.0) in
     let at : e ≡ get_or s.trace.events c.len-k.result e =
     ap (λ l. get_or l c.len-k.result (Store 0 0 0)) c.events.ensures.value ∙ get_or_default s.trace.events c.len-k.result (Store 0 0 0) e lt in
@@ -33,7 +33,7 @@ went_some c =
     let s = c.self.inside in
     let e : Event = event_some c in
     let left : length s.log.items < length s.trace.events =
-        subst (λ (v : MachineState). length v.log < length v.trace.events) (sym c.self.view_is) c.requires in
+    subst (λ (v : MachineState). length v.log < length v.trace.events) (sym c.self.view_is) c.requires in
     let lt : c.len-k.result < length s.trace.events = omega (arith, left, c.len-k.ensures, s.log.ok.0) in
     let at : e ≡ get_or s.trace.events c.len-k.result e =
     ap (λ l. get_or l c.len-k.result (Store 0 0 0)) c.events.ensures.value ∙ get_or_default s.trace.events c.len-k.result (Store 0 0 0) e lt in
@@ -92,7 +92,7 @@ went_none c =
     let s = c.self.inside in
     let e : Event = event_none c in
     let left : length s.log.items < length s.trace.events =
-        subst (λ (v : MachineState). length v.log < length v.trace.events) (sym c.self.view_is) c.requires in
+    subst (λ (v : MachineState). length v.log < length v.trace.events) (sym c.self.view_is) c.requires in
     let lt : c.len-k.result < length s.trace.events = omega (arith, left, c.len-k.ensures, s.log.ok.0) in
     let at : e ≡ get_or s.trace.events c.len-k.result e =
     ap (λ l. get_or l c.len-k.result (Store 0 0 0)) c.events.ensures.value ∙ get_or_default s.trace.events c.len-k.result (Store 0 0 0) e lt in
