@@ -19,9 +19,9 @@ use Rattle.walk_spec.specs.Steps.{End, stops, reaches}
 use Rattle.walk_spec.specs.Stage2.{is_refused2, fault2, Asked2}
 use Rattle.walk_spec.specs.Stage1.{asked2, untagged}
 use Rattle.walk_spec.specs.BothStages.{Landing, walk, is_refused1, outcome_of}
-use Rattle.walk_spec.specs.Fresh.{given, fed_outcome}
+use Rattle.walk_spec.specs.Fresh.{fed_outcome}
 use Rattle.walk_laws.specs.Shift.{stands, stands2}
-use Rattle.machine_spec.specs.Header.{Kind, leaf1, table1, leaf2, table2}
+use Rattle.machine_spec.specs.Header.{Kind, leaf1, table1}
 use Rattle.machine_spec.specs.Moments.{regs_after, memory_after}
 use Rattle.machine_spec.specs.Marks.{Mark, mark, marks, is_first}
 use Rattle.machine_spec.specs.Uses.{use_of, above_of, AllUsed, LastIs}
@@ -29,16 +29,17 @@ use Rattle.machine_spec.specs.Kept.{View, now, regs_when, IsKeptNow, IsNowBase, 
 use Rattle.machine_spec.specs.Allowed.{is_of_word, IsNowOf, FaultIsRead, last_entry, last_entry1, Case, IsEnded, IsLacking, IsTwice, IsForked, Reaches, IsConflict, IsRight}
 use Rattle.machine_spec.specs.Rows.{Row, holds, matches1, is_older, inserted, by_making, matching, deepest}
 use Rattle.machine_spec.specs.Made.{key_of, last_first}
-use Rattle.machine_spec.specs.Served.{Supplied, supplied_by, chain_by, begun2, chain_of, fresh_of, supply, Halt, came, clash, Reply, pushed, halted, serve, taken, credited, begun1, combined, served}
+use Rattle.machine_spec.specs.Served.{Place, Supplied, supply, Halt, came, clash, Reply, pushed, halted, serve, taken, credited, begun1, combined, served}
 use Rattle.machine_spec.specs.Machine.{Core}
 use Rattle.machine_laws.proofs.Trees.{IsOn, chain, Plan, fin, flat, IsWord, AllSecond}
 use Rattle.machine_laws.proofs.Facts.{In, sided, regime_for, IsStored, Suits, IsLeafRow1, IsTableRow1, IsRowBy, IsApart, AllApart, Facts}
 use Rattle.machine_laws.proofs.Laws.{Laws, Judged, IsCut}
-use Rattle.machine_laws.proofs.Lists.{In-filter, none_some}
+use Rattle.machine_laws.proofs.Lists.{In-filter, In-from_filter, none_some}
 use Rattle.machine_laws.proofs.Stands.{on_ends, on_needs, marks_append, marks_nil, flat_fin}
 use Rattle.machine_laws.proofs.Uses.{used_map, table_append, cut_used, last_more}
 use Rattle.machine_laws.proofs.Fine.{Good, LastOk, Kept1, place_of, config_at, here, FineOf, FineBy, Begins, PlansAreFine, RightBy, UsedBy, IsAlone, ServedOk, ServesWell}
-use Rattle.machine_laws.proofs.Found.{In-matching, In-deepest, apart_matching, Match, matched1, region_same, NamesLive, serve_live, taken_none}
+use Rattle.machine_laws.proofs.Own.{is_own, served_own}
+use Rattle.machine_laws.proofs.Found.{In-matching, In-deepest, apart_matching, Match, matched1, region_same}
 use Rattle.machine_laws.proofs.Begins.{regs_now, last_word_base, Same, stored_good, begins, base_now}
 use Rattle.machine_laws.proofs.Serve.{fits_base2, fresh_good, opened, prepend, serve_queue, Pre, fine_after}
 
@@ -500,75 +501,28 @@ module _ (laws : Laws) (plans : PlansAreFine) (v : View) (w : Core) (a : Access)
       let b = both_of z.items z.halt from_nothing z.by in
       (b.0, b.1, λ m e k x i. absurd (second_none (now_marks z.items) m (laws.no_stage1 (config_at v) a z.items off) e))
 
-  -- THE ROWS THAT SERVED ARE LIVE
-
-  found_live : (n : Need) (o : Option Item) → NamesLive w.cache.rows (supplied_by o)
-  found_live n None = tt
-  found_live n (Some i) = λ x m. absurd m
-
-  chain_live : (r : Row) (o : Supplied) (items : List Item) → In r w.cache.rows → NamesLive w.cache.rows o → NamesLive w.cache.rows (chain_by r o items)
-  chain_live r o [] i h = h
-  chain_live r o (y ∷ items) i h = λ x m. elim m [ inl e ↦ subst (λ z. In z w.cache.rows) (sym e) i | inr k ↦ absurd k ]
-
-  begun_live : (o : Supplied) (t : Option Row) → ((r : Row) → t ≡ Some r → In r w.cache.rows) → NamesLive w.cache.rows o → NamesLive w.cache.rows (begun2 o t)
-  begun_live o None h n = n
-  begun_live o (Some r) h n = chain_live r o r.trail (h r refl) n
-
-  chain_of_live : (o : Supplied) (rs : List Row) (t : Option Row) → ((r : Row) → In r rs → In r w.cache.rows) → ((r : Row) → t ≡ Some r → In r w.cache.rows) →
-      NamesLive w.cache.rows o → NamesLive w.cache.rows (chain_of o rs t)
-  chain_of_live o [] t g h n = begun_live o t h n
-  chain_of_live o (r ∷ []) t g h n = chain_live r o r.trail (g r (inl refl)) n
-  chain_of_live o (r ∷ s ∷ more) t g h n = tt
-
-  sup_live : (n : Need) → NamesLive w.cache.rows (sup n)
-  sup_live base1 = found_live base1 (given (regs_after v.core v.log) (side_of a.va) (memory_after v.header v.log) (now v) base1)
-  sup_live (word n) = found_live (word n) (given (regs_after v.core v.log) (side_of a.va) (memory_after v.header v.log) (now v) (word n))
-  sup_live (base2 x) =
-      let k = key_of (regs_after v.core v.log) in
-      chain_of_live (fresh_of (place_of v w.cache.rows) a (base2 x)) (matching (Rattle.machine_spec.specs.Rows.matches leaf2 k x) w.cache.rows)
-      (deepest (Rattle.machine_spec.specs.Rows.matches table2 k x) w.cache.rows)
-      (λ r i. (In-matching (Rattle.machine_spec.specs.Rows.matches leaf2 k x) w.cache.rows r i).0)
-      (λ r e. (In-deepest (Rattle.machine_spec.specs.Rows.matches table2 k x) w.cache.rows r e).0)
-      (found_live (base2 x) (given (regs_after v.core v.log) (side_of a.va) (memory_after v.header v.log) (now v) (base2 x)))
-
-  begun1_live : (t : Option Row) → ((r : Row) → t ≡ Some r → In r w.cache.rows) → (x : Row) → In x (begun1 t serve_here).by → In x w.cache.rows
-  begun1_live None h x m = serve_live sup w.cache.rows sup_live (here v a) [] x m
-  begun1_live (Some r) h x (inl e) = subst (λ z. In z w.cache.rows) (sym e) (h r refl)
-  begun1_live (Some r) h x (inr m) = serve_live sup w.cache.rows sup_live (here v a) r.trail x m
-
-  combined_live : (rs : List Row) (t : Option Row) → ((r : Row) → In r rs → In r w.cache.rows) → ((r : Row) → t ≡ Some r → In r w.cache.rows) →
-      (x : Row) → In x (combined rs t sup (here v a)).by → In x w.cache.rows
-  combined_live [] t g h x m = begun1_live t h x m
-  combined_live (r ∷ []) t g h x (inl e) = subst (λ z. In z w.cache.rows) (sym e) (g r (inl refl))
-  combined_live (r ∷ []) t g h x (inr m) = absurd (taken_none (here v a) r.trail x m)
-  combined_live (r ∷ s ∷ more) t g h x m = absurd m
-
   -- ALL CASES
 
   abbrev by_rows : Reply
   by_rows = combined leaves (deepest (matches1 table1 (key_of (regs_after v.core v.log)) (untagged a.va)) w.cache.rows) sup (here v a)
 
-  served_if : (m refused : Bool) → (config_at v).m ≡ m → is_refused1 (config_at v) a ≡ refused
-      → ServedOk v w.cache.rows a (cond (m && not refused) by_rows (serve_here []))
-  served_if true false e g =
-      let b = by_leaves e g leaves refl in
-      let k1 = matches1 leaf1 (key_of (regs_after v.core v.log)) (untagged a.va) in
-      let k2 = matches1 table1 (key_of (regs_after v.core v.log)) (untagged a.va) in
+  served_if : (m refused : Bool) → (config_at v).m ≡ m → is_refused1 (config_at v) a ≡ refused → let z = cond (m && not refused) by_rows (serve_here []) in
+      RightBy v a z z.halt × UsedBy v a z z.halt × IsAlone v w.cache.rows a z
+  served_if true false e g = by_leaves e g leaves refl
+  served_if true true e g = plain_ok (λ q. g)
+  served_if false refused e g = plain_ok (λ q. absurd (both_ways (config_at v).m e q))
+
+  -- the rows that served are live
+  pub served_ok : ServedOk v w.cache.rows a (served (place_of v w.cache.rows) a)
+  served_ok =
+      let b = served_if (config_at v).m (is_refused1 (config_at v) a) refl refl in
+      let p : Place = place_of v w.cache.rows in
       record {
         right = b.0;
         used = b.1;
         alone = b.2;
-        live = combined_live leaves (deepest k2 w.cache.rows) (λ r i. (In-matching k1 w.cache.rows r i).0) (λ r q. (In-deepest k2 w.cache.rows r q).0);
+        live = λ x m. (In-from_filter (is_own (key_of p.regs)) p.rows x (served_own p a x m)).0;
       }
-  served_if true true e g =
-      let b = plain_ok (λ q. g) in
-      record { right = b.0; used = b.1; alone = b.2; live = serve_live sup w.cache.rows sup_live (here v a) [] }
-  served_if false refused e g =
-      let b = plain_ok (λ q. absurd (both_ways (config_at v).m e q)) in
-      record { right = b.0; used = b.1; alone = b.2; live = serve_live sup w.cache.rows sup_live (here v a) [] }
-
-  pub served_ok : ServedOk v w.cache.rows a (served (place_of v w.cache.rows) a)
-  served_ok = served_if (config_at v).m (is_refused1 (config_at v) a) refl refl
 
 pub serves_well : Laws → PlansAreFine → ServesWell
 serves_well laws plans v w a side f = served_ok laws plans v w a side f
