@@ -16,16 +16,16 @@ use Rattle.machine_spec.specs.Header.{Header, shape_of}
 use Rattle.machine_spec.specs.Invalidations.{issued_by, completes}
 use Rattle.machine_spec.specs.Marks.{marks}
 use Rattle.machine_spec.specs.Rows.{Row}
-use Rattle.machine_spec.specs.Made.{Maker, key_of, rows_of, combined_rows}
+use Rattle.machine_spec.specs.Made.{Maker, rows_of, combined_rows}
 use Rattle.machine_spec.specs.Sets.{Cache, same_set, filled}
 use Rattle.machine_spec.specs.Served.{Reply, Halt, came, clash, served}
 use Rattle.machine_spec.specs.Machine.{Core, World, no_core, killed, Visit, visited_by, visit_of, core_numbered, regs_in, accessed, acted, moved, after_event, opened, world_after}
 use Rattle.machine_laws.specs.Leaving.{In, Used, effective, IsRemoved, used_by, used_here, used_at, uses_from, uses_of, IsEvicted, RowsLeaveForACause, LruLosesTheLongestUnused}
 use Rattle.machine_laws.proofs.Events.{each_length}
 use Rattle.machine_laws.proofs.Gone.{IsNumbered, numbered_are, numbered_front, Ranks, AreRanked, IsRanked, filled_ranked, filled_next, filled_stays, thin_all, thin_next, all_keep, pushed_kills, deliver_kills}
-use Rattle.machine_laws.proofs.Lists.{from_end, In-append, In-from_filter}
+use Rattle.machine_laws.proofs.Lists.{from_end, In-append}
 use Rattle.machine_laws.proofs.Outlived.{rows_new, combined_new, moved_at}
-use Rattle.machine_laws.proofs.Own.{is_own, served_own}
+use Rattle.machine_laws.proofs.Own.{served_live}
 use Rattle.machine_laws.proofs.Pairs.{pairs_filter}
 use Rattle.machine_laws.proofs.Quiet.{no_rows_made_changes_none}
 use Rattle.machine_laws.proofs.Theorem.{world_on}
@@ -73,8 +73,7 @@ module _ (h : Header) (w : World) (c : ℕ) where
   used_if a true =
       let r : Reply = served visit_here.place a in
       record {
-        live = halt_live a r r.halt
-            (λ x i. (In-from_filter (is_own (key_of visit_here.place.regs)) visit_here.place.rows x (served_own visit_here.place a x i)).0);
+        live = halt_live a r r.halt (served_live visit_here.place a);
         at = halt_numbered a r r.halt;
       }
   used_if a false = none_orderly

@@ -28,7 +28,7 @@ use Rattle.machine_spec.specs.Header.{Header, Kind, table1, leaf2, table2}
 use Rattle.machine_spec.specs.Invalidations.{issued_by, completes}
 use Rattle.machine_spec.specs.Marks.{Part, nothing, table, leaf_of_stage1, leaf_of_stage2, Mark, marks, is_leaf1}
 use Rattle.machine_spec.specs.Rows.{Row}
-use Rattle.machine_spec.specs.Made.{Maker, key_of, key_for, only_if, row_of, rows_by, is_read_now, chain_with, rows_of, last_first, leaf_row, leaf_rows, combined_rows, numbered, rows_made}
+use Rattle.machine_spec.specs.Made.{Maker, key_for, only_if, row_of, rows_by, is_read_now, chain_with, rows_of, last_first, leaf_row, leaf_rows, combined_rows, numbered, rows_made}
 use Rattle.machine_spec.specs.Served.{Place, Reply, Halt, came, clash, served}
 use Rattle.machine_spec.specs.Machine.{Core, World, no_core, delivered_by, delivered, most_held, posted, mailed, mailed_by, finished, Visit, made_by, visited_by, visit_of, core_numbered, regs_in, accessed, acted, moved, after_event, opened, world_after}
 use Rattle.machine_laws.specs.Rules.{NoRowOutlivesItsVmid}
@@ -37,7 +37,7 @@ use Rattle.machine_laws.proofs.Lists.{In-filter, In-from_filter, In-left, In-las
 use Rattle.machine_laws.proofs.Events.{each_at, each_length, covered_not, rows_left}
 use Rattle.machine_laws.proofs.Sets.{In-filled}
 use Rattle.machine_laws.proofs.Quiet.{barrier_empties_inboxes}
-use Rattle.machine_laws.proofs.Own.{is_own, served_own, all_of_in, in_of_all}
+use Rattle.machine_laws.proofs.Own.{served_live, all_of_in, in_of_all}
 
 -- THE ROWS THAT A STEP MAKES
 
@@ -190,7 +190,7 @@ accessed_if : (h : Header) (w : World) (c : ℕ) (v : Core) (a : Access) (own : 
 accessed_if h w c v a true r i =
     let s : Visit = visit_of h w c v in
     let y : Reply = served s.place a in
-    let live = (λ (x : Row) (m : In x y.by). (In-from_filter (is_own (key_of s.place.regs)) s.place.rows x (served_own s.place a x m)).0) in
+    let live = served_live s.place a in
     elim (visited_rows s a y live y.halt r i) [
       | inl old ↦ inl (old, λ j m cov. m)
       | inr new ↦ inr new

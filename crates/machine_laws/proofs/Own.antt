@@ -123,6 +123,9 @@ module _ (p : Place) (a : Access) where
   pub served_own : (x : Row) → In x (served p a).by → In x own_rows
   served_own x m = served_if ((config_of p.regs).m && not (is_refused1 (config_of p.regs) a)) x m
 
+  pub served_live : (x : Row) → In x (served p a).by → In x p.rows
+  served_live x m = (In-from_filter (is_own (key_of p.regs)) p.rows x (served_own x m)).0
+
 -- `All` by membership, and back
 pub all_of_in : {X : Type 0} (P : X → Type 0) (xs : List X) → ((x : X) → In x xs → P x) → All P xs
 all_of_in P [] h = All-nil P

@@ -29,16 +29,16 @@ use Rattle.machine_spec.specs.Kept.{View, now, regs_when, IsKeptNow, IsNowBase, 
 use Rattle.machine_spec.specs.Allowed.{is_of_word, IsNowOf, FaultIsRead, last_entry, last_entry1, Case, IsEnded, IsLacking, IsTwice, IsForked, Reaches, IsConflict, IsRight}
 use Rattle.machine_spec.specs.Rows.{Row, holds, matches1, is_older, inserted, by_making, matching, deepest}
 use Rattle.machine_spec.specs.Made.{key_of, last_first}
-use Rattle.machine_spec.specs.Served.{Place, Supplied, supply, Halt, came, clash, Reply, pushed, halted, serve, taken, credited, begun1, combined, served}
+use Rattle.machine_spec.specs.Served.{Supplied, supply, Halt, came, clash, Reply, pushed, halted, serve, taken, credited, begun1, combined, served}
 use Rattle.machine_spec.specs.Machine.{Core}
 use Rattle.machine_laws.proofs.Trees.{IsOn, chain, Plan, fin, flat, IsWord, AllSecond}
 use Rattle.machine_laws.proofs.Facts.{In, sided, regime_for, IsStored, Suits, IsLeafRow1, IsTableRow1, IsRowBy, IsApart, AllApart, Facts}
 use Rattle.machine_laws.proofs.Laws.{Laws, Judged, IsCut}
-use Rattle.machine_laws.proofs.Lists.{In-filter, In-from_filter, none_some}
+use Rattle.machine_laws.proofs.Lists.{In-filter, none_some}
 use Rattle.machine_laws.proofs.Stands.{on_ends, on_needs, marks_append, marks_nil, flat_fin}
 use Rattle.machine_laws.proofs.Uses.{used_map, table_append, cut_used, last_more}
 use Rattle.machine_laws.proofs.Fine.{Good, LastOk, Kept1, place_of, config_at, here, FineOf, FineBy, Begins, PlansAreFine, RightBy, UsedBy, IsAlone, ServedOk, ServesWell}
-use Rattle.machine_laws.proofs.Own.{is_own, served_own}
+use Rattle.machine_laws.proofs.Own.{served_live}
 use Rattle.machine_laws.proofs.Found.{In-matching, In-deepest, apart_matching, Match, matched1, region_same}
 use Rattle.machine_laws.proofs.Begins.{regs_now, last_word_base, Same, stored_good, begins, base_now}
 use Rattle.machine_laws.proofs.Serve.{fits_base2, fresh_good, opened, prepend, serve_queue, Pre, fine_after}
@@ -516,12 +516,11 @@ module _ (laws : Laws) (plans : PlansAreFine) (v : View) (w : Core) (a : Access)
   pub served_ok : ServedOk v w.cache.rows a (served (place_of v w.cache.rows) a)
   served_ok =
       let b = served_if (config_at v).m (is_refused1 (config_at v) a) refl refl in
-      let p : Place = place_of v w.cache.rows in
       record {
         right = b.0;
         used = b.1;
         alone = b.2;
-        live = λ x m. (In-from_filter (is_own (key_of p.regs)) p.rows x (served_own p a x m)).0;
+        live = served_live (place_of v w.cache.rows) a;
       }
 
 pub serves_well : Laws → PlansAreFine → ServesWell
