@@ -178,7 +178,8 @@ access_on serves makes v s w f b re p e a true quiet none =
     let u : View = sided v (side_of a.va) in
     let x : Core = with_bank (with_cache w (visited (visit_at v (place_of v w.cache.rows) w.cache) a).cache) b in
     let g : Facts (longer u s) x = accessed_on u s w (sided_facts v (side_of a.va) w f) b re serves makes a refl quiet none in
-    subst (λ (q : Place). Facts (longer v s) (with_bank (with_cache w (visited (visit_at v q w.cache) a).cache) b)) (sym e) (sided_facts (longer u s) v.side x g)
+    subst (λ (q : Place). Facts (longer v s) (with_bank (with_cache w (visited (visit_at v q w.cache) a).cache) b)) (sym e)
+    (sided_facts (longer u s) v.side x g)
 access_on serves makes v s w f b re p e a false quiet none = less_on v s w f b re w (less_same w) quiet none
 
 -- A CORE OF THE MACHINE

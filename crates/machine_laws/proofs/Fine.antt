@@ -28,7 +28,7 @@ use Rattle.machine_spec.specs.Allowed.{is_of_word, IsNowOf, last_entry, IsRight}
 use Rattle.machine_spec.specs.Rows.{Row, matches1}
 use Rattle.machine_spec.specs.Made.{key_of, last_first}
 use Rattle.machine_spec.specs.Sets.{Cache, filled}
-use Rattle.machine_spec.specs.Served.{Supplied, gives, nothing, both, Place, supply, Halt, came, clash, Reply, serve, served}
+use Rattle.machine_spec.specs.Served.{Supplied, gives, halts, Place, supply, Halt, came, clash, Reply, serve, served}
 use Rattle.machine_spec.specs.Machine.{Core, made_by}
 use Rattle.machine_laws.proofs.Trees.{IsOn, chain, Plan, flat, IsSound, IsWords, IsWord}
 use Rattle.machine_laws.proofs.Facts.{In, regime_for, IsRow, AllApart, Facts}
@@ -98,8 +98,8 @@ pub record Whole (v : View) (r : Regime) (p : Bool) (x : ℕ) (items : List Item
 
 abbrev pub Begins : View → Regime → Bool → ℕ → Supplied → Type 0
 Begins v r p x (gives i rest by) = Start v r p x i rest
-Begins v r p x nothing = ⊥
-Begins v r p x (both one two) = Whole v r p x one × Whole v r p x two × (last_entry one ≡ last_entry two → ⊥)
+Begins v r p x (halts (came e)) = ⊥
+Begins v r p x (halts (clash one two)) = Whole v r p x one × Whole v r p x two × (last_entry one ≡ last_entry two → ⊥)
 
 -- every plan is served well where every chain begins well
 abbrev pub PlansAreFine : Type 0

@@ -52,17 +52,17 @@ fed_reply give t = record { items = fed_items give t; halt = came (fed_end give 
 
 goes_fed : (give : Need → Option Item) (n : Need) (k : Item → Ask Need Item (End Landing)) (o : Option Item) (next : Item → List Item → Reply)
     → ((i : Item) → next i [] ≡ fed_reply give (k i))
-    → goes_on n (supplied_by o) next
+    → goes_on (supplied_by n o) next
     ≡ record { items = with_answer o [] (λ i. i ∷ fed_items give (k i)); halt = came (with_answer o (lacks n) (λ i. fed_end give (k i))); by = [] }
 goes_fed give n k None next h = refl
 goes_fed give n k (Some i) next h = ap (pushed i []) (h i)
 
 -- a walk that is supplied by what is given alone is fed
-serve_fed : (sup : Need → Supplied) (give : Need → Option Item) → ((n : Need) → sup n ≡ supplied_by (give n)) → (t : Ask Need Item (End Landing))
+serve_fed : (sup : Need → Supplied) (give : Need → Option Item) → ((n : Need) → sup n ≡ supplied_by n (give n)) → (t : Ask Need Item (End Landing))
     → serve sup [] t ≡ fed_reply give t
 serve_fed sup give h (done e) = refl
 serve_fed sup give h (ask n k) =
-    ap (λ s. goes_on n s (λ i rest. serve sup rest (k i))) (h n)
+    ap (λ s. goes_on s (λ i rest. serve sup rest (k i))) (h n)
     ∙ goes_fed give n k (give n) (λ i rest. serve sup rest (k i)) (λ i. serve_fed sup give h (k i))
 
 -- what an access meets where there are no rows
@@ -76,7 +76,7 @@ abbrev pub fed_at : Place → Access → Reply
 fed_at p a = fed_reply (given_at p a) (walk (config_of p.regs) true a)
 
 -- no row supplies anything
-supply_bare : (regs : Regs) (m : Memory) (k : ℕ) (a : Access) (n : Need) → supply (bare regs m k) a n ≡ supplied_by (given_at (bare regs m k) a n)
+supply_bare : (regs : Regs) (m : Memory) (k : ℕ) (a : Access) (n : Need) → supply (bare regs m k) a n ≡ supplied_by n (given_at (bare regs m k) a n)
 supply_bare regs m k a base1 = refl
 supply_bare regs m k a (base2 x) = refl
 supply_bare regs m k a (word w) = refl

@@ -36,9 +36,9 @@ own_by a b c d h =
 own_if : (kind : Kind) (k : Key) (x : ℕ) (r : Row) → matches kind k x r ≡ true → is_own k r ≡ true
 own_if kind k x r h = own_by (same_kind r.kind kind) (holds r.region x) (r.key.vmid == k.vmid) (same_fields r.key.config k.config) h
 
-supplied_none : (rows : List Row) (o : Option Item) → NamesLive rows (supplied_by o)
-supplied_none rows None = tt
-supplied_none rows (Some i) = λ x m. absurd m
+supplied_none : (rows : List Row) (n : Need) (o : Option Item) → NamesLive rows (supplied_by n o)
+supplied_none rows n None = tt
+supplied_none rows n (Some i) = λ x m. absurd m
 
 -- the rows that a chain names are among the leaves and tables that were found
 module _ (rows : List Row) (otherwise : Supplied) (rest : NamesLive rows otherwise) where
@@ -84,7 +84,7 @@ module _ (p : Place) (a : Access) where
       In-filter (is_own k) p.rows r m.0 (own_if kind k x r (and_parts (matches kind k x r) (r.global || (r.key.asid == k.asid)) m.1).0)
 
   fresh_named : (n : Need) → NamesLive own_rows (fresh_of p a n)
-  fresh_named n = supplied_none own_rows (given p.regs (side_of a.va) p.memory p.step n)
+  fresh_named n = supplied_none own_rows n (given p.regs (side_of a.va) p.memory p.step n)
 
   supply_named : (n : Need) → NamesLive own_rows (supply p a n)
   supply_named base1 = fresh_named base1

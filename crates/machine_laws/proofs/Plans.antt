@@ -24,7 +24,7 @@ use Rattle.machine_spec.specs.Uses.{next_first, above_of, AllUsed, LastIs}
 use Rattle.machine_spec.specs.Kept.{View, now, IsNowBase}
 use Rattle.machine_spec.specs.Allowed.{is_of_word, IsNowOf}
 use Rattle.machine_spec.specs.Rows.{Row}
-use Rattle.machine_spec.specs.Served.{Supplied, gives, nothing, both, supplied_by, supply, came, Reply, pushed, goes_on, serve}
+use Rattle.machine_spec.specs.Served.{Supplied, gives, halts, clash, supplied_by, supply, came, Reply, pushed, goes_on, serve}
 use Rattle.machine_laws.proofs.Trees.{IsOn, is_need1, needs_base, chain, Plan, fin, own, via, joined, flat, rest_by, IsSound, IsSecond, IsWords, AllSecond}
 use Rattle.machine_laws.proofs.Facts.{regime_for}
 use Rattle.machine_laws.proofs.Laws.{Laws}
@@ -85,7 +85,7 @@ module _ (laws : Laws) (v : View) (rows : List Row) (a : Access) where
 
   ran_word : (w : WordNeed) (k : Item → Ask Need Item (End Leaf2)) (f : End Leaf2 → Ask Need Item (End Landing)) →
       ((i : Item) → Ran (k i) f (serve sup [] (after (k i) f))) → (o : Option ℕ) → memory_after v.header v.log w.place ≡ o →
-      Ran (ask (word w) k) f (goes_on (word w) (supplied_by (option_map (needed_item (now v) w) o)) (λ i rest. serve sup rest (after (k i) f)))
+      Ran (ask (word w) k) f (goes_on (supplied_by (word w) (option_map (needed_item (now v) w) o)) (λ i rest. serve sup rest (after (k i) f)))
   ran_word w k f rec None is = record { items = []; left = ask (word w) k; on = refl; fresh = tt; how = inr (w, k, refl, is, refl) }
   ran_word w k f rec (Some value) is =
       let i : Item = needed_item (now v) w value in
@@ -237,9 +237,9 @@ module _ (laws : Laws) (v : View) (rows : List Row) (a : Access) where
 
     -- a chain that begins well, and what follows it
     by_start : (s : Supplied) → Begins v rg p x s →
-        Fine above tree (goes_on (base2 x) s (λ i rest. serve sup rest (after (walk2_behind (asked2 rg p x) i.value) go_on)))
-    by_start nothing b = absurd b
-    by_start (both one two) b = (
+        Fine above tree (goes_on s (λ i rest. serve sup rest (after (walk2_behind (asked2 rg p x) i.value) go_on)))
+    by_start (halts (came e)) b = absurd b
+    by_start (halts (clash one two)) b = (
       x,
       (λ i. after (walk2_behind (asked2 rg p x) i.value) go_on),
       refl,
@@ -281,7 +281,7 @@ module _ (laws : Laws) (v : View) (rows : List Row) (a : Access) where
     fine_word : (above : Option ℕ) (w : WordNeed) (k : Item → Plan) → IsSound rg (own (word w) k) → ((i : Item) → IsFine (k i)) →
         (o : Option ℕ) → memory_after v.header v.log w.place ≡ o →
         Fine above (flat rg (own (word w) k))
-        (goes_on (word w) (supplied_by (option_map (needed_item (now v) w) o)) (λ i rest. serve sup rest (flat rg (k i))))
+        (goes_on (supplied_by (word w) (option_map (needed_item (now v) w) o)) (λ i rest. serve sup rest (flat rg (k i))))
     fine_word above w k sound rec None is = (w, (λ i. flat rg (k i)), refl, refl, record { used = tt; next = tt; last_base = tt }, is)
     fine_word above w k sound rec (Some value) is =
         let i : Item = needed_item (now v) w value in
