@@ -22,8 +22,7 @@ set_accepted r SctlrEl1 value ok h at =
       | Ttbr1El1 ↦ ok Ttbr1El1
       | MairEl1 ↦ ok MairEl1
       | HcrEl2 ↦ ok HcrEl2
-      | VtcrEl2 ↦
-          ok VtcrEl2
+      | VtcrEl2 ↦ ok VtcrEl2
       | VttbrEl2 ↦ ok VttbrEl2
     ]
 set_accepted r TcrEl1 value ok h at =
@@ -34,8 +33,7 @@ set_accepted r TcrEl1 value ok h at =
       | Ttbr1El1 ↦ ok Ttbr1El1
       | MairEl1 ↦ ok MairEl1
       | HcrEl2 ↦ ok HcrEl2
-      | VtcrEl2 ↦
-          ok VtcrEl2
+      | VtcrEl2 ↦ ok VtcrEl2
       | VttbrEl2 ↦ ok VttbrEl2
     ]
 set_accepted r Ttbr0El1 value ok h at =
@@ -46,8 +44,7 @@ set_accepted r Ttbr0El1 value ok h at =
       | Ttbr1El1 ↦ ok Ttbr1El1
       | MairEl1 ↦ ok MairEl1
       | HcrEl2 ↦ ok HcrEl2
-      | VtcrEl2 ↦
-          ok VtcrEl2
+      | VtcrEl2 ↦ ok VtcrEl2
       | VttbrEl2 ↦ ok VttbrEl2
     ]
 set_accepted r Ttbr1El1 value ok h at =
@@ -58,8 +55,7 @@ set_accepted r Ttbr1El1 value ok h at =
       | Ttbr1El1 ↦ h
       | MairEl1 ↦ ok MairEl1
       | HcrEl2 ↦ ok HcrEl2
-      | VtcrEl2 ↦
-          ok VtcrEl2
+      | VtcrEl2 ↦ ok VtcrEl2
       | VttbrEl2 ↦ ok VttbrEl2
     ]
 set_accepted r MairEl1 value ok h at =
@@ -70,8 +66,7 @@ set_accepted r MairEl1 value ok h at =
       | Ttbr1El1 ↦ ok Ttbr1El1
       | MairEl1 ↦ h
       | HcrEl2 ↦ ok HcrEl2
-      | VtcrEl2 ↦
-          ok VtcrEl2
+      | VtcrEl2 ↦ ok VtcrEl2
       | VttbrEl2 ↦ ok VttbrEl2
     ]
 set_accepted r HcrEl2 value ok h at =
@@ -82,8 +77,7 @@ set_accepted r HcrEl2 value ok h at =
       | Ttbr1El1 ↦ ok Ttbr1El1
       | MairEl1 ↦ ok MairEl1
       | HcrEl2 ↦ h
-      | VtcrEl2 ↦
-          ok VtcrEl2
+      | VtcrEl2 ↦ ok VtcrEl2
       | VttbrEl2 ↦ ok VttbrEl2
     ]
 set_accepted r VtcrEl2 value ok h at =
@@ -94,8 +88,7 @@ set_accepted r VtcrEl2 value ok h at =
       | Ttbr1El1 ↦ ok Ttbr1El1
       | MairEl1 ↦ ok MairEl1
       | HcrEl2 ↦ ok HcrEl2
-      | VtcrEl2 ↦
-          h
+      | VtcrEl2 ↦ h
       | VttbrEl2 ↦ ok VttbrEl2
     ]
 set_accepted r VttbrEl2 value ok h at =
@@ -106,8 +99,7 @@ set_accepted r VttbrEl2 value ok h at =
       | Ttbr1El1 ↦ ok Ttbr1El1
       | MairEl1 ↦ ok MairEl1
       | HcrEl2 ↦ ok HcrEl2
-      | VtcrEl2 ↦
-          ok VtcrEl2
+      | VtcrEl2 ↦ ok VtcrEl2
       | VttbrEl2 ↦ h
     ]
 

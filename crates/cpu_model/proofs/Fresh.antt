@@ -10,13 +10,12 @@ use Rattle.trails.specs.declared.step.Answer.{Answer}
 use Rattle.table_reads.specs.Memory.{Memory}
 use Rattle.trace_lang.specs.declared.header.Size.TheVariants.{NoRows}
 use Rattle.walk_spec.specs.Walked.{IsFresh, HasLine}
-use Rattle.walk_spec.specs.Fresh.{fresh_outcome}
 use Rattle.machine_spec.specs.Header.{Header}
 use Rattle.machine_spec.specs.Sets.{Cache}
 use Rattle.machine_spec.specs.Machine.{Visited, visited}
 use Rattle.machine_laws.proofs.NoRows.{fresh_answer, visited_fresh}
 use Rattle.trails.specs.Printed.{printed}
-use Rattle.cpu_model.specs.Cores.{CoreState, no_rows, Suits, seat_at, with_cache}
+use Rattle.cpu_model.specs.Cores.{CoreState, no_rows, Suits, visit_at, with_cache}
 use Rattle.cpu_model.proofs.Levels.{fresh_run_line}
 
 -- a count that stands at 0 did not rise
@@ -37,16 +36,16 @@ plain regs o items = record {
 }
 
 module _ (c : CoreState) (m : Memory) (k : ℕ) (a : Access) (none : c.size ≡ NoRows) (empty : c.cache ≡ no_rows) (h : Header) (suits : Suits h c) where
-  fresh : visited (seat_at h c m k) a ≡ record { answer = fresh_answer (seat_at h c m k).place a; cache = c.cache }
-  fresh = visited_fresh (seat_at h c m k) a (suits.0 ∙ none) (ap (λ (l : Cache). l.rows) empty)
+  fresh : visited (visit_at h c m k) a ≡ record { answer = fresh_answer (visit_at h c m k).place a; cache = c.cache }
+  fresh = visited_fresh (visit_at h c m k) a (suits.0 ∙ none) (ap (λ (l : Cache). l.rows) empty)
 
   pub answered : (o : Outcome) (items : List Item) → IsFresh c.bank.regs a k (Some m) (Rose 0 0) items o
-      → plain c.bank.regs o items ≡ (visited (seat_at h c m k) a).answer
+      → plain c.bank.regs o items ≡ (visited (visit_at h c m k) a).answer
   answered o items is =
       let e = is m refl not_risen in
       rw (e.0, e.1) (sym (ap (λ (v : Visited). v.answer) fresh))
 
-  pub kept : c ≡ with_cache c (visited (seat_at h c m k) a).cache
+  pub kept : c ≡ with_cache c (visited (visit_at h c m k) a).cache
   kept = rw (ap (λ (v : Visited). v.cache) fresh) refl
 
 -- the outcome of a walk over memory has a line in a run

@@ -13,11 +13,10 @@ use Rattle.fault_codes.specs.declared.fault.Fault.{Fault}
 use Rattle.fault_codes.specs.declared.fault.Class.TheVariants.{Translation, AddressSize, External}
 use Rattle.trails.specs.declared.item.Item.{Item}
 use Rattle.trails.specs.declared.outcome.Access.{Access}
-use Rattle.trails.specs.declared.outcome.Outcome.{Outcome}
 use Rattle.table_reads.specs.declared.step.Step.{Step}
 use Rattle.table_reads.specs.declared.step.Step.TheVariants.{Down, Reached, Stopped}
 use Rattle.table_reads.specs.Memory.{Memory}
-use Rattle.table_reads.specs.Numbers.{sizes1, sizes2}
+use Rattle.table_reads.specs.Numbers.{sizes2}
 use Rattle.table_reads.specs.Places.{is_too_large}
 use Rattle.walk_spec.specs.declared.entry.Table1.{Table1}
 use Rattle.walk_spec.specs.declared.entry.Entry1.{Entry1}
@@ -26,7 +25,7 @@ use Rattle.walk_spec.specs.declared.leaf.Leaf2.{Leaf2}
 use Rattle.walk_spec.specs.Ask.{Ask, done, ask, after, go_on, finer, Fed, ended, lacks, fed_end, with_answer}
 use Rattle.walk_spec.specs.Needs.{Need, base1, base2, word, Regime, regime_of}
 use Rattle.walk_spec.specs.Steps.{End, stops, reaches, step_then}
-use Rattle.walk_spec.specs.Stage2.{Asked2, fault2, step2, is_refused2, walk2_from, walk2_behind, walk2}
+use Rattle.walk_spec.specs.Stage2.{fault2, step2, is_refused2, walk2_from, walk2_behind, walk2}
 use Rattle.walk_spec.specs.Stage1.{Asked, fault1, step1, entry1, walk1_from, read1, is_readable, read1_by, asked2, word_of}
 use Rattle.walk_spec.specs.BothStages.{Landing, landed, judged2, stage2_behind, is_refused1, stage1_behind, stage1_on, stage1, asked, walk}
 use Rattle.walk_spec.specs.Fresh.{given, fed_outcome, fresh_outcome}

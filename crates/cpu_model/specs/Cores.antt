@@ -7,7 +7,7 @@ use Rattle.trace_lang.specs.declared.header.Policy.{Policy}
 use Rattle.machine_spec.specs.Header.{Header}
 use Rattle.machine_spec.specs.Moments.{Bank, no_bank, most_queued}
 use Rattle.machine_spec.specs.Sets.{Cache}
-use Rattle.machine_spec.specs.Machine.{Seat}
+use Rattle.machine_spec.specs.Machine.{Visit}
 
 -- its number, the size of its caches and their policy, its registers with their queue, and its rows
 pub record CoreState : Type 0 where
@@ -38,8 +38,8 @@ abbrev pub Suits : (header : Header) (core : CoreState) → Type 0
 Suits h c = (h.size ≡ c.size) × (h.policy ≡ c.policy)
 
 -- where the core does an access: under a header, on a memory, at a moment
-abbrev pub seat_at : (header : Header) (core : CoreState) (memory : Memory) (moment : ℕ) → Seat
-seat_at h c m k = record {
+abbrev pub visit_at : (header : Header) (core : CoreState) (memory : Memory) (moment : ℕ) → Visit
+visit_at h c m k = record {
   header = h;
   number = c.number;
   place = record { regs = c.bank.regs; memory = m; rows = c.cache.rows; step = k };

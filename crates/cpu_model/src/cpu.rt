@@ -8,7 +8,7 @@ ghost use Rattle.trace_lang.specs.declared.header.Size.TheVariants.{NoRows};
 ghost use Rattle.machine_spec.specs.Header.{Header};
 ghost use Rattle.machine_spec.specs.Moments.{written, settled, drained, queued};
 ghost use Rattle.machine_spec.specs.Machine.{killed, visited};
-ghost use Rattle.cpu_model.specs.Cores.{new_core, with_bank, with_cache, Suits, seat_at};
+ghost use Rattle.cpu_model.specs.Cores.{new_core, with_bank, with_cache, Suits, visit_at};
 
 use crate::words::Words;
 use bitwords::NoMemory;
@@ -127,9 +127,9 @@ impl Cpu {
     /// The answer of an access at a moment, which is the number of the step. Without rows it is the walk of that moment.
     #[inline(always)]
     pub fn access(&mut self, phys: &Phys, moment: u32, access: &Access) -> Answer
-        ensures answer { (h : Header) → Suits h self.old → result ≡ (visited (seat_at h self.old (memory_of phys.now) moment) access.now).answer }
+        ensures answer { (h : Header) → Suits h self.old → result ≡ (visited (visit_at h self.old (memory_of phys.now) moment) access.now).answer }
         ensures after { (h : Header) → Suits h self.old →
-            self.new ≡ with_cache self.old (visited (seat_at h self.old (memory_of phys.now) moment) access.now).cache }
+            self.new ≡ with_cache self.old (visited (visit_at h self.old (memory_of phys.now) moment) access.now).cache }
         ensures line { HasLine (printed true result.outcome) }
     {
         let mut words = Words { phys };

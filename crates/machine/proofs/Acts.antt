@@ -21,8 +21,8 @@ use Rattle.table_reads.specs.Memory.{Memory}
 use Rattle.machine_spec.specs.Header.{Header}
 use Rattle.machine_spec.specs.Moments.{settled, drained, queued, banked, stored}
 use Rattle.machine_spec.specs.Invalidations.{is_at_el1, issued_by}
-use Rattle.machine_spec.specs.Machine.{Core, World, no_core, most_held, delivered_by, delivered, posted, mailed, mailed_by, finished, seat_of, core_of, regs_in, accessed, acted, moved, answer_to}
-use Rattle.cpu_model.specs.Cores.{Suits, seat_at}
+use Rattle.machine_spec.specs.Machine.{Core, World, no_core, most_held, delivered_by, delivered, posted, mailed, mailed_by, finished, visit_of, core_numbered, regs_in, accessed, acted, moved, answer_to}
+use Rattle.cpu_model.specs.Cores.{Suits, visit_at}
 use Rattle.machine.specs.Runs.{asked_of}
 use Rattle.machine.specs.Seats.{SeatState, core_at, build_of, no_seat, AreSeats, with_bank, world_of}
 
@@ -109,7 +109,7 @@ module _ (h : Header) (w : World) (j : ℕ) where
 
 -- the core of a number
 pub core_in : (k : ℕ) (m : Memory) (seats : List SeatState) (j : ℕ) (x : SeatState) → j < length seats
-    → core_of (world_of k m seats) j ≡ core_at (get_or seats j x)
+    → core_numbered (world_of k m seats) j ≡ core_at (get_or seats j x)
 core_in k m seats j x lt = get_or-map core_at seats j x no_core lt
 
 -- ACCESSES
@@ -121,8 +121,8 @@ module _ (h : Header) (k : ℕ) (m : Memory) (seats : List SeatState) (are : Are
   pub suits : Suits h (get_or seats j x).core
   suits = (sym (ap (λ b. b.1) build_is), sym (ap (λ b. b.2) build_is))
 
-  pub seat_is : seat_at h (get_or seats j x).core m k ≡ seat_of h (world_of k m seats) j (core_at (get_or seats j x))
-  seat_is = ap (λ (n : ℕ). record (seat_at h (get_or seats j x).core m k) { number = n }) (ap (λ b. b.0) build_is)
+  pub visit_is : visit_at h (get_or seats j x).core m k ≡ visit_of h (world_of k m seats) j (core_at (get_or seats j x))
+  visit_is = ap (λ (n : ℕ). record (visit_at h (get_or seats j x).core m k) { number = n }) (ap (λ b. b.0) build_is)
 
 module _ (h : Header) (w : World) (j : ℕ) (a : Access) where
   pub access_own : (v : Core) → accessed h w j v a ≡ moved h w (AccessOf j a) j v

@@ -12,14 +12,14 @@ use Rattle.table_reads.specs.Memory.{Memory}
 use Rattle.trace_lang.specs.declared.header.Size.{Size}
 use Rattle.trace_lang.specs.declared.header.Policy.{Policy}
 use Rattle.sysregs.proofs.Accepted.{accepted_by_msr}
-use Rattle.trace_lang.specs.Traces.{Parts, IsTrace, EventFits, EventFitsBy, core_of as core_doing}
+use Rattle.trace_lang.specs.Traces.{Parts, IsTrace, EventFits, EventFitsBy, core_of}
 use Rattle.phys_mem.specs.Memory.{zeros as words_at_first}
 use Rattle.phys_mem.specs.Words.{Held, memory_of}
 use Rattle.machine_spec.specs.Header.{Header}
 use Rattle.machine_spec.specs.Moments.{zeros, stored}
 use Rattle.machine_spec.specs.Allowed.{IsAllowed}
 use Rattle.machine_spec.specs.Machine.{Core, World, no_core, moved, at_each, opened, after_event, world_after, answer_to, step_of, run_of}
-use Rattle.machine_laws.specs.Headline.{core_named, AreOfCores, RunsAreAllowed}
+use Rattle.machine_laws.specs.Headline.{AreOfCores, RunsAreAllowed}
 use Rattle.machine_laws.proofs.Events.{each_at, each_length}
 use Rattle.machine_laws.proofs.Logs.{get-last}
 use Rattle.machine_laws.proofs.Theorem.{world_on, run_on}
@@ -29,20 +29,6 @@ use Rattle.machine.specs.Runs.{IsRun}
 use Rattle.machine.proofs.Ranges.{has_word, same_zeros}
 
 -- AN EVENT OF A TRACE
-
-named_same : (e : Event) → core_doing e ≡ core_named e
-named_same (Store core pa value) = refl
-named_same (Msr core reg value) = refl
-named_same (Settle core) = refl
-named_same (Isb core) = refl
-named_same (Tlbi core from op shared operand) = refl
-named_same (Dsb core kind) = refl
-named_same (Deliver core) = refl
-named_same (Access core access) = refl
-named_same (Prefetch core access) = refl
-
-of_core : (h : Header) (e : Event) → EventFits h e → core_named e < h.cores
-of_core h e f = subst (λ c. c < h.cores) (named_same e) f.0
 
 doable_by : (h : Header) (p : Held) → p.ranges ≡ h.ranges → (e : Event) → EventFitsBy h e → IsDoable (memory_of p) e
 doable_by h p same (Store core pa value) f = (f.0, has_word p pa (rw same f.1))
@@ -59,14 +45,14 @@ module _ (t : Parts) (limits : IsTrace t) (k : ℕ) (lt : k < length t.events) (
   fits : EventFits t.header e
   fits = subst (EventFits t.header) (sym at) (limits.each k e lt)
 
-  pub here : (seats : List SeatState) → length seats ≡ t.header.cores → core_named e < length seats
-  here seats count = subst (λ n. core_named e < n) (sym count) (of_core t.header e fits)
+  pub here : (seats : List SeatState) → length seats ≡ t.header.cores → core_of e < length seats
+  here seats count = subst (λ n. core_of e < n) (sym count) fits.0
 
   pub doable : (p : Held) → p.ranges ≡ t.header.ranges → IsDoable (memory_of p) e
   doable p same = doable_by t.header p same e fits.1
 
 pub all_of_cores : (t : Parts) → IsTrace t → AreOfCores t.header t.events
-all_of_cores t limits = λ i d lt. of_core t.header (get_or t.events i d) (limits.each i d lt)
+all_of_cores t limits = λ i d lt. (limits.each i d lt).0
 
 -- THE MACHINE AT FIRST
 
@@ -173,7 +159,7 @@ module _ (laws : RunsAreAllowed) (t : Parts) (m : Memory) (seats : List SeatStat
       ∙ ap (λ x. after_event h x e) run.world_is ∙ sym (world_on h front e)
 
   of_cores : AreOfCores h (front ++ e ∷ [])
-  of_cores = subst (AreOfCores h) more (All-take (λ x. core_named x < h.cores) (length log + 1) t.events (all_of_cores t limits))
+  of_cores = subst (AreOfCores h) more (All-take (λ x. core_of x < h.cores) (length log + 1) t.events (all_of_cores t limits))
 
   allowed : IsAllowed h log done
   allowed =

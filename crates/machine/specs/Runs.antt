@@ -1,9 +1,8 @@
 -- A machine in the middle of a trace (this project's own rules).
-use Rattle.std.specs.Prelude.{◌≡◌, ◌≤◌, ℕ, false, List, length, take, All, Option, Some, None}
+use Rattle.std.specs.Prelude.{◌≡◌, ◌≤◌, ℕ, List, length, take, Option, Some, None}
 use Rattle.trails.specs.declared.event.Event.{Event}
-use Rattle.trails.specs.declared.event.Event.TheVariants.{Store, Msr, Settle, Isb, Tlbi, Dsb, Deliver, Access as AccessOf, Prefetch}
+use Rattle.trails.specs.declared.event.Event.TheVariants.{Access as AccessOf, Prefetch}
 use Rattle.trails.specs.declared.outcome.Access.{Access}
-use Rattle.trails.specs.declared.step.Answer.{Answer}
 use Rattle.trails.specs.declared.step.Step.{Step}
 use Rattle.trails.specs.Printed.{HaveTexts}
 use Rattle.trace_lang.specs.Traces.{Parts}

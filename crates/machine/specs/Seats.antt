@@ -8,7 +8,7 @@ use Rattle.trace_lang.specs.declared.header.Size.TheVariants.{NoRows}
 use Rattle.trace_lang.specs.declared.header.Policy.{Policy}
 use Rattle.trace_lang.specs.declared.header.Policy.TheVariants.{Lru}
 use Rattle.trails.specs.declared.event.Event.{Event}
-use Rattle.trails.specs.declared.event.Event.TheVariants.{Store, Msr, Settle, Isb, Tlbi, Dsb, Deliver, Access, Prefetch}
+use Rattle.trails.specs.declared.event.Event.TheVariants.{Store, Msr}
 use Rattle.phys_mem.specs.Memory.{is_aligned}
 use Rattle.machine_spec.specs.Header.{Header}
 use Rattle.machine_spec.specs.Moments.{Bank}

@@ -8,7 +8,7 @@ ghost use Rattle.machine_spec.specs.Header.{Header};
 ghost use Rattle.machine_spec.specs.Moments.{stored};
 ghost use Rattle.machine_spec.specs.Invalidations.{is_at_el1};
 ghost use Rattle.machine_spec.specs.Machine.{mailed_by, finished, moved, answer_to};
-ghost use Rattle.machine_laws.specs.Headline.{core_named};
+ghost use Rattle.trace_lang.specs.Traces.{core_of};
 ghost use Rattle.machine.specs.Seats.{core_at, build_of, no_seat, AreSeats, world_of, IsDoable};
 ghost use Rattle.trails.specs.Printed.{HasTextInRun};
 ghost use Rattle.machine.specs.Runs.{asked_of};
@@ -109,7 +109,7 @@ pub fn answer(phys: &Phys, seats: &mut [Seat], moment: u32, core: u8, access: &A
 /// Does an event that asks for no access.
 #[tactic(auto, unfolding(machine_spec::specs::Moments::stored))]
 pub fn act(phys: &mut Phys, seats: &mut [Seat], moment: u32, event: &Event)
-    requires here { core_named event.now < length seats.old }
+    requires here { core_of event.now < length seats.old }
     requires doable { IsDoable (memory_of phys.old) event.now }
     requires quiet { asked_of event.now ≡ None }
     ensures memory { memory_of phys.new ≡ stored (memory_of phys.old) event.now }

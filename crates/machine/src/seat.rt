@@ -10,7 +10,7 @@ ghost use Rattle.machine_spec.specs.Header.{Header};
 ghost use Rattle.machine_spec.specs.Moments.{settled, drained, queued};
 ghost use Rattle.machine_spec.specs.Invalidations.{is_wide, completes};
 ghost use Rattle.machine_spec.specs.Machine.{killed, delivered, mailed, finished, visited};
-ghost use Rattle.cpu_model.specs.Cores.{Suits, seat_at, with_cache as core_with_cache};
+ghost use Rattle.cpu_model.specs.Cores.{Suits, visit_at, with_cache as core_with_cache};
 ghost use Rattle.machine.specs.Seats.{core_at, build_of, new_seat, with_bank, with_cache};
 
 use bitwords::NoMemory;
@@ -153,9 +153,9 @@ impl Seat {
     /// The answer of an access at a moment, which is the number of the step.
     #[inline(always)]
     pub fn access(&mut self, phys: &Phys, moment: u32, access: &Access) -> Answer
-        ensures answer { (h : Header) → Suits h self.old.core → result ≡ (visited (seat_at h self.old.core (memory_of phys.now) moment) access.now).answer }
+        ensures answer { (h : Header) → Suits h self.old.core → result ≡ (visited (visit_at h self.old.core (memory_of phys.now) moment) access.now).answer }
         ensures core { (h : Header) → Suits h self.old.core →
-            core_at self.new ≡ with_cache (core_at self.old) (visited (seat_at h self.old.core (memory_of phys.now) moment) access.now).cache }
+            core_at self.new ≡ with_cache (core_at self.old) (visited (visit_at h self.old.core (memory_of phys.now) moment) access.now).cache }
         ensures build { build_of self.new ≡ build_of self.old }
         ensures line { HasLine (printed true result.outcome) }
     {

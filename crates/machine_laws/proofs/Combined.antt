@@ -26,7 +26,7 @@ use Rattle.walk_laws.proofs.Landings.{walk_in_step}
 use Rattle.walk_laws.proofs.Shifts.{of_fields, same_side}
 use Rattle.machine_spec.specs.Header.{Kind, leaf1, table1, leaf2, table2}
 use Rattle.machine_spec.specs.Moments.{regs_after}
-use Rattle.machine_spec.specs.Marks.{Part, nothing, table, leaf, Mark, mark, marks, is_first, is_table, is_leaf, is_global, is_leaf1 as is_mark_leaf1, has_asid, tag_by}
+use Rattle.machine_spec.specs.Marks.{Part, nothing, table, leaf_of_stage1, leaf_of_stage2, Mark, mark, marks, is_first, is_table, is_leaf, is_global, is_leaf1, has_asid, tag_by}
 use Rattle.machine_spec.specs.Uses.{AllUsed}
 use Rattle.machine_spec.specs.Kept.{View, now, IsHeld}
 use Rattle.machine_spec.specs.Rows.{Row}
@@ -98,9 +98,10 @@ stage_one S2 h = absurd cc
 leaf_case : (p : Part) (first : Bool) → is_leaf p ≡ true → (first && (is_table p || (is_leaf p && not (is_global p)))) ≡ true → is_global p ≡ false
 leaf_case nothing first l h = absurd cc
 leaf_case (table b) first l h = absurd cc
-leaf_case (leaf true b) true l h = absurd cc
-leaf_case (leaf true b) false l h = absurd cc
-leaf_case (leaf false b) first l h = refl
+leaf_case (leaf_of_stage1 true) true l h = absurd cc
+leaf_case (leaf_of_stage1 true) false l h = absurd cc
+leaf_case (leaf_of_stage1 false) first l h = refl
+leaf_case (leaf_of_stage2 b) first l h = refl
 
 own_leaf : (m : Mark) → is_leaf m.part ≡ true → has_asid m ≡ true → is_global m.part ≡ false
 own_leaf m l h = leaf_case m.part (is_first m) l h
@@ -170,12 +171,12 @@ module _ (laws : Laws) (v : View) (s : Step) (none : (i : Inval) → issued_now 
   abbrev All : List Row → Type 0
   All rs = (r : Row) → In r rs → IsRow (longer v s) inbox r
 
-  leaf_if : (trail : List Item) (l : Landing) (m : Mark) (b : Bool) → (is_mark_leaf1 m && is_read_now maker m) ≡ b
+  leaf_if : (trail : List Item) (l : Landing) (m : Mark) (b : Bool) → (is_leaf1 m && is_read_now maker m) ≡ b
       → IsOn R (here v a) trail (done (reaches l)) → AllGood trail → last_first (marks R (here v a) trail) ≡ Some m
       → All (cond b (leaf_row maker l.class (untagged a.va) m trail ∷ []) [])
   leaf_if trail l m false e on used is = λ r i. absurd i
   leaf_if trail l m true e on used is = λ r i.
-      let p = and_parts (is_mark_leaf1 m) (is_read_now maker m) e in
+      let p = and_parts (is_leaf1 m) (is_read_now maker m) e in
       let q = and_parts (is_first m) (is_leaf m.part) p.0 in
       elim i [
         | inl eq ↦ subst (IsRow (longer v s) inbox) (sym (eq ∙ ap (λ z. row_with z l.class m trail) (ap (key_for regs) (stage_one m.stage q.0))))
@@ -186,7 +187,7 @@ module _ (laws : Laws) (v : View) (s : Step) (none : (i : Inval) → issued_now 
   leaf_by : (trail : List Item) (l : Landing) (o : Option Mark) → last_first (marks R (here v a) trail) ≡ o → IsOn R (here v a) trail (done (reaches l))
       → AllGood trail → All (leaf_rows maker l.class (untagged a.va) trail o)
   leaf_by trail l None e on used = λ r i. absurd i
-  leaf_by trail l (Some m) e on used = leaf_if trail l m (is_mark_leaf1 m && is_read_now maker m) refl on used e
+  leaf_by trail l (Some m) e on used = leaf_if trail l m (is_leaf1 m && is_read_now maker m) refl on used e
 
   -- the combined row of a walk
   pub combined_row : (trail : List Item) (e : End Landing) → IsOn R (here v a) trail (done e) → AllGood trail → (r : Row)
@@ -211,11 +212,11 @@ pub record IsMade1 (k : Maker) (class x : ℕ) (ms : List Mark) (r : Row) : Type
   pub global_is : r.global ≡ is_global mark_of.part
 
 leaf_made : (k : Maker) (class x : ℕ) (trail : List Item) (ms : List Mark) (m : Mark) (b : Bool) (r : Row) → last_first ms ≡ Some m
-    → (is_mark_leaf1 m && is_read_now k m) ≡ b
+    → (is_leaf1 m && is_read_now k m) ≡ b
     → In r (cond b (leaf_row k class x m trail ∷ []) []) → IsMade1 k class x ms r
 leaf_made k class x trail ms m false r e q h = absurd h
 leaf_made k class x trail ms m true r e q (inl h) =
-    let p = and_parts (is_mark_leaf1 m) (is_read_now k m) q in
+    let p = and_parts (is_leaf1 m) (is_read_now k m) q in
     record {
       mark_of = m;
       last_is = e;
@@ -229,7 +230,7 @@ leaf_made k class x trail ms m true r e q (inr h) = absurd h
 leaves_made : (k : Maker) (class x : ℕ) (trail : List Item) (ms : List Mark) (o : Option Mark) (r : Row) → last_first ms ≡ o
     → In r (leaf_rows k class x trail o) → IsMade1 k class x ms r
 leaves_made k class x trail ms None r e h = absurd h
-leaves_made k class x trail ms (Some m) r e h = leaf_made k class x trail ms m (is_mark_leaf1 m && is_read_now k m) r e refl h
+leaves_made k class x trail ms (Some m) r e h = leaf_made k class x trail ms m (is_leaf1 m && is_read_now k m) r e refl h
 
 combined_made : (k : Maker) (x : ℕ) (trail : List Item) (ms : List Mark) (end : Fed Need (End Landing)) (r : Row) → In r (combined_rows k x trail ms end)
     → IsMade1 k (end_class end) x ms r

@@ -20,9 +20,9 @@ use Rattle.machine_spec.specs.Invalidations.{is_at_el1, issued_by, completes}
 use Rattle.machine_spec.specs.Kept.{View, now}
 use Rattle.machine_spec.specs.Rows.{Row}
 use Rattle.machine_spec.specs.Sets.{Cache, filled}
-use Rattle.machine_spec.specs.Served.{Place, Reply, Stop, came, clash, served}
-use Rattle.machine_spec.specs.Machine.{Core, World, no_core, killed, delivered_by, delivered, most_held, posted, mailed, finished, Seat, made_by, visited_by, visited, seat_of, core_of, regs_in, acted, moved, at_each, after_event, step_of}
-use Rattle.machine_laws.specs.Headline.{core_named}
+use Rattle.machine_spec.specs.Served.{Place, Reply, Halt, came, clash, served}
+use Rattle.machine_spec.specs.Machine.{Core, World, no_core, killed, delivered_by, delivered, most_held, posted, mailed, finished, Visit, made_by, visited_by, visited, visit_of, core_numbered, regs_in, acted, moved, at_each, after_event, step_of}
+use Rattle.trace_lang.specs.Traces.{core_of}
 use Rattle.machine_laws.proofs.Facts.{In, sided, view_of, IsApart, AllApart, Facts, AllFacts}
 use Rattle.machine_laws.proofs.Fine.{place_of, ServedOk, ServesWell, longer, issued_now, MadeOk, MakesWell}
 use Rattle.machine_laws.proofs.Lists.{In-filter, In-from_filter, In-left, In-last, In-push_cases, none_some}
@@ -92,8 +92,8 @@ abbrev with_cache : Core → Cache → Core
 with_cache w l = record w { cache = l }
 
 -- where an access is done in a core
-abbrev pub seat_at : View → Place → Cache → Seat
-seat_at v p l = record { header = v.header; number = v.core; place = p; cache = l }
+abbrev pub visit_at : View → Place → Cache → Visit
+visit_at v p l = record { header = v.header; number = v.core; place = p; cache = l }
 
 module _ (v : View) (s : Step) (w : Core) (f : Facts v w) (b : Bank) (re : b ≡ bank_after v.core (v.log ++ s ∷ [])) where
   -- nothing is issued, and nothing completed
@@ -156,29 +156,30 @@ module _ (v : View) (s : Step) (w : Core) (f : Facts v w) (b : Bank) (re : b ≡
 
   visited_on : MakesWell → (a : Access) → v.side ≡ side_of a.va
       → ((i : Inval) → completes s.event i ≡ false) → ((i : Inval) → issued_now v s.event ≡ Some i → ⊥)
-      → (r : Reply) → ServedOk v w.cache.rows a r → (t : Stop) → r.stop ≡ t
-      → Facts (longer v s) (with_bank (with_cache w (visited_by (seat_at v (place_of v w.cache.rows) w.cache) a r t).cache) b)
+      → (r : Reply) → ServedOk v w.cache.rows a r → (t : Halt) → r.halt ≡ t
+      → Facts (longer v s) (with_bank (with_cache w (visited_by (visit_at v (place_of v w.cache.rows) w.cache) a r t).cache) b)
   visited_on makes a side quiet none r ok (came end) e =
       made_on (filled v.header v.core w.cache r.by (made_by (place_of v w.cache.rows) a r (came end))) (makes v w a s r end side none f ok e) quiet none
   visited_on makes a side quiet none r ok (clash one two) e = less_on w (less_same w) quiet none
 
   accessed_on : ServesWell → MakesWell → (a : Access) → v.side ≡ side_of a.va
       → ((i : Inval) → completes s.event i ≡ false) → ((i : Inval) → issued_now v s.event ≡ Some i → ⊥)
-      → Facts (longer v s) (with_bank (with_cache w (visited (seat_at v (place_of v w.cache.rows) w.cache) a).cache) b)
+      → Facts (longer v s) (with_bank (with_cache w (visited (visit_at v (place_of v w.cache.rows) w.cache) a).cache) b)
   accessed_on serves makes a side quiet none =
       let r : Reply = served (place_of v w.cache.rows) a in
-      visited_on makes a side quiet none r (serves v w a side f) r.stop refl
+      visited_on makes a side quiet none r (serves v w a side f) r.halt refl
 
 -- an access by a core, whatever the side of the view
 access_on : ServesWell → MakesWell → (v : View) (s : Step) (w : Core) → Facts v w → (b : Bank) → b ≡ bank_after v.core (v.log ++ s ∷ [])
     → (p : Place) → p ≡ place_of v w.cache.rows → (a : Access) (own : Bool)
     → ((i : Inval) → completes s.event i ≡ false) → ((i : Inval) → issued_now v s.event ≡ Some i → ⊥)
-    → Facts (longer v s) (with_bank (cond own (with_cache w (visited (seat_at v p w.cache) a).cache) w) b)
+    → Facts (longer v s) (with_bank (cond own (with_cache w (visited (visit_at v p w.cache) a).cache) w) b)
 access_on serves makes v s w f b re p e a true quiet none =
     let u : View = sided v (side_of a.va) in
-    let x : Core = with_bank (with_cache w (visited (seat_at v (place_of v w.cache.rows) w.cache) a).cache) b in
+    let x : Core = with_bank (with_cache w (visited (visit_at v (place_of v w.cache.rows) w.cache) a).cache) b in
     let g : Facts (longer u s) x = accessed_on u s w (sided_facts v (side_of a.va) w f) b re serves makes a refl quiet none in
-    subst (λ (q : Place). Facts (longer v s) (with_bank (with_cache w (visited (seat_at v q w.cache) a).cache) b)) (sym e) (sided_facts (longer u s) v.side x g)
+    subst (λ (q : Place). Facts (longer v s) (with_bank (with_cache w (visited (visit_at v q w.cache) a).cache) b)) (sym e)
+    (sided_facts (longer u s) v.side x g)
 access_on serves makes v s w f b re p e a false quiet none = less_on v s w f b re w (less_same w) quiet none
 
 -- A CORE OF THE MACHINE
@@ -201,67 +202,67 @@ place_with regs memory rows step = record { regs = regs; memory = memory; rows =
 
 module _ (h : Header) (log : List Step) (w : World) (all : AllFacts h log w) where
   -- what a core meets is what the facts say
-  pub place_is : (c : ℕ) (t : Side) → c < h.cores → (seat_of h w c (core_of w c)).place ≡ place_of (view_of h log c t) (core_of w c).cache.rows
+  pub place_is : (c : ℕ) (t : Side) → c < h.cores → (visit_of h w c (core_numbered w c)).place ≡ place_of (view_of h log c t) (core_numbered w c).cache.rows
   place_is c t lt =
-      let rows : List Row = (core_of w c).cache.rows in
+      let rows : List Row = (core_numbered w c).cache.rows in
       ap (λ (b : Bank). place_with b.regs w.memory rows w.step) (all.each c t lt).bank_is
       ∙ ap (λ m. place_with (regs_after c log) m rows w.step) all.memory_is
       ∙ ap (λ k. place_with (regs_after c log) (memory_after h log) rows k) all.step_is
 
-  bank_on : (c : ℕ) (t : Side) → c < h.cores → (s : Step) → banked c (core_of w c).bank s.event ≡ bank_after c (log ++ s ∷ [])
+  bank_on : (c : ℕ) (t : Side) → c < h.cores → (s : Step) → banked c (core_numbered w c).bank s.event ≡ bank_after c (log ++ s ∷ [])
   bank_on c t lt s = ap (λ b. banked c b s.event) (all.each c t lt).bank_is ∙ sym (bank-last c log s)
 
   module _ (serves : ServesWell) (makes : MakesWell) (c : ℕ) (t : Side) (lt : c < h.cores) where
-    advance : (e : Event) → core_named e < h.cores → Facts (longer (view_of h log c t) (step_of h w e)) (moved h w e c (core_of w c))
+    advance : (e : Event) → core_of e < h.cores → Facts (longer (view_of h log c t) (step_of h w e)) (moved h w e c (core_numbered w c))
     unfolding acted completes issued_by
     advance (Store core pa value) own =
         let s : Step = step_of h w (Store core pa value) in
-        let x : Core = core_of w c in
+        let x : Core = core_numbered w c in
         less_on (view_of h log c t) s x (all.each c t lt) (banked c x.bank s.event) (bank_on c t lt s) x (less_same x) (λ i. refl) (λ i k. none_some i k)
     advance (Msr core reg value) own =
         let s : Step = step_of h w (Msr core reg value) in
-        let x : Core = core_of w c in
+        let x : Core = core_numbered w c in
         less_on (view_of h log c t) s x (all.each c t lt) (banked c x.bank s.event) (bank_on c t lt s) x (less_same x) (λ i. refl) (λ i k. none_some i k)
     advance (Settle core) own =
         let s : Step = step_of h w (Settle core) in
-        let x : Core = core_of w c in
+        let x : Core = core_numbered w c in
         less_on (view_of h log c t) s x (all.each c t lt) (banked c x.bank s.event) (bank_on c t lt s) x (less_same x) (λ i. refl) (λ i k. none_some i k)
     advance (Isb core) own =
         let s : Step = step_of h w (Isb core) in
-        let x : Core = core_of w c in
+        let x : Core = core_numbered w c in
         less_on (view_of h log c t) s x (all.each c t lt) (banked c x.bank s.event) (bank_on c t lt s) x (less_same x) (λ i. refl) (λ i k. none_some i k)
     advance (Tlbi core from op shared operand) own =
         let s : Step = step_of h w (Tlbi core from op shared operand) in
-        let x : Core = core_of w c in
+        let x : Core = core_numbered w c in
         let i : Inval = inval_of op shared (is_at_el1 from) operand (regs_in w core) core w.step in
         issued_on (view_of h log c t) s x (all.each c t lt) (banked c x.bank s.event) (bank_on c t lt s) i (reaches_core i c) refl (λ j. refl)
         (ap (λ (b : Bank). Some (inval_of op shared (is_at_el1 from) operand b.regs core (length log))) (sym (all.each core t own).bank_is)
         ∙ ap (λ k. Some (inval_of op shared (is_at_el1 from) operand (regs_in w core) core k)) (sym all.step_is))
     advance (Dsb core kind) own =
         let s : Step = step_of h w (Dsb core kind) in
-        let x : Core = core_of w c in
+        let x : Core = core_numbered w c in
         finished_on (view_of h log c t) s x (all.each c t lt) (banked c x.bank s.event) (bank_on c t lt s) (λ i k. none_some i k)
     advance (Deliver core) own =
         let s : Step = step_of h w (Deliver core) in
-        let x : Core = core_of w c in
+        let x : Core = core_numbered w c in
         delivered_on (view_of h log c t) s x (all.each c t lt) (banked c x.bank s.event) (bank_on c t lt s) (core == c) (λ i. refl) (λ i k. none_some i k)
     advance (AccessOf core a) own =
         let s : Step = step_of h w (AccessOf core a) in
-        let x : Core = core_of w c in
+        let x : Core = core_numbered w c in
         access_on serves makes (view_of h log c t) s x (all.each c t lt) (banked c x.bank s.event) (bank_on c t lt s)
-        (seat_of h w c x).place (place_is c t lt) a (core == c) (λ i. refl) (λ i k. none_some i k)
+        (visit_of h w c x).place (place_is c t lt) a (core == c) (λ i. refl) (λ i k. none_some i k)
     advance (Prefetch core a) own =
         let s : Step = step_of h w (Prefetch core a) in
-        let x : Core = core_of w c in
+        let x : Core = core_numbered w c in
         access_on serves makes (view_of h log c t) s x (all.each c t lt) (banked c x.bank s.event) (bank_on c t lt s)
-        (seat_of h w c x).place (place_is c t lt) a (core == c) (λ i. refl) (λ i k. none_some i k)
+        (visit_of h w c x).place (place_is c t lt) a (core == c) (λ i. refl) (λ i k. none_some i k)
 
-    each_on : (e : Event) → core_named e < h.cores → Facts (view_of h (log ++ step_of h w e ∷ []) c t) (core_of (after_event h w e) c)
+    each_on : (e : Event) → core_of e < h.cores → Facts (view_of h (log ++ step_of h w e ∷ []) c t) (core_numbered (after_event h w e) c)
     each_on e own =
         subst (Facts (longer (view_of h log c t) (step_of h w e))) (sym (each_at (moved h w e) w.cores c no_core (omega (arith, all.count)))) (advance e own)
 
 -- every event of a core of the machine keeps the facts
-pub keeps : ServesWell → MakesWell → (h : Header) (log : List Step) (w : World) → AllFacts h log w → (e : Event) → core_named e < h.cores
+pub keeps : ServesWell → MakesWell → (h : Header) (log : List Step) (w : World) → AllFacts h log w → (e : Event) → core_of e < h.cores
     → AllFacts h (log ++ step_of h w e ∷ []) (after_event h w e)
 keeps serves makes h log w all e own = record {
   step_is = simp length-append (omega (arith, all.step_is));

@@ -25,7 +25,7 @@ use Rattle.machine_spec.specs.Uses.{AllUsed}
 use Rattle.machine_spec.specs.Kept.{View, now, regs_when, tag_of, IsHeld, IsKeptItem}
 use Rattle.machine_spec.specs.Rows.{Row, holds}
 use Rattle.machine_spec.specs.Made.{last_first}
-use Rattle.machine_spec.specs.Machine.{Core, World, core_of}
+use Rattle.machine_spec.specs.Machine.{Core, World, core_numbered}
 pub use Rattle.machine_laws.specs.Leaving.{In}
 use Rattle.machine_laws.proofs.Pairs.{AllPairs}
 use Rattle.machine_laws.proofs.Trees.{IsOn, chain, Plan, fin, flat, IsSound, IsWords}
@@ -138,4 +138,4 @@ pub record AllFacts (h : Header) (log : List Step) (w : World) : Type 0 where
   pub step_is : w.step ≡ length log
   pub memory_is : w.memory ≡ memory_after h log
   pub count : length w.cores ≡ h.cores
-  pub each : (c : ℕ) (s : Side) → c < h.cores → Facts (view_of h log c s) (core_of w c)
+  pub each : (c : ℕ) (s : Side) → c < h.cores → Facts (view_of h log c s) (core_numbered w c)

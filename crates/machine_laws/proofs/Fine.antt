@@ -28,7 +28,7 @@ use Rattle.machine_spec.specs.Allowed.{is_of_word, IsNowOf, last_entry, IsRight}
 use Rattle.machine_spec.specs.Rows.{Row, matches1}
 use Rattle.machine_spec.specs.Made.{key_of, last_first}
 use Rattle.machine_spec.specs.Sets.{Cache, filled}
-use Rattle.machine_spec.specs.Served.{Supplied, gives, nothing, both, Place, supply, Stop, came, clash, Reply, serve, served}
+use Rattle.machine_spec.specs.Served.{Supplied, gives, halts, Place, supply, Halt, came, clash, Reply, serve, served}
 use Rattle.machine_spec.specs.Machine.{Core, made_by}
 use Rattle.machine_laws.proofs.Trees.{IsOn, chain, Plan, flat, IsSound, IsWords, IsWord}
 use Rattle.machine_laws.proofs.Facts.{In, regime_for, IsRow, AllApart, Facts}
@@ -65,7 +65,7 @@ abbrev pub here : View → Access → Ask Need Item (End Landing)
 here v a = walk (config_at v) true a
 
 -- items on which a tree was served; K says that a list of items is kept
-abbrev pub FineOf : (K : List Item → Type 0) → View → Regime → Ask Need Item (End Landing) → List Item → Stop → Type 0
+abbrev pub FineOf : (K : List Item → Type 0) → View → Regime → Ask Need Item (End Landing) → List Item → Halt → Type 0
 FineOf K v r t items (came (ended e)) = IsOn r t items (done e) × K items × LastOk (now v) e (marks r t items)
 FineOf K v r t items (came (lacks n)) =
     (w : WordNeed) × (k : Item → Ask Need Item (End Landing)) × (n ≡ word w) × IsOn r t items (ask n k) × K items
@@ -76,8 +76,8 @@ FineOf K v r t items (clash one two) =
     × ((p : Bool) × (l : Leaf2) × IsOn r (chain r p x) two (done (reaches l)))
     × (last_entry one ≡ last_entry two → ⊥) × K (items ++ one) × K (items ++ two) × (is_refused2 r.config x ≡ false)
 
-abbrev pub FineBy : View → Regime → Option ℕ → Ask Need Item (End Landing) → List Item → Stop → Type 0
-FineBy v r above t items stop = FineOf (Kept1 v r above t) v r t items stop
+abbrev pub FineBy : View → Regime → Option ℕ → Ask Need Item (End Landing) → List Item → Halt → Type 0
+FineBy v r above t items halt = FineOf (Kept1 v r above t) v r t items halt
 
 -- how a chain may begin: by a row, or by the register
 pub record Start (v : View) (r : Regime) (p : Bool) (x : ℕ) (i : Item) (rest : List Item) : Type 0 where
@@ -98,8 +98,8 @@ pub record Whole (v : View) (r : Regime) (p : Bool) (x : ℕ) (items : List Item
 
 abbrev pub Begins : View → Regime → Bool → ℕ → Supplied → Type 0
 Begins v r p x (gives i rest by) = Start v r p x i rest
-Begins v r p x nothing = ⊥
-Begins v r p x (both one two) = Whole v r p x one × Whole v r p x two × (last_entry one ≡ last_entry two → ⊥)
+Begins v r p x (halts (came e)) = ⊥
+Begins v r p x (halts (clash one two)) = Whole v r p x one × Whole v r p x two × (last_entry one ≡ last_entry two → ⊥)
 
 -- every plan is served well where every chain begins well
 abbrev pub PlansAreFine : Type 0
@@ -109,10 +109,10 @@ PlansAreFine =
     (p : Plan) → IsSound (regime_for (config_at v) a) p → (above : Option ℕ) → IsNow (now v) above →
     let t = flat (regime_for (config_at v) a) p in
     let r = serve (supply (place_of v rows) a) [] t in
-    FineBy v (regime_for (config_at v) a) above t r.items r.stop
+    FineBy v (regime_for (config_at v) a) above t r.items r.halt
 
 -- the answer of a reply is right
-abbrev pub RightBy : View → Access → Reply → Stop → Type 0
+abbrev pub RightBy : View → Access → Reply → Halt → Type 0
 RightBy v a r (came end) = IsRight (record { view = v; access = a }) r.items None (fed_outcome end)
 RightBy v a r (clash one two) = IsRight (record { view = v; access = a }) (r.items ++ one) (Some (r.items ++ two)) Conflict
 
@@ -122,7 +122,7 @@ pub record IsUsed (v : View) (a : Access) (items : List Item) (u : Ask Need Item
   pub used : AllUsed (Good v) None (marks (regime_for (config_at v) a) (here v a) items)
 
 -- what the rows that are made need
-abbrev pub UsedBy : View → Access → Reply → Stop → Type 0
+abbrev pub UsedBy : View → Access → Reply → Halt → Type 0
 UsedBy v a r (came (ended e)) = IsUsed v a r.items (done e)
 UsedBy v a r (came (lacks n)) = (k : Item → Ask Need Item (End Landing)) × IsUsed v a r.items (ask n k)
 UsedBy v a r (clash one two) = Unit {0}
@@ -134,8 +134,8 @@ IsAlone v rows a r =
     (x : Row) → In x rows → matches1 leaf1 (key_of (regs_after v.core v.log)) (untagged a.va) x ≡ false
 
 pub record ServedOk (v : View) (rows : List Row) (a : Access) (r : Reply) : Type 0 where
-  pub right : RightBy v a r r.stop
-  pub used : UsedBy v a r r.stop
+  pub right : RightBy v a r r.halt
+  pub used : UsedBy v a r r.halt
   pub alone : IsAlone v rows a r
   pub live : (x : Row) → In x r.by → In x rows
 
@@ -160,5 +160,5 @@ pub record MadeOk (v : View) (s : Step) (w : Core) (l : Cache) : Type 0 where
 abbrev pub MakesWell : Type 0
 MakesWell =
     (v : View) (w : Core) (a : Access) (s : Step) (r : Reply) (end : Fed Need (End Landing)) → v.side ≡ side_of a.va →
-    ((i : Inval) → issued_now v s.event ≡ Some i → ⊥) → Facts v w → ServedOk v w.cache.rows a r → r.stop ≡ came end →
+    ((i : Inval) → issued_now v s.event ≡ Some i → ⊥) → Facts v w → ServedOk v w.cache.rows a r → r.halt ≡ came end →
     MadeOk v s w (filled v.header v.core w.cache r.by (made_by (place_of v w.cache.rows) a r (came end)))

@@ -11,7 +11,7 @@ use Rattle.walk_spec.specs.Steps.{End}
 use Rattle.walk_spec.specs.BothStages.{Landing}
 use Rattle.machine_spec.specs.Header.{Kind}
 use Rattle.machine_spec.specs.Rows.{Row, same_fields, same_kind, holds, matches, matches1, is_older, inserted, by_making, matching, closer, deepest}
-use Rattle.machine_spec.specs.Served.{Supplied, gives, nothing, both, Reply, pushed, serve, taken}
+use Rattle.machine_spec.specs.Served.{Supplied, gives, halts, goes_on, serve, taken}
 use Rattle.machine_laws.proofs.Facts.{In, IsApart, AllApart}
 use Rattle.machine_laws.proofs.Lists.{In-from_filter, In-append, none_some}
 use Rattle.machine_laws.proofs.Pairs.{pairs_filter}
@@ -118,21 +118,19 @@ region_same r s x hr hs e =
 -- the rows that a supply names
 abbrev pub NamesLive : List Row → Supplied → Type 0
 NamesLive rows (gives i rest by) = (x : Row) → In x by → In x rows
-NamesLive rows nothing = Unit {0}
-NamesLive rows (both one two) = Unit {0}
+NamesLive rows (halts h) = Unit {0}
 
 module _ (sup : Need → Supplied) (rows : List Row) (live : (n : Need) → NamesLive rows (sup n)) where
-  serve_by : (n : Need) (v : Supplied) (k : Item → Ask Need Item (End Landing)) → NamesLive rows v →
+  serve_by : (v : Supplied) (k : Item → Ask Need Item (End Landing)) → NamesLive rows v →
       ((items : List Item) (i : Item) (x : Row) → In x (serve sup items (k i)).by → In x rows) →
-      (x : Row) → In x (Rattle.machine_spec.specs.Served.goes_on n v (λ i rest. serve sup rest (k i))).by → In x rows
-  serve_by n (gives i rest by) k h rec x m = elim (In-append by (serve sup rest (k i)).by x m) [ inl j ↦ h x j | inr j ↦ rec rest i x j ]
-  serve_by n nothing k h rec x m = absurd m
-  serve_by n (both one two) k h rec x m = absurd m
+      (x : Row) → In x (goes_on v (λ i rest. serve sup rest (k i))).by → In x rows
+  serve_by (gives i rest by) k h rec x m = elim (In-append by (serve sup rest (k i)).by x m) [ inl j ↦ h x j | inr j ↦ rec rest i x j ]
+  serve_by (halts h) k g rec x m = absurd m
 
   pub serve_live : (t : Ask Need Item (End Landing)) (items : List Item) (x : Row) → In x (serve sup items t).by → In x rows
   serve_live (done e) [] x m = absurd m
   serve_live (done e) (i ∷ items) x m = absurd m
-  serve_live (ask n k) [] x m = serve_by n (sup n) k (live n) (λ items i. serve_live (k i) items) x m
+  serve_live (ask n k) [] x m = serve_by (sup n) k (live n) (λ items i. serve_live (k i) items) x m
   serve_live (ask n k) (i ∷ items) x m = serve_live (k i) items x m
 
 pub taken_none : (t : Ask Need Item (End Landing)) (items : List Item) (x : Row) → In x (taken items t).by → ⊥

@@ -13,7 +13,7 @@ use Rattle.walk_spec.specs.Steps.{End, stops, reaches}
 use Rattle.walk_spec.specs.Stage2.{is_refused2}
 use Rattle.walk_spec.specs.Stage1.{untagged}
 use Rattle.walk_spec.specs.BothStages.{Landing, walk, is_refused1}
-use Rattle.machine_spec.specs.Marks.{table, leaf, Mark, marks, is_first, is_global}
+use Rattle.machine_spec.specs.Marks.{table, leaf_of_stage2, Mark, marks, is_first, is_global}
 use Rattle.machine_spec.specs.Uses.{LastIs}
 use Rattle.machine_spec.specs.Allowed.{is_of_word, last_entry, last_entry1}
 use Rattle.machine_spec.specs.Rows.{holds}
@@ -82,11 +82,10 @@ pub record Laws : Type 0 where
   pub no_stage1 : (c : Config) (a : Access) (items : List Item) → (c.m ≡ true → is_refused1 c a ≡ true)
       → AllSecond (marks (regime_for c a) (walk c true a) items)
   -- what a row promises of the other addresses of its region
-  pub chain_leaf : (c : Config) (s t : Side) (p q : Bool) (x y : ℕ) (trail : List Item) (u : Ask Need Item (End Leaf2)) (pre : List Mark) (m : Mark)
-      (g : Bool) →
+  pub chain_leaf : (c : Config) (s t : Side) (p q : Bool) (x y : ℕ) (trail : List Item) (u : Ask Need Item (End Leaf2)) (pre : List Mark) (m : Mark) →
       is_refused2 c x ≡ false → IsOn (regime_of c s) (chain (regime_of c s) p x) trail u
       → marks (regime_of c s) (chain (regime_of c s) p x) trail ≡ pre ++ m ∷ [] →
-      m.part ≡ leaf g true → holds m.region y ≡ true → ChainLeaf (regime_of c t) q trail (pre ++ m ∷ []) m.region.class y
+      m.part ≡ leaf_of_stage2 true → holds m.region y ≡ true → ChainLeaf (regime_of c t) q trail (pre ++ m ∷ []) m.region.class y
   pub chain_table : (c : Config) (s t : Side) (p q : Bool) (x y : ℕ) (trail : List Item) (u : Ask Need Item (End Leaf2)) (pre : List Mark) (m : Mark) →
       is_refused2 c x ≡ false → IsOn (regime_of c s) (chain (regime_of c s) p x) trail u
       → marks (regime_of c s) (chain (regime_of c s) p x) trail ≡ pre ++ m ∷ [] →

@@ -16,16 +16,16 @@ use Rattle.machine_spec.specs.Header.{Header, shape_of}
 use Rattle.machine_spec.specs.Invalidations.{issued_by, completes}
 use Rattle.machine_spec.specs.Marks.{marks}
 use Rattle.machine_spec.specs.Rows.{Row}
-use Rattle.machine_spec.specs.Made.{Maker, key_of, rows_of, combined_rows}
+use Rattle.machine_spec.specs.Made.{Maker, rows_of, combined_rows}
 use Rattle.machine_spec.specs.Sets.{Cache, same_set, filled}
-use Rattle.machine_spec.specs.Served.{Reply, Stop, came, clash, served}
-use Rattle.machine_spec.specs.Machine.{Core, World, no_core, killed, Seat, visited_by, seat_of, core_of, regs_in, accessed, acted, moved, after_event, opened, world_after}
+use Rattle.machine_spec.specs.Served.{Reply, Halt, came, clash, served}
+use Rattle.machine_spec.specs.Machine.{Core, World, no_core, killed, Visit, visited_by, visit_of, core_numbered, regs_in, accessed, acted, moved, after_event, opened, world_after}
 use Rattle.machine_laws.specs.Leaving.{In, Used, effective, IsRemoved, used_by, used_here, used_at, uses_from, uses_of, IsEvicted, RowsLeaveForACause, LruLosesTheLongestUnused}
 use Rattle.machine_laws.proofs.Events.{each_length}
 use Rattle.machine_laws.proofs.Gone.{IsNumbered, numbered_are, numbered_front, Ranks, AreRanked, IsRanked, filled_ranked, filled_next, filled_stays, thin_all, thin_next, all_keep, pushed_kills, deliver_kills}
-use Rattle.machine_laws.proofs.Lists.{from_end, In-append, In-from_filter}
+use Rattle.machine_laws.proofs.Lists.{from_end, In-append}
 use Rattle.machine_laws.proofs.Outlived.{rows_new, combined_new, moved_at}
-use Rattle.machine_laws.proofs.Own.{is_own, served_own}
+use Rattle.machine_laws.proofs.Own.{served_live}
 use Rattle.machine_laws.proofs.Pairs.{pairs_filter}
 use Rattle.machine_laws.proofs.Quiet.{no_rows_made_changes_none}
 use Rattle.machine_laws.proofs.Theorem.{world_on}
@@ -34,32 +34,32 @@ use Rattle.machine_laws.proofs.Theorem.{world_on}
 
 module _ (h : Header) (w : World) (c : ℕ) where
   abbrev core_here : Core
-  core_here = core_of w c
+  core_here = core_numbered w c
 
-  abbrev seat_here : Seat
-  seat_here = seat_of h w c core_here
+  abbrev visit_here : Visit
+  visit_here = visit_of h w c core_here
 
-  stop_numbered : (a : Access) (r : Reply) (t : Stop) → IsNumbered w.step 0 (used_by seat_here.place a r t).made
-  stop_numbered a r (came end) =
-      let k : Maker = record { regs = seat_here.place.regs; step = w.step } in
-      let cfg = config_of seat_here.place.regs in
+  halt_numbered : (a : Access) (r : Reply) (t : Halt) → IsNumbered w.step 0 (used_by visit_here.place a r t).made
+  halt_numbered a r (came end) =
+      let k : Maker = record { regs = visit_here.place.regs; step = w.step } in
+      let cfg = config_of visit_here.place.regs in
       let ms = marks (regime_of cfg (side_of a.va)) (walk cfg true a) r.items in
       numbered_are w.step (rows_of k [] [] ms ++ combined_rows k (untagged a.va) r.items ms end) 0
       (λ y j. elim (In-append (rows_of k [] [] ms) (combined_rows k (untagged a.va) r.items ms end) y j) [
         | inl i ↦ (rows_new k ms [] [] y i).step_is
         | inr i ↦ (combined_new k (untagged a.va) r.items ms end y i).step_is
       ])
-  stop_numbered a r (clash one two) = tt
+  halt_numbered a r (clash one two) = tt
 
-  stop_live : (a : Access) (r : Reply) (t : Stop) → ((x : Row) → In x r.by → In x core_here.cache.rows) → (x : Row)
-      → In x (used_by seat_here.place a r t).served → In x core_here.cache.rows
-  stop_live a r (came end) live x i = live x i
-  stop_live a r (clash one two) live x i = absurd i
+  halt_live : (a : Access) (r : Reply) (t : Halt) → ((x : Row) → In x r.by → In x core_here.cache.rows) → (x : Row)
+      → In x (used_by visit_here.place a r t).served → In x core_here.cache.rows
+  halt_live a r (came end) live x i = live x i
+  halt_live a r (clash one two) live x i = absurd i
 
-  stop_cache : (a : Access) (r : Reply) (t : Stop) → let u = used_by seat_here.place a r t in
-      (visited_by seat_here a r t).cache ≡ filled h c core_here.cache u.served u.made
-  stop_cache a r (came end) = refl
-  stop_cache a r (clash one two) = sym (no_rows_made_changes_none h c core_here.cache).0
+  halt_cache : (a : Access) (r : Reply) (t : Halt) → let u = used_by visit_here.place a r t in
+      (visited_by visit_here a r t).cache ≡ filled h c core_here.cache u.served u.made
+  halt_cache a r (came end) = refl
+  halt_cache a r (clash one two) = sym (no_rows_made_changes_none h c core_here.cache).0
 
   -- the rows that are used: those that serve are there, and those that are made are new
   record IsOrderly (u : Used) : Type 0 where
@@ -71,11 +71,10 @@ module _ (h : Header) (w : World) (c : ℕ) where
 
   used_if : (a : Access) (own : Bool) → IsOrderly (cond own (used_here h w c a) (record { served = []; made = [] }))
   used_if a true =
-      let r : Reply = served seat_here.place a in
+      let r : Reply = served visit_here.place a in
       record {
-        live = stop_live a r r.stop
-            (λ x i. (In-from_filter (is_own (key_of seat_here.place.regs)) seat_here.place.rows x (served_own seat_here.place a x i)).0);
-        at = stop_numbered a r r.stop;
+        live = halt_live a r r.halt (served_live visit_here.place a);
+        at = halt_numbered a r r.halt;
       }
   used_if a false = none_orderly
 
@@ -113,7 +112,7 @@ module _ (h : Header) (w : World) (c : ℕ) where
 
     access_goes : (a : Access) (own : Bool)
         → Goes (cond own (used_here h w c a) (record { served = []; made = [] })) [] (cond own (accessed h w c core_here a) core_here).cache
-    access_goes a true = let r : Reply = served seat_here.place a in by_use (used_here h w c a) (used_if a true) _ (stop_cache a r r.stop)
+    access_goes a true = let r : Reply = served visit_here.place a in by_use (used_here h w c a) (used_if a true) _ (halt_cache a r r.halt)
     access_goes a false = by_kills [] core_here.cache refl
 
     event_goes : (e : Event) → Goes (used_at h w c e) (effective w c core_here.inbox e) (moved h w e c core_here).cache
@@ -143,7 +142,7 @@ module _ (h : Header) (c : ℕ) where
   abbrev IsRun : List Event → Type 0
   IsRun es =
       let w = world_after h es in
-      (length w.cores ≡ h.cores) × IsRanked h c w.step (uses_of h c es) (core_of w c).cache.rows
+      (length w.cores ≡ h.cores) × IsRanked h c w.step (uses_of h c es) (core_numbered w c).cache.rows
 
   run_ranked : c < h.cores → (es : List Event) → IsRun es
   run_ranked lt es = from_end IsRun more first es
@@ -171,7 +170,7 @@ rows_leave_for_a_cause h events e c lt r i =
     let w : World = world_after h events in
     let run = run_ranked h c lt events in
     let goes = event_goes h w c (uses_of h c events) run.1 e in
-    subst (λ (v : Core). In r v.cache.rows ⊎ (IsRemoved w c (core_of w c).inbox e r ⊎ IsEvicted h c (core_of w c).cache (used_at h w c e) r))
+    subst (λ (v : Core). In r v.cache.rows ⊎ (IsRemoved w c (core_numbered w c).inbox e r ⊎ IsEvicted h c (core_numbered w c).cache (used_at h w c e) r))
     (sym (moved_at h w run.0 e c lt)) (goes.stays r i)
 
 pub lru_loses_the_longest_unused : LruLosesTheLongestUnused
@@ -180,7 +179,7 @@ lru_loses_the_longest_unused h events e c lru lt earlier later new made first ot
     let run = run_ranked h c lt events in
     let used = used_at h w c e in
     let o = orderly h w c e in
-    let l = (core_of w c).cache in
+    let l = (core_numbered w c).cache in
     let test = same_set (shape_of h.size new.kind) new in
     let u = uses_of h c events ++ (used.served ++ earlier) in
     let at = numbered_front w.step 0 earlier (new ∷ later) (subst (IsNumbered w.step 0) made o.at) in

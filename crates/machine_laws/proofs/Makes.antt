@@ -105,4 +105,4 @@ module _ (laws : Laws) (v : View) (w : Core) (a : Access) (s : Step) (r : Reply)
       }
 
 pub makes_well : Laws → MakesWell
-makes_well laws v w a s r end side none f ok stop = filled_well laws v w a s r side none f ok (keeps_rows v.header.size) end (subst (UsedBy v a r) stop ok.used)
+makes_well laws v w a s r end side none f ok halt = filled_well laws v w a s r side none f ok (keeps_rows v.header.size) end (subst (UsedBy v a r) halt ok.used)

@@ -42,7 +42,7 @@ use Rattle.walk_laws.proofs.Sound.{sound1}
 use Rattle.walk_laws.proofs.Shifts.{of_fields, same_side}
 use Rattle.machine_spec.specs.Header.{Kind, table1, leaf2, table2}
 use Rattle.machine_spec.specs.Moments.{regs_after}
-use Rattle.machine_spec.specs.Marks.{Part, nothing, table, leaf, part1, part_of, Mark, mark, marks, is_first, is_leaf, has_asid, tag_by}
+use Rattle.machine_spec.specs.Marks.{Part, nothing, table, leaf_of_stage1, leaf_of_stage2, part1, part_of, Mark, mark, marks, is_first, is_leaf, has_asid, tag_by}
 use Rattle.machine_spec.specs.Uses.{AllUsed}
 use Rattle.machine_spec.specs.Kept.{View, now, regs_when, IsHeld, IsKeptItem}
 use Rattle.machine_spec.specs.Rows.{Row}
@@ -65,11 +65,11 @@ table_word r base1 i b h = absurd cc
 table_word r (base2 x) i b h = absurd cc
 table_word r (word w) i b h = refl
 
-leaf_word : (r : Regime) (n : Need) (i : Item) (g b : Bool) → (mark r n i).part ≡ leaf g b → (mark r n i).base ≡ false
+leaf_word : (r : Regime) (n : Need) (i : Item) (b : Bool) → (mark r n i).part ≡ leaf_of_stage2 b → (mark r n i).base ≡ false
 unfolding mark
-leaf_word r base1 i g b h = absurd cc
-leaf_word r (base2 x) i g b h = absurd cc
-leaf_word r (word w) i g b h = refl
+leaf_word r base1 i b h = absurd cc
+leaf_word r (base2 x) i b h = absurd cc
+leaf_word r (word w) i b h = refl
 
 second_asid : (m : Mark) → is_first m ≡ false → has_asid m ≡ true → {P : Type 0} → P
 second_asid m f h = absurd (both_ways (has_asid m) (rw f refl) h)
@@ -238,16 +238,18 @@ only_case false x r h = absurd h
 abbrev IsOneOf : Maker → Mark → List Item → List Item → Stage → Part → Row → Type 0
 IsOneOf k m whole part st p r =
     ((st ≡ S1) × (p ≡ table true) × (r ≡ row_of k m table1 whole))
-    ⊎ (((st ≡ S2) × (p ≡ table true) × (r ≡ row_of k m table2 part)) ⊎ ((st ≡ S2) × ((g : Bool) × (p ≡ leaf g true)) × (r ≡ row_of k m leaf2 part)))
+    ⊎ (((st ≡ S2) × (p ≡ table true) × (r ≡ row_of k m table2 part)) ⊎ ((st ≡ S2) × (p ≡ leaf_of_stage2 true) × (r ≡ row_of k m leaf2 part)))
 
 row_cases : (k : Maker) (m : Mark) (whole part : List Item) (st : Stage) (p : Part) (r : Row) → In r (rows_by k m whole part st p)
     → IsOneOf k m whole part st p r
 row_cases k m whole part S1 nothing r h = absurd h
 row_cases k m whole part S1 (table b) r h = let o = only_case b (row_of k m table1 whole) r h in inl (refl, ap table o.0, o.1)
-row_cases k m whole part S1 (leaf g b) r h = absurd h
+row_cases k m whole part S1 (leaf_of_stage1 g) r h = absurd h
+row_cases k m whole part S1 (leaf_of_stage2 b) r h = absurd h
 row_cases k m whole part S2 nothing r h = absurd h
 row_cases k m whole part S2 (table b) r h = let o = only_case b (row_of k m table2 part) r h in inr (inl (refl, ap table o.0, o.1))
-row_cases k m whole part S2 (leaf g b) r h = let o = only_case b (row_of k m leaf2 part) r h in inr (inr (refl, (g, ap (leaf g) o.0), o.1))
+row_cases k m whole part S2 (leaf_of_stage1 g) r h = absurd h
+row_cases k m whole part S2 (leaf_of_stage2 b) r h = let o = only_case b (row_of k m leaf2 part) r h in inr (inr (refl, ap leaf_of_stage2 o.0, o.1))
 
 -- of an item, where it was read now
 abbrev pub row_at : Maker → Mark → List Item → List Item → List Row
@@ -360,12 +362,12 @@ module _ (laws : Laws) (v : View) (s : Step) (none : (i : Inval) → issued_now 
             front_second (Good v) (Then t r) (λ x u f. closed t r refl refl x u (both_second v.side t x f)) above pm m rest sec first
             (last t r refl refl m (both_second v.side t m first) at base refl (λ n. second_asid m first n) held) used
 
-        leaf2_row : (g : Bool) → m.part ≡ leaf g true → IsRow (longer v s) inbox (row_with key2 m leaf2 part)
-        leaf2_row g lf = (
+        leaf2_row : m.part ≡ leaf_of_stage2 true → IsRow (longer v s) inbox (row_with key2 m leaf2 part)
+        leaf2_row lf = (
           refl,
           refl,
           λ t q y holds.
-              let l = laws.chain_leaf (config_at v) (side_of a.va) t p q x y part u pm m g ref on is lf holds in
+              let l = laws.chain_leaf (config_at v) (side_of a.va) t p q x y part u pm m ref on is lf holds in
               record {
                 leaf = l.leaf_at;
                 on = l.on;
@@ -461,8 +463,7 @@ module _ (laws : Laws) (v : View) (s : Step) (none : (i : Inval) → issued_now 
             | inl e ↦ subst (IsRow (longer v s) inbox) (sym (e.2 ∙ ap (λ z. row_with z m table2 (part ++ y ∷ [])) (ap (key_for regs) e.0)))
                 (table2_row p x ref (part ++ y ∷ []) (k y) pm m rest above on2 is (chain_second p x part) c.0 f (table_word R n y true e.1) held used e.1)
             | inr e ↦ subst (IsRow (longer v s) inbox) (sym (e.2 ∙ ap (λ z. row_with z m leaf2 (part ++ y ∷ [])) (ap (key_for regs) e.0)))
-                (leaf2_row p x ref (part ++ y ∷ []) (k y) pm m rest above on2 is (chain_second p x part) c.0 f (leaf_word R n y e.1.0 true e.1.1) held used
-                e.1.0 e.1.1)
+                (leaf2_row p x ref (part ++ y ∷ []) (k y) pm m rest above on2 is (chain_second p x part) c.0 f (leaf_word R n y true e.1) held used e.1)
           ]
         ]
 
@@ -514,7 +515,7 @@ module _ (laws : Laws) (v : View) (s : Step) (none : (i : Inval) → issued_now 
         let not_base : (mark R n y).base ≡ false → IsRow (longer v s) inbox r = λ e. absurd (both_ways (mark R n y).base e (mark_base R n y ∙ b)) in
         elim c.1 [
           | inl e ↦ not_base (table_word R n y true e.1)
-          | inr q ↦ elim q [ inl e ↦ not_base (table_word R n y true e.1) | inr e ↦ not_base (leaf_word R n y e.1.0 true e.1.1) ]
+          | inr q ↦ elim q [ inl e ↦ not_base (table_word R n y true e.1) | inr e ↦ not_base (leaf_word R n y true e.1) ]
         ]
 
     abbrev RowsOf : Plan → Type 0

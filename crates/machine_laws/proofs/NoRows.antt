@@ -33,9 +33,10 @@ use Rattle.machine_spec.specs.Rows.{Row}
 use Rattle.machine_spec.specs.Sets.{Cache, added, touched, filled}
 use Rattle.machine_spec.specs.Served.{Supplied, supplied_by, Place, supply, came, Reply, pushed, goes_on, serve, served}
 use Rattle.machine_spec.specs.Machine.{Core, World, no_core, killed, delivered_by, delivered, most_held, posted, mailed, mailed_by}
-use Rattle.machine_spec.specs.Machine.{Visited, Seat, is_old, is_stale, made_by, visited_by, visited, seat_of, core_of, regs_in, accessed, acted, moved}
+use Rattle.machine_spec.specs.Machine.{Visited, Visit, is_old, is_stale, made_by, visited_by, visited, visit_of, core_numbered, regs_in, accessed, acted, moved}
 use Rattle.machine_spec.specs.Machine.{opened, after_event, world_after, answer_in, answer_to, step_of, run_of}
-use Rattle.machine_laws.specs.Headline.{core_named, AreOfCores, IsFreshNow, IsFreshFor, RunsWithoutRowsAreFresh}
+use Rattle.trace_lang.specs.Traces.{core_of}
+use Rattle.machine_laws.specs.Headline.{AreOfCores, IsFreshNow, IsFreshFor, RunsWithoutRowsAreFresh}
 use Rattle.machine_laws.proofs.Facts.{view_of, AllFacts}
 use Rattle.machine_laws.proofs.Fine.{place_of, ServesWell, MakesWell}
 use Rattle.machine_laws.proofs.Lists.{from_end, none_some}
@@ -47,21 +48,21 @@ use Rattle.machine_laws.proofs.Theorem.{world_on, run_on, facts_of_run}
 
 -- what a walk is fed
 abbrev pub fed_reply : (Need → Option Item) → Ask Need Item (End Landing) → Reply
-fed_reply give t = record { items = fed_items give t; stop = came (fed_end give t); by = [] }
+fed_reply give t = record { items = fed_items give t; halt = came (fed_end give t); by = [] }
 
 goes_fed : (give : Need → Option Item) (n : Need) (k : Item → Ask Need Item (End Landing)) (o : Option Item) (next : Item → List Item → Reply)
     → ((i : Item) → next i [] ≡ fed_reply give (k i))
-    → goes_on n (supplied_by o) next
-    ≡ record { items = with_answer o [] (λ i. i ∷ fed_items give (k i)); stop = came (with_answer o (lacks n) (λ i. fed_end give (k i))); by = [] }
+    → goes_on (supplied_by n o) next
+    ≡ record { items = with_answer o [] (λ i. i ∷ fed_items give (k i)); halt = came (with_answer o (lacks n) (λ i. fed_end give (k i))); by = [] }
 goes_fed give n k None next h = refl
 goes_fed give n k (Some i) next h = ap (pushed i []) (h i)
 
 -- a walk that is supplied by what is given alone is fed
-serve_fed : (sup : Need → Supplied) (give : Need → Option Item) → ((n : Need) → sup n ≡ supplied_by (give n)) → (t : Ask Need Item (End Landing))
+serve_fed : (sup : Need → Supplied) (give : Need → Option Item) → ((n : Need) → sup n ≡ supplied_by n (give n)) → (t : Ask Need Item (End Landing))
     → serve sup [] t ≡ fed_reply give t
 serve_fed sup give h (done e) = refl
 serve_fed sup give h (ask n k) =
-    ap (λ s. goes_on n s (λ i rest. serve sup rest (k i))) (h n)
+    ap (λ s. goes_on s (λ i rest. serve sup rest (k i))) (h n)
     ∙ goes_fed give n k (give n) (λ i rest. serve sup rest (k i)) (λ i. serve_fed sup give h (k i))
 
 -- what an access meets where there are no rows
@@ -75,7 +76,7 @@ abbrev pub fed_at : Place → Access → Reply
 fed_at p a = fed_reply (given_at p a) (walk (config_of p.regs) true a)
 
 -- no row supplies anything
-supply_bare : (regs : Regs) (m : Memory) (k : ℕ) (a : Access) (n : Need) → supply (bare regs m k) a n ≡ supplied_by (given_at (bare regs m k) a n)
+supply_bare : (regs : Regs) (m : Memory) (k : ℕ) (a : Access) (n : Need) → supply (bare regs m k) a n ≡ supplied_by n (given_at (bare regs m k) a n)
 supply_bare regs m k a base1 = refl
 supply_bare regs m k a (base2 x) = refl
 supply_bare regs m k a (word w) = refl
@@ -154,12 +155,12 @@ visited_bare : (h : Header) (c : ℕ) (regs : Regs) (m : Memory) (k : ℕ) (l : 
     visited record { header = h; number = c; place = bare regs m k; cache = l } a ≡ record { answer = fresh_answer (bare regs m k) a; cache = l }
 visited_bare h c regs m k l a e =
     let p : Place = bare regs m k in
-    let s : Seat = record { header = h; number = c; place = p; cache = l } in
+    let s : Visit = record { header = h; number = c; place = p; cache = l } in
     let t = walk (config_of regs) true a in
     let give = given_at p a in
     let r : Reply = fed_at p a in
     let same : l.evictions - l.evictions ≡ 0 = omega arith in
-    ap (λ (q : Reply). visited_by s a q q.stop) (served_bare regs m k a)
+    ap (λ (q : Reply). visited_by s a q q.halt) (served_bare regs m k a)
     ∙ ap (λ (x : Cache). visited_with p a (is_old p r.items) (is_stale p a r.items) (x.evictions - l.evictions) x)
     (nothing_filled h c l [] (made_by p a r (came (fed_end give t))) e)
     ∙ ap (λ n. visited_with p a (is_old p r.items) (is_stale p a r.items) n l) same
@@ -167,7 +168,7 @@ visited_bare h c regs m k l a e =
     ∙ ap (λ b. visited_with p a false b 0 l) (none_fed (is_changed regs (side_of a.va) m) give (given_same regs (side_of a.va) m k) t)
 
 -- An access over no rows, where none are kept, has the answer of the fresh walk of its moment, and leaves the rows as they were.
-pub visited_fresh : (s : Seat) (a : Access) → s.header.size ≡ NoRows → s.place.rows ≡ [] →
+pub visited_fresh : (s : Visit) (a : Access) → s.header.size ≡ NoRows → s.place.rows ≡ [] →
     visited s a ≡ record { answer = fresh_answer s.place a; cache = s.cache }
 visited_fresh s a e none =
     ap (λ (rows : List Row). visited (record s { place = record (s.place) { rows = rows } }) a) none
@@ -202,7 +203,7 @@ bare_killed (i ∷ is) l h = bare_killed is (killed l i) (ap (λ x. killed x i) 
 
 module _ (h : Header) (w : World) (none : h.size ≡ NoRows) (c : ℕ) (v : Core) (bare_before : IsBare v) where
   bare_accessed : (a : Access) → IsBare (accessed h w c v a)
-  bare_accessed a = ap (λ (x : Visited). x.cache) (visited_fresh (seat_of h w c v) a none (ap (λ (l : Cache). l.rows) bare_before)) ∙ bare_before
+  bare_accessed a = ap (λ (x : Visited). x.cache) (visited_fresh (visit_of h w c v) a none (ap (λ (l : Cache). l.rows) bare_before)) ∙ bare_before
 
   -- no event makes a row or evicts one
   bare_moved : (e : Event) → IsBare (moved h w e c v)
@@ -220,16 +221,16 @@ module _ (h : Header) (w : World) (none : h.size ≡ NoRows) (c : ℕ) (v : Core
 -- RUNS
 
 module _ (h : Header) (log : List Step) (w : World) (all : AllFacts h log w) (none : h.size ≡ NoRows) where
-  answer_fresh : (c : ℕ) → c < h.cores → IsBare (core_of w c) → (a : Access) → IsFreshNow h log c a (answer_in h w c a)
+  answer_fresh : (c : ℕ) → c < h.cores → IsBare (core_numbered w c) → (a : Access) → IsFreshNow h log c a (answer_in h w c a)
   answer_fresh c lt b a =
       let v : View = view_of h log c (side_of a.va) in
-      let x : Core = core_of w c in
+      let x : Core = core_numbered w c in
       let is : answer_in h w c a ≡ fresh_answer (place_of v x.cache.rows) a =
-      ap (λ (u : Visited). u.answer) (visited_fresh (seat_of h w c x) a none (ap (λ (l : Cache). l.rows) b))
+      ap (λ (u : Visited). u.answer) (visited_fresh (visit_of h w c x) a none (ap (λ (l : Cache). l.rows) b))
       ∙ ap (λ p. fresh_answer p a) (place_is h log w all c (side_of a.va) lt) in
       subst (IsFreshNow h log c a) (sym is) record { outcome = refl; first = refl; second = refl; old = refl; stale = refl; evicted = refl }
 
-  fresh_one : ((c : ℕ) → c < h.cores → IsBare (core_of w c)) → (e : Event) → core_named e < h.cores → IsFreshFor h log e (answer_to h w e)
+  fresh_one : ((c : ℕ) → c < h.cores → IsBare (core_numbered w c)) → (e : Event) → core_of e < h.cores → IsFreshFor h log e (answer_to h w e)
   unfolding answer_to
   fresh_one b (Store core pa value) own = refl
   fresh_one b (Msr core reg value) own = refl
@@ -247,22 +248,22 @@ AllFresh h log = (k : ℕ) (s : Step) → slice_get log k ≡ Some s → IsFresh
 module _ (serves : ServesWell) (makes : MakesWell) (h : Header) (none : h.size ≡ NoRows) where
   -- the caches are as at first, and each access was the fresh walk of its moment
   abbrev IsFreshRun : List Event → Type 0
-  IsFreshRun events = AreOfCores h events → ((c : ℕ) → c < h.cores → IsBare (core_of (world_after h events) c)) × AllFresh h (run_of h events)
+  IsFreshRun events = AreOfCores h events → ((c : ℕ) → c < h.cores → IsBare (core_numbered (world_after h events) c)) × AllFresh h (run_of h events)
 
-  bare_first : (c : ℕ) → c < h.cores → IsBare (core_of (opened h) c)
+  bare_first : (c : ℕ) → c < h.cores → IsBare (core_numbered (opened h) c)
   bare_first c lt = ap (λ (v : Core). v.cache) (get_or-replicate h.cores c no_core no_core lt)
 
-  bare_next : (w : World) (e : Event) → length w.cores ≡ h.cores → ((c : ℕ) → c < h.cores → IsBare (core_of w c)) → (c : ℕ) → c < h.cores
-      → IsBare (core_of (after_event h w e) c)
+  bare_next : (w : World) (e : Event) → length w.cores ≡ h.cores → ((c : ℕ) → c < h.cores → IsBare (core_numbered w c)) → (c : ℕ) → c < h.cores
+      → IsBare (core_numbered (after_event h w e) c)
   bare_next w e count b c lt =
-      ap (λ (v : Core). v.cache) (each_at (moved h w e) w.cores c no_core (omega (arith, count, lt))) ∙ bare_moved h w none c (core_of w c) (b c lt) e
+      ap (λ (v : Core). v.cache) (each_at (moved h w e) w.cores c no_core (omega (arith, count, lt))) ∙ bare_moved h w none c (core_numbered w c) (b c lt) e
 
   fresh_run : (events : List Event) → IsFreshRun events
   fresh_run events = from_end IsFreshRun more (λ own. (bare_first, λ k s at. none_some s at)) events
     where
       more : (es : List Event) (e : Event) → IsFreshRun es → IsFreshRun (es ++ e ∷ [])
       more es e before own =
-          let parts = All-pop (λ d. core_named d < h.cores) (es ++ e ∷ []) es (Some e) refl own in
+          let parts = All-pop (λ d. core_of d < h.cores) (es ++ e ∷ []) es (Some e) refl own in
           let b = before parts.0 in
           let all : AllFacts h (run_of h es) (world_after h es) = facts_of_run serves makes h es parts.0 in
           rw (run_on h es e, world_on h es e) (

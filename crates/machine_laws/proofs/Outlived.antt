@@ -26,18 +26,18 @@ use Rattle.walk_spec.specs.Stage1.{untagged}
 use Rattle.walk_spec.specs.BothStages.{Landing, walk}
 use Rattle.machine_spec.specs.Header.{Header, Kind, table1, leaf2, table2}
 use Rattle.machine_spec.specs.Invalidations.{issued_by, completes}
-use Rattle.machine_spec.specs.Marks.{Part, nothing, table, leaf, Mark, marks, is_leaf1 as is_mark_leaf1}
+use Rattle.machine_spec.specs.Marks.{Part, nothing, table, leaf_of_stage1, leaf_of_stage2, Mark, marks, is_leaf1}
 use Rattle.machine_spec.specs.Rows.{Row}
-use Rattle.machine_spec.specs.Made.{Maker, key_of, key_for, only_if, row_of, rows_by, is_read_now, chain_with, rows_of, last_first, leaf_row, leaf_rows, combined_rows, numbered, rows_made}
-use Rattle.machine_spec.specs.Served.{Place, Reply, Stop, came, clash, served}
-use Rattle.machine_spec.specs.Machine.{Core, World, no_core, delivered_by, delivered, most_held, posted, mailed, mailed_by, finished, Seat, made_by, visited_by, seat_of, core_of, regs_in, accessed, acted, moved, after_event, opened, world_after}
+use Rattle.machine_spec.specs.Made.{Maker, key_for, only_if, row_of, rows_by, is_read_now, chain_with, rows_of, last_first, leaf_row, leaf_rows, combined_rows, numbered, rows_made}
+use Rattle.machine_spec.specs.Served.{Place, Reply, Halt, came, clash, served}
+use Rattle.machine_spec.specs.Machine.{Core, World, no_core, delivered_by, delivered, most_held, posted, mailed, mailed_by, finished, Visit, made_by, visited_by, visit_of, core_numbered, regs_in, accessed, acted, moved, after_event, opened, world_after}
 use Rattle.machine_laws.specs.Rules.{NoRowOutlivesItsVmid}
 use Rattle.machine_laws.proofs.Facts.{In}
 use Rattle.machine_laws.proofs.Lists.{In-filter, In-from_filter, In-left, In-last, In-append}
 use Rattle.machine_laws.proofs.Events.{each_at, each_length, covered_not, rows_left}
 use Rattle.machine_laws.proofs.Sets.{In-filled}
 use Rattle.machine_laws.proofs.Quiet.{barrier_empties_inboxes}
-use Rattle.machine_laws.proofs.Own.{is_own, served_own, all_of_in, in_of_all}
+use Rattle.machine_laws.proofs.Own.{served_live, all_of_in, in_of_all}
 
 -- THE ROWS THAT A STEP MAKES
 
@@ -62,10 +62,12 @@ module _ (k : Maker) where
   by_new : (m : Mark) (whole chain : List Item) (s : Stage) (part : Part) (x : Row) → In x (rows_by k m whole chain s part) → IsNew k.step x
   by_new m whole chain S1 nothing x i = absurd i
   by_new m whole chain S1 (table cached) x i = new_if cached k.step (row_of k m table1 whole) x (row_new m table1 whole) i
-  by_new m whole chain S1 (leaf global cached) x i = absurd i
+  by_new m whole chain S1 (leaf_of_stage1 global) x i = absurd i
+  by_new m whole chain S1 (leaf_of_stage2 cached) x i = absurd i
   by_new m whole chain S2 nothing x i = absurd i
   by_new m whole chain S2 (table cached) x i = new_if cached k.step (row_of k m table2 chain) x (row_new m table2 chain) i
-  by_new m whole chain S2 (leaf global cached) x i = new_if cached k.step (row_of k m leaf2 chain) x (row_new m leaf2 chain) i
+  by_new m whole chain S2 (leaf_of_stage1 global) x i = absurd i
+  by_new m whole chain S2 (leaf_of_stage2 cached) x i = new_if cached k.step (row_of k m leaf2 chain) x (row_new m leaf2 chain) i
 
   read_new : (m : Mark) (whole chain : List Item) (b : Bool) (x : Row) → In x (cond b (rows_by k m whole chain m.stage m.part) []) → IsNew k.step x
   read_new m whole chain true x i = by_new m whole chain m.stage m.part x i
@@ -81,15 +83,10 @@ module _ (k : Maker) where
         | inr j ↦ rows_new ms whole2 chain2 x j
       ]
 
-  leaf_if : (class address : ℕ) (m : Mark) (trail : List Item) (b : Bool) (x : Row) → In x (cond b (leaf_row k class address m trail ∷ []) [])
-      → IsNew k.step x
-  leaf_if class address m trail true x (inl e) = subst (IsNew k.step) (sym e) (record { vmid = key_vmid k.regs m.stage; step_is = refl })
-  leaf_if class address m trail true x (inr i) = absurd i
-  leaf_if class address m trail false x i = absurd i
-
   leaf_new : (class address : ℕ) (trail : List Item) (last : Option Mark) (x : Row) → In x (leaf_rows k class address trail last) → IsNew k.step x
   leaf_new class address trail None x i = absurd i
-  leaf_new class address trail (Some m) x i = leaf_if class address m trail (is_mark_leaf1 m && is_read_now k m) x i
+  leaf_new class address trail (Some m) x i =
+      new_if (is_leaf1 m && is_read_now k m) k.step (leaf_row k class address m trail) x (record { vmid = key_vmid k.regs m.stage; step_is = refl }) i
 
   pub combined_new : (address : ℕ) (trail : List Item) (ms : List Mark) (end : Fed Need (End Landing)) (x : Row)
       → In x (combined_rows k address trail ms end) → IsNew k.step x
@@ -114,7 +111,7 @@ module _ (k : Maker) where
       ])
       x i
 
-reply_new : (p : Place) (a : Access) (r : Reply) (t : Stop) (x : Row) → In x (made_by p a r t) → IsNew p.step x
+reply_new : (p : Place) (a : Access) (r : Reply) (t : Halt) (x : Row) → In x (made_by p a r t) → IsNew p.step x
 reply_new p a r (came end) x i =
     let c = config_of p.regs in
     made_new (record { regs = p.regs; step = p.step }) (untagged a.va) r.items
@@ -122,7 +119,7 @@ reply_new p a r (came end) x i =
 reply_new p a r (clash one two) x i = absurd i
 
 -- each row behind an access was there, or is new
-visited_rows : (s : Seat) (a : Access) (r : Reply) → ((x : Row) → In x r.by → In x s.cache.rows) → (t : Stop) (x : Row)
+visited_rows : (s : Visit) (a : Access) (r : Reply) → ((x : Row) → In x r.by → In x s.cache.rows) → (t : Halt) (x : Row)
     → In x (visited_by s a r t).cache.rows → In x s.cache.rows ⊎ IsNew s.place.step x
 visited_rows s a r live (came end) x i = elim (In-filled s.header s.number s.cache r.by (made_by s.place a r (came end)) x i) [
   | inl (inl j) ↦ inl j
@@ -191,10 +188,10 @@ delivered_if n v false = same_come n v
 
 accessed_if : (h : Header) (w : World) (c : ℕ) (v : Core) (a : Access) (own : Bool) → AllCome w.step v (cond own (accessed h w c v a) v)
 accessed_if h w c v a true r i =
-    let s : Seat = seat_of h w c v in
+    let s : Visit = visit_of h w c v in
     let y : Reply = served s.place a in
-    let live = (λ (x : Row) (m : In x y.by). (In-from_filter (is_own (key_of s.place.regs)) s.place.rows x (served_own s.place a x m)).0) in
-    elim (visited_rows s a y live y.stop r i) [
+    let live = served_live s.place a in
+    elim (visited_rows s a y live y.halt r i) [
       | inl old ↦ inl (old, λ j m cov. m)
       | inr new ↦ inr new
     ]
@@ -241,23 +238,23 @@ In-mailed v i false = In-last (delivered v).inbox i
 -- a machine with all its cores, each of whose rows has the VMID of its key in what invalidations look at
 record IsTagged (h : Header) (w : World) : Type 0 where
   count : length w.cores ≡ h.cores
-  tags : (c : ℕ) → c < h.cores → (r : Row) → In r (core_of w c).cache.rows → r.tag.vmid ≡ r.key.vmid
+  tags : (c : ℕ) → c < h.cores → (r : Row) → In r (core_numbered w c).cache.rows → r.tag.vmid ≡ r.key.vmid
 
 -- a machine behind a step that issued an invalidation: where a core still has a row of the VMID that was made before that
 -- step, or in it, the invalidation is in its inbox
 record IsBehind (h : Header) (w : World) (step vmid : ℕ) (i : Inval) : Type 0 where
   past : step < w.step
-  rows : (c : ℕ) → c < h.cores → (r : Row) → In r (core_of w c).cache.rows → r.key.vmid ≡ vmid
-      → In i (core_of w c).inbox ⊎ (step < r.made.step)
+  rows : (c : ℕ) → c < h.cores → (r : Row) → In r (core_numbered w c).cache.rows → r.key.vmid ≡ vmid
+      → In i (core_numbered w c).inbox ⊎ (step < r.made.step)
 
 module _ (h : Header) where
   pub moved_at : (w : World) → length w.cores ≡ h.cores → (e : Event) (c : ℕ) → c < h.cores
-      → core_of (after_event h w e) c ≡ moved h w e c (core_of w c)
+      → core_numbered (after_event h w e) c ≡ moved h w e c (core_numbered w c)
   moved_at w count e c lt = each_at (moved h w e) w.cores c no_core (omega (arith, count))
 
   rows_come : (w : World) → length w.cores ≡ h.cores → (e : Event) (c : ℕ) → c < h.cores
-      → AllCome w.step (core_of w c) (core_of (after_event h w e) c)
-  rows_come w count e c lt = subst (λ (u : Core). AllCome w.step (core_of w c) u) (sym (moved_at w count e c lt)) (event_come h w e c (core_of w c))
+      → AllCome w.step (core_numbered w c) (core_numbered (after_event h w e) c)
+  rows_come w count e c lt = subst (λ (u : Core). AllCome w.step (core_numbered w c) u) (sym (moved_at w count e c lt)) (event_come h w e c (core_numbered w c))
 
   tagged_on : (w : World) → IsTagged h w → (e : Event) → IsTagged h (after_event h w e)
   tagged_on w t e = record {
@@ -308,18 +305,18 @@ module _ (h : Header) where
     past = omega arith;
     rows = λ c lt r m same.
         let i : Inval = whole (regs_in w core) core w.step in
-        inl (subst (λ (v : Core). In i v.inbox) (sym (moved_at w count (issue core) c lt)) (comes_in w core c (core_of w c)));
+        inl (subst (λ (v : Core). In i v.inbox) (sym (moved_at w count (issue core) c lt)) (comes_in w core c (core_numbered w c)));
   }
 
   -- behind the barrier it is in no inbox
   gone : (w : World) → length w.cores ≡ h.cores → (regs : Regs) (core step c : ℕ) → c < h.cores
-      → In (whole regs core step) (core_of (after_event h w (Dsb core Ish)) c).inbox → ⊥
+      → In (whole regs core step) (core_numbered (after_event h w (Dsb core Ish)) c).inbox → ⊥
   gone w count regs core step c lt m =
       let i : Inval = whole regs core step in
-      let at : In i (moved h w (Dsb core Ish) c (core_of w c)).inbox = subst (λ (v : Core). In i v.inbox) (moved_at w count (Dsb core Ish) c lt) m in
-      let empty = barrier_empties_inboxes h w core c (core_of w c) in
+      let at : In i (moved h w (Dsb core Ish) c (core_numbered w c)).inbox = subst (λ (v : Core). In i v.inbox) (moved_at w count (Dsb core Ish) c lt) m in
+      let empty = barrier_empties_inboxes h w core c (core_numbered w c) in
       both_ways (core == i.issuer)
-      (in_of_all (λ (j : Inval). (core == j.issuer) ≡ false) (moved h w (Dsb core Ish) c (core_of w c)).inbox empty i at)
+      (in_of_all (λ (j : Inval). (core == j.issuer) ≡ false) (moved h w (Dsb core Ish) c (core_numbered w c)).inbox empty i at)
       (issuer_is regs core step)
 
   world_is : (before between : List Event) (core : ℕ) → world_after h (before ++ issue core ∷ (between ++ Dsb core Ish ∷ []))
@@ -336,7 +333,7 @@ module _ (h : Header) where
     vmid_then = vmid_of (regs_in first core)
 
     late_rows : (w : World) → w ≡ fold (after_event h) (after_event h first (issue core)) between → (r : Row)
-        → In r (core_of (after_event h w (Dsb core Ish)) c).cache.rows → r.key.vmid ≡ vmid_then → length before < r.made.step
+        → In r (core_numbered (after_event h w (Dsb core Ish)) c).cache.rows → r.key.vmid ≡ vmid_then → length before < r.made.step
     late_rows w e r m same =
         let i : Inval = whole (regs_in first core) core first.step in
         let cover = whole_covers (regs_in first core) core first.step in
@@ -354,8 +351,8 @@ module _ (h : Header) where
 pub no_row_outlives_its_vmid : NoRowOutlivesItsVmid
 no_row_outlives_its_vmid h before between core own c lt =
     let before_dsb : World = fold (after_event h) (after_event h (world_after h before) (issue core)) between in
-    subst (λ (w : World). All (λ r. r.key.vmid ≡ vmid_of (regs_in (world_after h before) core) → length before < r.made.step) (core_of w c).cache.rows)
+    subst (λ (w : World). All (λ r. r.key.vmid ≡ vmid_of (regs_in (world_after h before) core) → length before < r.made.step) (core_numbered w c).cache.rows)
     (sym (world_is h before between core))
     (all_of_in (λ (r : Row). r.key.vmid ≡ vmid_of (regs_in (world_after h before) core) → length before < r.made.step)
-    (core_of (after_event h before_dsb (Dsb core Ish)) c).cache.rows
+    (core_numbered (after_event h before_dsb (Dsb core Ish)) c).cache.rows
     (λ r m same. late_rows h before between core c lt before_dsb refl r m same))

@@ -36,9 +36,9 @@ own_by a b c d h =
 own_if : (kind : Kind) (k : Key) (x : ℕ) (r : Row) → matches kind k x r ≡ true → is_own k r ≡ true
 own_if kind k x r h = own_by (same_kind r.kind kind) (holds r.region x) (r.key.vmid == k.vmid) (same_fields r.key.config k.config) h
 
-supplied_none : (rows : List Row) (o : Option Item) → NamesLive rows (supplied_by o)
-supplied_none rows None = tt
-supplied_none rows (Some i) = λ x m. absurd m
+supplied_none : (rows : List Row) (n : Need) (o : Option Item) → NamesLive rows (supplied_by n o)
+supplied_none rows n None = tt
+supplied_none rows n (Some i) = λ x m. absurd m
 
 -- the rows that a chain names are among the leaves and tables that were found
 module _ (rows : List Row) (otherwise : Supplied) (rest : NamesLive rows otherwise) where
@@ -84,7 +84,7 @@ module _ (p : Place) (a : Access) where
       In-filter (is_own k) p.rows r m.0 (own_if kind k x r (and_parts (matches kind k x r) (r.global || (r.key.asid == k.asid)) m.1).0)
 
   fresh_named : (n : Need) → NamesLive own_rows (fresh_of p a n)
-  fresh_named n = supplied_none own_rows (given p.regs (side_of a.va) p.memory p.step n)
+  fresh_named n = supplied_none own_rows n (given p.regs (side_of a.va) p.memory p.step n)
 
   supply_named : (n : Need) → NamesLive own_rows (supply p a n)
   supply_named base1 = fresh_named base1
@@ -122,6 +122,9 @@ module _ (p : Place) (a : Access) where
   -- a row that served is live, and of the register fields and the VMID
   pub served_own : (x : Row) → In x (served p a).by → In x own_rows
   served_own x m = served_if ((config_of p.regs).m && not (is_refused1 (config_of p.regs) a)) x m
+
+  pub served_live : (x : Row) → In x (served p a).by → In x p.rows
+  served_live x m = (In-from_filter (is_own (key_of p.regs)) p.rows x (served_own x m)).0
 
 -- `All` by membership, and back
 pub all_of_in : {X : Type 0} (P : X → Type 0) (xs : List X) → ((x : X) → In x xs → P x) → All P xs

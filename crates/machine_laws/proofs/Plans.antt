@@ -24,7 +24,7 @@ use Rattle.machine_spec.specs.Uses.{next_first, above_of, AllUsed, LastIs}
 use Rattle.machine_spec.specs.Kept.{View, now, IsNowBase}
 use Rattle.machine_spec.specs.Allowed.{is_of_word, IsNowOf}
 use Rattle.machine_spec.specs.Rows.{Row}
-use Rattle.machine_spec.specs.Served.{Supplied, gives, nothing, both, supplied_by, supply, came, Reply, pushed, goes_on, serve}
+use Rattle.machine_spec.specs.Served.{Supplied, gives, halts, clash, supplied_by, supply, came, Reply, pushed, goes_on, serve}
 use Rattle.machine_laws.proofs.Trees.{IsOn, is_need1, needs_base, chain, Plan, fin, own, via, joined, flat, rest_by, IsSound, IsSecond, IsWords, AllSecond}
 use Rattle.machine_laws.proofs.Facts.{regime_for}
 use Rattle.machine_laws.proofs.Laws.{Laws}
@@ -58,7 +58,7 @@ module _ (laws : Laws) (v : View) (rows : List Row) (a : Access) where
   sup = supply (place_of v rows) a
 
   abbrev Fine : Option ℕ → Ask Need Item (End Landing) → Reply → Type 0
-  Fine above t r = FineBy v rg above t r.items r.stop
+  Fine above t r = FineBy v rg above t r.items r.halt
 
   -- WITHIN A CHAIN
 
@@ -69,7 +69,7 @@ module _ (laws : Laws) (v : View) (rows : List Row) (a : Access) where
   abbrev Lacks : List Item → Ask Need Item (End Leaf2) → Reply → Type 0
   Lacks is left r =
       (w : WordNeed) × (k : Item → Ask Need Item (End Leaf2)) × (left ≡ ask (word w) k) × (memory_after v.header v.log w.place ≡ None)
-      × (r ≡ record { items = is; stop = came (lacks (word w)); by = [] })
+      × (r ≡ record { items = is; halt = came (lacks (word w)); by = [] })
 
   record Ran (t : Ask Need Item (End Leaf2)) (f : End Leaf2 → Ask Need Item (End Landing)) (r : Reply) : Type 0 where
     items : List Item
@@ -85,7 +85,7 @@ module _ (laws : Laws) (v : View) (rows : List Row) (a : Access) where
 
   ran_word : (w : WordNeed) (k : Item → Ask Need Item (End Leaf2)) (f : End Leaf2 → Ask Need Item (End Landing)) →
       ((i : Item) → Ran (k i) f (serve sup [] (after (k i) f))) → (o : Option ℕ) → memory_after v.header v.log w.place ≡ o →
-      Ran (ask (word w) k) f (goes_on (word w) (supplied_by (option_map (needed_item (now v) w) o)) (λ i rest. serve sup rest (after (k i) f)))
+      Ran (ask (word w) k) f (goes_on (supplied_by (word w) (option_map (needed_item (now v) w) o)) (λ i rest. serve sup rest (after (k i) f)))
   ran_word w k f rec None is = record { items = []; left = ask (word w) k; on = refl; fresh = tt; how = inr (w, k, refl, is, refl) }
   ran_word w k f rec (Some value) is =
       let i : Item = needed_item (now v) w value in
@@ -208,14 +208,14 @@ module _ (laws : Laws) (v : View) (rows : List Row) (a : Access) where
         let pre = pre_via v rg above p x next k cs e second (λ n eq. (sound.2 e n eq).0) up
         (whole_on i q is b (done e) on f) (whole_used i q is b (done e) on f) (whole_base i q is b (done e) on f) (last_end i q is b e on f) in
         let g : Fine above rest r = subst (λ t. Fine above rest (serve sup [] t)) (sym (joined_is rg (next e) k)) (rec e) in
-        let all : FineBy v rg above tree (cs ++ r.items) r.stop =
-        fine_after v rg (Kept1 v rg above tree) (Kept1 v rg above rest) tree rest cs r.items r.stop pre g in
-        subst (λ items. FineBy v rg above tree items r.stop) (append_assoc (i ∷ q) is r.items) all
+        let all : FineBy v rg above tree (cs ++ r.items) r.halt =
+        fine_after v rg (Kept1 v rg above tree) (Kept1 v rg above rest) tree rest cs r.items r.halt pre g in
+        subst (λ items. FineBy v rg above tree items r.halt) (append_assoc (i ∷ q) is r.items) all
 
     -- a word of the chain is absent
     went_out : (i : Item) (q is : List Item) (b : Start v rg p x i q) (w : WordNeed) (go : Item → Ask Need Item (End Leaf2)) →
         IsOn rg b.left is (ask (word w) go) → AllFresh v (marks rg b.left is) → memory_after v.header v.log w.place ≡ None →
-        Fine above tree (prepend (i ∷ q) (record { items = is; stop = came (lacks (word w)); by = [] }))
+        Fine above tree (prepend (i ∷ q) (record { items = is; halt = came (lacks (word w)); by = [] }))
     went_out i q is b w go on f lost =
         let cs : List Item = (i ∷ q) ++ is in
         let at : IsOn rg (chain rg p x) cs (ask (word w) go) = whole_on i q is b (ask (word w) go) on f in (
@@ -237,9 +237,9 @@ module _ (laws : Laws) (v : View) (rows : List Row) (a : Access) where
 
     -- a chain that begins well, and what follows it
     by_start : (s : Supplied) → Begins v rg p x s →
-        Fine above tree (goes_on (base2 x) s (λ i rest. serve sup rest (after (walk2_behind (asked2 rg p x) i.value) go_on)))
-    by_start nothing b = absurd b
-    by_start (both one two) b = (
+        Fine above tree (goes_on s (λ i rest. serve sup rest (after (walk2_behind (asked2 rg p x) i.value) go_on)))
+    by_start (halts (came e)) b = absurd b
+    by_start (halts (clash one two)) b = (
       x,
       (λ i. after (walk2_behind (asked2 rg p x) i.value) go_on),
       refl,
@@ -275,13 +275,13 @@ module _ (laws : Laws) (v : View) (rows : List Row) (a : Access) where
         let u : Option ℕ = above_of above m in
         let r : Reply = serve sup [] (flat rg (k i)) in
         fine_after v rg (Kept1 v rg above (flat rg (own n k))) (Kept1 v rg u (flat rg (k i)))
-        (flat rg (own n k)) (flat rg (k i)) (i ∷ []) r.items r.stop
+        (flat rg (own n k)) (flat rg (k i)) (i ∷ []) r.items r.halt
         (pre_own v rg above n k i sound fit f) (rec u (above_now v rg above m (mark_first rg n i ∙ sound.0) f.now_is))
 
     fine_word : (above : Option ℕ) (w : WordNeed) (k : Item → Plan) → IsSound rg (own (word w) k) → ((i : Item) → IsFine (k i)) →
         (o : Option ℕ) → memory_after v.header v.log w.place ≡ o →
         Fine above (flat rg (own (word w) k))
-        (goes_on (word w) (supplied_by (option_map (needed_item (now v) w) o)) (λ i rest. serve sup rest (flat rg (k i))))
+        (goes_on (supplied_by (word w) (option_map (needed_item (now v) w) o)) (λ i rest. serve sup rest (flat rg (k i))))
     fine_word above w k sound rec None is = (w, (λ i. flat rg (k i)), refl, refl, record { used = tt; next = tt; last_base = tt }, is)
     fine_word above w k sound rec (Some value) is =
         let i : Item = needed_item (now v) w value in

@@ -30,7 +30,7 @@ use Rattle.walk_laws.proofs.Shifts.{of_fields}
 use Rattle.walk_laws.proofs.Levels.{beneath}
 use Rattle.walk_laws.proofs.Stage2.{down2, walk2_levels, class2, behind2, Stepped2, stepped2, reached2}
 use Rattle.walk_laws.proofs.Tables2.{level_of_one, fit_level}
-use Rattle.machine_spec.specs.Marks.{Part, nothing, table, leaf, Mark, mark, marks, part_of, part2}
+use Rattle.machine_spec.specs.Marks.{Part, nothing, table, leaf_of_stage2, Mark, mark, marks, part_of, part2}
 use Rattle.machine_spec.specs.Rows.{holds}
 use Rattle.machine_laws.proofs.Trees.{IsOn, chain, IsWords}
 use Rattle.machine_laws.proofs.Laws.{ChainLeaf, ChainTable}
@@ -128,36 +128,33 @@ walk2_is r p x h = rw h refl
 
 -- WHAT A WORD THAT MAY BE CACHED LEADS TO
 
-no_leaf_part : (g : Bool) (b : Bool) → nothing ≡ leaf g b → ⊥
-no_leaf_part g b h = cc
-
 module _ (r : Regime) (left pa value : ℕ) where
   abbrev Leads : Asked2 → Kind2 → Type 0
   Leads q kind = (l : Leaf2) × (step2 q left pa value ≡ Reached l) × (l.class ≡ class_by (mapping2 kind) r.stage2 left pa)
 
-  leaf_leads : (p : Bool) (x : ℕ) (out mem_attr xn sh : ℕ) (read write af dbm contiguous big on g : Bool) → let kind : Kind2 =
+  leaf_leads : (p : Bool) (x : ℕ) (out mem_attr xn sh : ℕ) (read write af dbm contiguous big on : Bool) → let kind : Kind2 =
       LeafOf2 out mem_attr read write xn sh af dbm contiguous in
-      means2_of r.config left value ≡ kind → is_too_large r.stage2 out ≡ big → (af || r.config.ha2) ≡ on → leaf false (not big && on) ≡ leaf g true
+      means2_of r.config left value ≡ kind → is_too_large r.stage2 out ≡ big → (af || r.config.ha2) ≡ on → leaf_of_stage2 (not big && on) ≡ leaf_of_stage2 true
       → Leads (asked2 r p x) kind
   unfolding step2
-  leaf_leads p x out mem_attr xn sh read write af dbm contiguous true on g e b o h = absurd cc
-  leaf_leads p x out mem_attr xn sh read write af dbm contiguous false false g e b o h = absurd cc
-  leaf_leads p x out mem_attr xn sh read write af dbm contiguous false true g e b o h = (
+  leaf_leads p x out mem_attr xn sh read write af dbm contiguous true on e b o h = absurd cc
+  leaf_leads p x out mem_attr xn sh read write af dbm contiguous false false e b o h = absurd cc
+  leaf_leads p x out mem_attr xn sh read write af dbm contiguous false true e b o h = (
     leaf2_of (asked2 r p x) left pa record { out = out; mem_attr = mem_attr; xn = xn; sh = sh; read = read; write = write; dbm = dbm; contiguous = contiguous },
     rw (e, b, o) refl,
     refl,
   )
 
-  leads_by : (p : Bool) (x : ℕ) (g : Bool) (kind : Kind2) → means2_of r.config left value ≡ kind → part2 r kind ≡ leaf g true → Leads (asked2 r p x) kind
-  leads_by p x g Invalid2 e h = absurd cc
-  leads_by p x g (Table2 next) e h = absurd cc
-  leads_by p x g (LeafOf2 out mem_attr read write xn sh af dbm contiguous) e h =
-      leaf_leads p x out mem_attr xn sh read write af dbm contiguous (is_too_large r.stage2 out) (af || r.config.ha2) g e refl refl h
+  leads_by : (p : Bool) (x : ℕ) (kind : Kind2) → means2_of r.config left value ≡ kind → part2 r kind ≡ leaf_of_stage2 true → Leads (asked2 r p x) kind
+  leads_by p x Invalid2 e h = absurd cc
+  leads_by p x (Table2 next) e h = absurd cc
+  leads_by p x (LeafOf2 out mem_attr read write xn sh af dbm contiguous) e h =
+      leaf_leads p x out mem_attr xn sh read write af dbm contiguous (is_too_large r.stage2 out) (af || r.config.ha2) e refl refl h
 
   -- a leaf
-  pub leaf_leads2 : (p : Bool) (x : ℕ) (g : Bool) → part_of r S2 left value ≡ leaf g true
+  pub leaf_leads2 : (p : Bool) (x : ℕ) → part_of r S2 left value ≡ leaf_of_stage2 true
       → (l : Leaf2) × (step2 (asked2 r p x) left pa value ≡ Reached l) × (l.class ≡ class_by (mapping_of r S2 left value) r.stage2 left pa)
-  leaf_leads2 p x g h = leads_by p x g (means2_of r.config left value) refl h
+  leaf_leads2 p x h = leads_by p x (means2_of r.config left value) refl h
 
   table_leads : (next : ℕ) (big : Bool) → means2_of r.config left value ≡ Table2 next → is_too_large r.stage2 next ≡ big → table (not big) ≡ table true
       → (p : Bool) (x : ℕ) → step2 (asked2 r p x) left pa value ≡ Down next
@@ -251,8 +248,8 @@ leaf_twin r r' l (done (reaches m)) h = ap (λ (z : Leaf2). done (reaches z)) h
 leaf_twin r r' l (done (stops f)) h = absurd h
 leaf_twin r r' l (ask n k) h = absurd h
 
-pub part_real : (g : Bool) (p : Part) → p ≡ leaf g true → p ≡ nothing → ⊥
-part_real g p e h = let q : leaf g true ≡ nothing = sym e ∙ h in cc
+pub part_real : (p : Part) → p ≡ leaf_of_stage2 true → p ≡ nothing → ⊥
+part_real p e h = let q : leaf_of_stage2 true ≡ nothing = sym e ∙ h in cc
 
 pub table_real : (p : Part) → p ≡ table true → p ≡ nothing → ⊥
 table_real p e h = let q : table true ≡ nothing = sym e ∙ h in cc
@@ -264,24 +261,23 @@ leaf_found r r' q y trail ms class l t w c e =
     record { leaf_at = l; on = subst (IsOn r' (chain r' q y) trail) (leaf_twin r r' l w.left w.twin) w.on; class_is = c; same = w.same ∙ e }
 
 -- a leaf of stage 2 serves each IPA of its region
-pub chain_leaf_is : (c : Config) (s t : Side) (p q : Bool) (x y : ℕ) (trail : List Item) (u : Ask Need Item (End Leaf2)) (pre : List Mark) (m : Mark)
-    (g : Bool) →
+pub chain_leaf_is : (c : Config) (s t : Side) (p q : Bool) (x y : ℕ) (trail : List Item) (u : Ask Need Item (End Leaf2)) (pre : List Mark) (m : Mark) →
     is_refused2 c x ≡ false → IsOn (regime_of c s) (chain (regime_of c s) p x) trail u
     → marks (regime_of c s) (chain (regime_of c s) p x) trail ≡ pre ++ m ∷ [] →
-    m.part ≡ leaf g true → holds m.region y ≡ true → ChainLeaf (regime_of c t) q trail (pre ++ m ∷ []) m.region.class y
-chain_leaf_is c s t p q x y trail u pre m g ok h e part hold =
+    m.part ≡ leaf_of_stage2 true → holds m.region y ≡ true → ChainLeaf (regime_of c t) q trail (pre ++ m ∷ []) m.region.class y
+chain_leaf_is c s t p q x y trail u pre m ok h e part hold =
     let r : Regime = regime_of c s in
     let r' : Regime = regime_of c t in
-    let w = word_last c s p x y ok trail u m h (part_real g m.part part) pre e in
-    let d = leaf_leads2 r w.at.left w.at.item.pa w.at.item.value p x g (sym (ap (λ (z : Mark). z.part) w.is) ∙ part) in
+    let w = word_last c s p x y ok trail u m h (part_real m.part part) pre e in
+    let d = leaf_leads2 r w.at.left w.at.item.pa w.at.item.value p x (sym (ap (λ (z : Mark). z.part) w.is) ∙ part) in
     let end : u ≡ done (reaches d.0) = w.at.left_as ∙ ap (step_then (beneath (down2 r p x) w.at.left)) d.1 in
     let rc = reached2 r p x y (of_fields c s) trail d.0 (subst (Takes (fits r) (walk2 (asked2 r p x)) trail) end (chain_takes c s p x y ok trail u h)) in
     let same : x / 2 ^ d.0.class ≡ y / 2 ^ d.0.class =
-    subst (λ k. x / 2 ^ k ≡ y / 2 ^ k) (sym d.2) (same_at c s p x y ok trail u m h (part_real g m.part part) w hold) in
+    subst (λ k. x / 2 ^ k ≡ y / 2 ^ k) (sym d.2) (same_at c s p x y ok trail u m h (part_real m.part part) w hold) in
     let i : InStep (fits r) (SameRegion r) (walk2 (asked2 r p x)) (walk2 (asked2 r p y)) trail u (done (reaches (moved2 d.0 y))) =
     subst (λ z. InStep (fits r) (SameRegion r) (walk2 (asked2 r p x)) (walk2 (asked2 r p y)) trail z (done (reaches (moved2 d.0 y)))) (sym end)
     (rc.shift same) in
-    let o = other_chain c s p x y ok trail u m h (part_real g m.part part) w hold (done (reaches (moved2 d.0 y))) i in
+    let o = other_chain c s p x y ok trail u m h (part_real m.part part) w hold (done (reaches (moved2 d.0 y))) i in
     let tw = twin_on r r' (chain r p y) (chain r' q y) (done (reaches (moved2 d.0 y))) trail (twin_chain c s t p q y) o.0 in
     leaf_found r r' q y trail (pre ++ m ∷ []) m.region.class (moved2 d.0 y) (chain r p y) tw (d.2 ∙ sym (ap (λ (z : Mark). z.region.class) w.is)) (sym o.1 ∙ e)
 

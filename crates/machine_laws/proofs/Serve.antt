@@ -31,7 +31,7 @@ use Rattle.machine_spec.specs.Marks.{marks, is_first, is_leaf}
 use Rattle.machine_spec.specs.Uses.{next_first, next_second, above_of, AllUsed, LastIs}
 use Rattle.machine_spec.specs.Kept.{IsNowBase}
 use Rattle.machine_spec.specs.Allowed.{IsNowOf}
-use Rattle.machine_spec.specs.Served.{Supplied, Stop, came, clash, Reply, pushed, serve}
+use Rattle.machine_spec.specs.Served.{Supplied, Halt, came, clash, Reply, pushed, serve}
 use Rattle.machine_laws.proofs.Trees.{IsOn, is_need1, needs_base, chain, Plan, fin, own, via, flat, rest_by, IsSound, IsSecond, AllSecond, IsWord}
 use Rattle.machine_laws.proofs.Fine.{Good, IsNow, LastOk, Kept1, FineOf}
 use Rattle.machine_laws.proofs.Stands.{on_append, marks_append, via_on, via_marks, mark_first, mark_base, second_marks, flat_fin}
@@ -150,7 +150,7 @@ module _ (v : View) where
 -- WHAT IS SERVED BEHIND ITEMS THAT ARE TAKEN ALREADY
 
 abbrev pub prepend : List Item → Reply → Reply
-prepend items reply = record { items = items ++ reply.items; stop = reply.stop; by = reply.by }
+prepend items reply = record { items = items ++ reply.items; halt = reply.halt; by = reply.by }
 
 pub serve_queue : (r : Regime) (sup : Need → Supplied) (q : List Item) (t u : Ask Need Item (End Landing)) → IsOn r t q u
     → serve sup q t ≡ prepend q (serve sup [] u)
@@ -185,8 +185,8 @@ module _ (v : View) (r : Regime) where
   last_after t (ask n k) pre (i ∷ items) e on h here there =
       rw (marks_append r t (ask n k) pre (i ∷ items) on) (last_ok_more (now v) e (marks r t pre) (mark r n i) (marks r (k i) items) there)
 
-  pub fine_after : (K L : List Item → Type 0) (t u : Ask Need Item (End Landing)) (pre items : List Item) (stop : Stop) → Pre K L t u pre →
-      FineOf L v r u items stop → FineOf K v r t (pre ++ items) stop
+  pub fine_after : (K L : List Item → Type 0) (t u : Ask Need Item (End Landing)) (pre items : List Item) (halt : Halt) → Pre K L t u pre →
+      FineOf L v r u items halt → FineOf K v r t (pre ++ items) halt
   fine_after K L t u pre items (came (ended e)) p f =
       (on_append r t u (done e) pre items p.on f.0, p.kept items f.1, last_after t u pre items e p.on f.0 p.last f.2)
   fine_after K L t u pre items (came (lacks n)) p f = (f.0, f.1, f.2, on_append r t u (ask n f.1) pre items p.on f.3, p.kept items f.4, f.5)

@@ -19,9 +19,9 @@ use Rattle.walk_spec.specs.Steps.{End, stops, reaches}
 use Rattle.walk_spec.specs.Stage2.{is_refused2, fault2, Asked2}
 use Rattle.walk_spec.specs.Stage1.{asked2, untagged}
 use Rattle.walk_spec.specs.BothStages.{Landing, walk, is_refused1, outcome_of}
-use Rattle.walk_spec.specs.Fresh.{given, fed_outcome}
+use Rattle.walk_spec.specs.Fresh.{fed_outcome}
 use Rattle.walk_laws.specs.Shift.{stands, stands2}
-use Rattle.machine_spec.specs.Header.{Kind, leaf1, table1, leaf2, table2}
+use Rattle.machine_spec.specs.Header.{Kind, leaf1, table1}
 use Rattle.machine_spec.specs.Moments.{regs_after, memory_after}
 use Rattle.machine_spec.specs.Marks.{Mark, mark, marks, is_first}
 use Rattle.machine_spec.specs.Uses.{use_of, above_of, AllUsed, LastIs}
@@ -29,7 +29,7 @@ use Rattle.machine_spec.specs.Kept.{View, now, regs_when, IsKeptNow, IsNowBase, 
 use Rattle.machine_spec.specs.Allowed.{is_of_word, IsNowOf, FaultIsRead, last_entry, last_entry1, Case, IsEnded, IsLacking, IsTwice, IsForked, Reaches, IsConflict, IsRight}
 use Rattle.machine_spec.specs.Rows.{Row, holds, matches1, is_older, inserted, by_making, matching, deepest}
 use Rattle.machine_spec.specs.Made.{key_of, last_first}
-use Rattle.machine_spec.specs.Served.{Supplied, supplied_by, chain_by, begun2, chain_of, fresh_of, supply, Stop, came, clash, Reply, pushed, stopped, serve, taken, credited, begun1, combined, served}
+use Rattle.machine_spec.specs.Served.{Supplied, supply, Halt, came, clash, Reply, pushed, halted, serve, taken, credited, begun1, combined, served}
 use Rattle.machine_spec.specs.Machine.{Core}
 use Rattle.machine_laws.proofs.Trees.{IsOn, chain, Plan, fin, flat, IsWord, AllSecond}
 use Rattle.machine_laws.proofs.Facts.{In, sided, regime_for, IsStored, Suits, IsLeafRow1, IsTableRow1, IsRowBy, IsApart, AllApart, Facts}
@@ -38,7 +38,8 @@ use Rattle.machine_laws.proofs.Lists.{In-filter, none_some}
 use Rattle.machine_laws.proofs.Stands.{on_ends, on_needs, marks_append, marks_nil, flat_fin}
 use Rattle.machine_laws.proofs.Uses.{used_map, table_append, cut_used, last_more}
 use Rattle.machine_laws.proofs.Fine.{Good, LastOk, Kept1, place_of, config_at, here, FineOf, FineBy, Begins, PlansAreFine, RightBy, UsedBy, IsAlone, ServedOk, ServesWell}
-use Rattle.machine_laws.proofs.Found.{In-matching, In-deepest, apart_matching, Match, matched1, region_same, NamesLive, serve_live, taken_none}
+use Rattle.machine_laws.proofs.Own.{served_live}
+use Rattle.machine_laws.proofs.Found.{In-matching, In-deepest, apart_matching, Match, matched1, region_same}
 use Rattle.machine_laws.proofs.Begins.{regs_now, last_word_base, Same, stored_good, begins, base_now}
 use Rattle.machine_laws.proofs.Serve.{fits_base2, fresh_good, opened, prepend, serve_queue, Pre, fine_after}
 
@@ -98,13 +99,13 @@ second_none (x ∷ ms) m h e = second_case x ms m (last_first ms) (is_first x) r
 
 -- TAKING A ROW'S TRAIL
 
-taken_nil : (items : List Item) (e : End Landing) → taken items (done e) ≡ stopped (came (ended e))
+taken_nil : (items : List Item) (e : End Landing) → taken items (done e) ≡ halted (came (ended e))
 taken_nil [] e = refl
 taken_nil (i ∷ items) e = refl
 
 taken_front : (r : Regime) (t : Ask Need Item (End Landing)) (e : End Landing) (front rest : List Item) → IsOn r t front (done e) →
-    taken (front ++ rest) t ≡ record { items = front; stop = came (ended e); by = [] }
-taken_front r t e [] rest h = subst (λ w. taken rest w ≡ record { items = []; stop = came (ended e); by = [] }) h (taken_nil rest e)
+    taken (front ++ rest) t ≡ record { items = front; halt = came (ended e); by = [] }
+taken_front r t e [] rest h = subst (λ w. taken rest w ≡ record { items = []; halt = came (ended e); by = [] }) h (taken_nil rest e)
 taken_front r (done b) e (x ∷ front) rest h = absurd h
 taken_front r (ask n k) e (x ∷ front) rest h = ap (pushed x []) (taken_front r (k x) e front rest h.1)
 
@@ -197,11 +198,11 @@ module _ (laws : Laws) (plans : PlansAreFine) (v : View) (w : Core) (a : Access)
       (p, l, at_now (λ c. stands2 c (side_of a.va) p x items ≡ ends (reaches l) []) (stands_chain (config_at v) (side_of a.va) p x items l ok h))
 
   -- what was served, by its tree
-  abbrev IsBoth : List Item → Stop → Type 0
-  IsBoth items stop =
-      (by : List Row) → RightBy v a (record { items = items; stop = stop; by = by }) stop × UsedBy v a (record { items = items; stop = stop; by = by }) stop
+  abbrev IsBoth : List Item → Halt → Type 0
+  IsBoth items halt =
+      (by : List Row) → RightBy v a (record { items = items; halt = halt; by = by }) halt × UsedBy v a (record { items = items; halt = halt; by = by }) halt
 
-  both_of : (items : List Item) (stop : Stop) → FineOf KeptHere v rg (here v a) items stop → IsBoth items stop
+  both_of : (items : List Item) (halt : Halt) → FineOf KeptHere v rg (here v a) items halt → IsBoth items halt
   both_of items (came (ended e)) h by = (right_ended e items (ended_of e items h.0 h.1 h.2), record { on = h.0; used = h.1.0 })
   both_of items (came (lacks n)) h by = (
     subst (λ z. IsRight case_here items None (fed_outcome (lacks z))) (sym h.2)
@@ -247,22 +248,22 @@ module _ (laws : Laws) (plans : PlansAreFine) (v : View) (w : Core) (a : Access)
   sup = supply (place_of v w.cache.rows) a
 
   fine_plan : (p : Plan) → Rattle.machine_laws.proofs.Trees.IsSound rg p
-      → FineBy v rg None (flat rg p) (serve sup [] (flat rg p)).items (serve sup [] (flat rg p)).stop
+      → FineBy v rg None (flat rg p) (serve sup [] (flat rg p)).items (serve sup [] (flat rg p)).halt
   fine_plan p sound = plans v w.cache.rows a side chains p sound None tt
 
-  weaker : (t : Ask Need Item (End Landing)) (items : List Item) (stop : Stop) → ((more : List Item) → Kept1 v rg None t more → KeptHere more) →
-      FineOf (Kept1 v rg None t) v rg t items stop → FineOf KeptHere v rg t items stop
+  weaker : (t : Ask Need Item (End Landing)) (items : List Item) (halt : Halt) → ((more : List Item) → Kept1 v rg None t more → KeptHere more) →
+      FineOf (Kept1 v rg None t) v rg t items halt → FineOf KeptHere v rg t items halt
   weaker t items (came (ended e)) k h = (h.0, k items h.1, h.2)
   weaker t items (came (lacks n)) k h = (h.0, h.1, h.2, h.3, k items h.4, h.5)
   weaker t items (clash one two) k h = (h.0, h.1, h.2, h.3, h.4, h.5, k (items ++ one) h.6, k (items ++ two) h.7, h.8)
 
   -- WITHOUT A ROW OF STAGE 1
 
-  from_nothing : FineOf KeptHere v rg (here v a) (serve sup [] (here v a)).items (serve sup [] (here v a)).stop
+  from_nothing : FineOf KeptHere v rg (here v a) (serve sup [] (here v a)).items (serve sup [] (here v a)).halt
   from_nothing =
       let e : flat rg (laws.plan (config_at v) true a) ≡ here v a = laws.plan_is (config_at v) true a in
-      weaker (here v a) (serve sup [] (here v a)).items (serve sup [] (here v a)).stop (λ more k. (k.used, k.last_base))
-      (subst (λ t. FineBy v rg None t (serve sup [] t).items (serve sup [] t).stop) e
+      weaker (here v a) (serve sup [] (here v a)).items (serve sup [] (here v a)).halt (λ more k. (k.used, k.last_base))
+      (subst (λ t. FineBy v rg None t (serve sup [] t).items (serve sup [] t).halt) e
       (fine_plan (laws.plan (config_at v) true a) (laws.sound (config_at v) true a)))
 
   -- BY THE ROW OF A STAGE 1 TABLE
@@ -304,7 +305,7 @@ module _ (laws : Laws) (plans : PlansAreFine) (v : View) (w : Core) (a : Access)
   serve_here items = serve sup items (here v a)
 
   from_table : (trail : List Item) → IsTableRow1 (Good v) (config_at v) trail a
-      → FineOf KeptHere v rg (here v a) (serve_here trail).items (serve_here trail).stop
+      → FineOf KeptHere v rg (here v a) (serve_here trail).items (serve_here trail).halt
   from_table trail t =
       let rest : Reply = serve sup [] (flat rg t.plan) in
       let e : serve_here trail ≡ prepend trail rest = serve_queue rg sup trail (here v a) (flat rg t.plan) t.on in
@@ -320,8 +321,8 @@ module _ (laws : Laws) (plans : PlansAreFine) (v : View) (w : Core) (a : Access)
         );
         last = λ g q. subst (LastOk (now v) g) (sym t.is) (table_last trail t g (flat_fin rg t.plan g q));
       } in
-      subst (λ z. FineOf KeptHere v rg (here v a) z.items z.stop) (sym e)
-      (fine_after v rg KeptHere (Kept1 v rg None (flat rg t.plan)) (here v a) (flat rg t.plan) trail rest.items rest.stop p (fine_plan t.plan t.sound))
+      subst (λ z. FineOf KeptHere v rg (here v a) z.items z.halt) (sym e)
+      (fine_after v rg KeptHere (Kept1 v rg None (flat rg t.plan)) (here v a) (flat rg t.plan) trail rest.items rest.halt p (fine_plan t.plan t.sound))
 
   as_kind : (kind : Kind) (r : Row) → r.kind ≡ kind → In r w.cache.rows → IsRowBy (λ s. IsStored (sided v s) w.inbox r) r kind
   as_kind kind r e i = subst (IsRowBy (λ s. IsStored (sided v s) w.inbox r) r) e (f.rows r i)
@@ -331,7 +332,7 @@ module _ (laws : Laws) (plans : PlansAreFine) (v : View) (w : Core) (a : Access)
 
   from_tables : (config_at v).m ≡ true → is_refused1 (config_at v) a ≡ false → (o : Option Row) →
       deepest (matches1 table1 (key_of (regs_after v.core v.log)) (untagged a.va)) w.cache.rows ≡ o →
-      FineOf KeptHere v rg (here v a) (begun1 o serve_here).items (begun1 o serve_here).stop
+      FineOf KeptHere v rg (here v a) (begun1 o serve_here).items (begun1 o serve_here).halt
   from_tables on ok None e = from_nothing
   from_tables on ok (Some r) e =
       let m = In-deepest (matches1 table1 (key_of (regs_after v.core v.log)) (untagged a.va)) w.cache.rows r e in
@@ -376,7 +377,7 @@ module _ (laws : Laws) (plans : PlansAreFine) (v : View) (w : Core) (a : Access)
     judged_at r t = laws.judged (config_at v) a r.trail t.landing enabled ok t.on
 
     reply_is : (r : Row) (t : LeafHere r)
-        → taken r.trail (here v a) ≡ record { items = (judged_at r t).front; stop = came (ended (judged_at r t).end); by = [] }
+        → taken r.trail (here v a) ≡ record { items = (judged_at r t).front; halt = came (ended (judged_at r t).end); by = [] }
     reply_is r t =
         let j = judged_at r t in
         ap (λ items. taken items (here v a)) j.is ∙ taken_front rg (here v a) j.end j.front j.rest j.on
@@ -443,7 +444,7 @@ module _ (laws : Laws) (plans : PlansAreFine) (v : View) (w : Core) (a : Access)
         (last_word_base (now v) (marks rg (walk (config_at v) false a) r.trail) (laws.mapped_last (config_at v) false a r.trail h.2.landing h.2.on))
 
     twice_right : (r s : Row) → IsApart r s → In r leaves → In s leaves → (by : List Row)
-        → RightBy v a (record { items = []; stop = clash r.trail s.trail; by = by }) (clash r.trail s.trail)
+        → RightBy v a (record { items = []; halt = clash r.trail s.trail; by = by }) (clash r.trail s.trail)
     twice_right r s apart ir is by = record {
       other = s.trail;
       both = refl;
@@ -459,11 +460,11 @@ module _ (laws : Laws) (plans : PlansAreFine) (v : View) (w : Core) (a : Access)
 
     -- what holds of a reply but for its rows that served
     abbrev OkBy : Reply → Type 0
-    OkBy z = RightBy v a z z.stop × UsedBy v a z z.stop × IsAlone v w.cache.rows a z
+    OkBy z = RightBy v a z z.halt × UsedBy v a z z.halt × IsAlone v w.cache.rows a z
 
-    old_alone : (items : List Item) (stop : Stop) (by : List Row) → AllOld (now v) (now_marks items)
-        → IsAlone v w.cache.rows a (record { items = items; stop = stop; by = by })
-    old_alone items stop by old m e k x i = let lt = old_last (now v) (now_marks items) m old e in absurd (omega (arith, lt, k))
+    old_alone : (items : List Item) (halt : Halt) (by : List Row) → AllOld (now v) (now_marks items)
+        → IsAlone v w.cache.rows a (record { items = items; halt = halt; by = by })
+    old_alone items halt by old m e k x i = let lt = old_last (now v) (now_marks items) m old e in absurd (omega (arith, lt, k))
 
     one_ok : (r : Row) → In r leaves → OkBy (credited r (taken r.trail (here v a)))
     one_ok r i =
@@ -472,15 +473,15 @@ module _ (laws : Laws) (plans : PlansAreFine) (v : View) (w : Core) (a : Access)
         let b = both_of j.front (came (ended j.end)) (front_fine r i t) (r ∷ []) in
         subst (λ z. OkBy (credited r z)) (sym (reply_is r t)) (b.0, b.1, old_alone j.front (came (ended j.end)) (r ∷ []) (old_front r t))
 
-    nil_alone : (stop : Stop) (by : List Row) → IsAlone v w.cache.rows a (record { items = []; stop = stop; by = by })
-    nil_alone stop by m e k x i = none_some m (subst (λ ms. last_first ms ≡ Some m) (marks_nil rg (here v a)) e)
+    nil_alone : (halt : Halt) (by : List Row) → IsAlone v w.cache.rows a (record { items = []; halt = halt; by = by })
+    nil_alone halt by m e k x i = none_some m (subst (λ ms. last_first ms ≡ Some m) (marks_nil rg (here v a)) e)
 
     by_leaves : (rs : List Row) → leaves ≡ rs →
         OkBy (combined rs (deepest (matches1 table1 (key_of (regs_after v.core v.log)) (untagged a.va)) w.cache.rows) sup (here v a))
     by_leaves [] e =
         let o = deepest (matches1 table1 (key_of (regs_after v.core v.log)) (untagged a.va)) w.cache.rows in
         let z : Reply = begun1 o serve_here in
-        let b = both_of z.items z.stop (from_tables enabled ok o refl) z.by in
+        let b = both_of z.items z.halt (from_tables enabled ok o refl) z.by in
         (b.0, b.1, λ m q k x i. none_matches (matches1 leaf1 (key_of (regs_after v.core v.log)) (untagged a.va)) w.cache.rows x e i)
     by_leaves (r ∷ []) e = one_ok r (subst (In r) (sym e) (inl refl))
     by_leaves (r ∷ s ∷ more) e =
@@ -494,81 +495,33 @@ module _ (laws : Laws) (plans : PlansAreFine) (v : View) (w : Core) (a : Access)
   -- WITHOUT STAGE 1, OR REFUSED BY IT
 
   plain_ok : ((config_at v).m ≡ true → is_refused1 (config_at v) a ≡ true) → let z = serve_here [] in
-      RightBy v a z z.stop × UsedBy v a z z.stop × IsAlone v w.cache.rows a z
+      RightBy v a z z.halt × UsedBy v a z z.halt × IsAlone v w.cache.rows a z
   plain_ok off =
       let z = serve_here [] in
-      let b = both_of z.items z.stop from_nothing z.by in
+      let b = both_of z.items z.halt from_nothing z.by in
       (b.0, b.1, λ m e k x i. absurd (second_none (now_marks z.items) m (laws.no_stage1 (config_at v) a z.items off) e))
-
-  -- THE ROWS THAT SERVED ARE LIVE
-
-  found_live : (n : Need) (o : Option Item) → NamesLive w.cache.rows (supplied_by o)
-  found_live n None = tt
-  found_live n (Some i) = λ x m. absurd m
-
-  chain_live : (r : Row) (o : Supplied) (items : List Item) → In r w.cache.rows → NamesLive w.cache.rows o → NamesLive w.cache.rows (chain_by r o items)
-  chain_live r o [] i h = h
-  chain_live r o (y ∷ items) i h = λ x m. elim m [ inl e ↦ subst (λ z. In z w.cache.rows) (sym e) i | inr k ↦ absurd k ]
-
-  begun_live : (o : Supplied) (t : Option Row) → ((r : Row) → t ≡ Some r → In r w.cache.rows) → NamesLive w.cache.rows o → NamesLive w.cache.rows (begun2 o t)
-  begun_live o None h n = n
-  begun_live o (Some r) h n = chain_live r o r.trail (h r refl) n
-
-  chain_of_live : (o : Supplied) (rs : List Row) (t : Option Row) → ((r : Row) → In r rs → In r w.cache.rows) → ((r : Row) → t ≡ Some r → In r w.cache.rows) →
-      NamesLive w.cache.rows o → NamesLive w.cache.rows (chain_of o rs t)
-  chain_of_live o [] t g h n = begun_live o t h n
-  chain_of_live o (r ∷ []) t g h n = chain_live r o r.trail (g r (inl refl)) n
-  chain_of_live o (r ∷ s ∷ more) t g h n = tt
-
-  sup_live : (n : Need) → NamesLive w.cache.rows (sup n)
-  sup_live base1 = found_live base1 (given (regs_after v.core v.log) (side_of a.va) (memory_after v.header v.log) (now v) base1)
-  sup_live (word n) = found_live (word n) (given (regs_after v.core v.log) (side_of a.va) (memory_after v.header v.log) (now v) (word n))
-  sup_live (base2 x) =
-      let k = key_of (regs_after v.core v.log) in
-      chain_of_live (fresh_of (place_of v w.cache.rows) a (base2 x)) (matching (Rattle.machine_spec.specs.Rows.matches leaf2 k x) w.cache.rows)
-      (deepest (Rattle.machine_spec.specs.Rows.matches table2 k x) w.cache.rows)
-      (λ r i. (In-matching (Rattle.machine_spec.specs.Rows.matches leaf2 k x) w.cache.rows r i).0)
-      (λ r e. (In-deepest (Rattle.machine_spec.specs.Rows.matches table2 k x) w.cache.rows r e).0)
-      (found_live (base2 x) (given (regs_after v.core v.log) (side_of a.va) (memory_after v.header v.log) (now v) (base2 x)))
-
-  begun1_live : (t : Option Row) → ((r : Row) → t ≡ Some r → In r w.cache.rows) → (x : Row) → In x (begun1 t serve_here).by → In x w.cache.rows
-  begun1_live None h x m = serve_live sup w.cache.rows sup_live (here v a) [] x m
-  begun1_live (Some r) h x (inl e) = subst (λ z. In z w.cache.rows) (sym e) (h r refl)
-  begun1_live (Some r) h x (inr m) = serve_live sup w.cache.rows sup_live (here v a) r.trail x m
-
-  combined_live : (rs : List Row) (t : Option Row) → ((r : Row) → In r rs → In r w.cache.rows) → ((r : Row) → t ≡ Some r → In r w.cache.rows) →
-      (x : Row) → In x (combined rs t sup (here v a)).by → In x w.cache.rows
-  combined_live [] t g h x m = begun1_live t h x m
-  combined_live (r ∷ []) t g h x (inl e) = subst (λ z. In z w.cache.rows) (sym e) (g r (inl refl))
-  combined_live (r ∷ []) t g h x (inr m) = absurd (taken_none (here v a) r.trail x m)
-  combined_live (r ∷ s ∷ more) t g h x m = absurd m
 
   -- ALL CASES
 
   abbrev by_rows : Reply
   by_rows = combined leaves (deepest (matches1 table1 (key_of (regs_after v.core v.log)) (untagged a.va)) w.cache.rows) sup (here v a)
 
-  served_if : (m refused : Bool) → (config_at v).m ≡ m → is_refused1 (config_at v) a ≡ refused
-      → ServedOk v w.cache.rows a (cond (m && not refused) by_rows (serve_here []))
-  served_if true false e g =
-      let b = by_leaves e g leaves refl in
-      let k1 = matches1 leaf1 (key_of (regs_after v.core v.log)) (untagged a.va) in
-      let k2 = matches1 table1 (key_of (regs_after v.core v.log)) (untagged a.va) in
+  served_if : (m refused : Bool) → (config_at v).m ≡ m → is_refused1 (config_at v) a ≡ refused → let z = cond (m && not refused) by_rows (serve_here []) in
+      RightBy v a z z.halt × UsedBy v a z z.halt × IsAlone v w.cache.rows a z
+  served_if true false e g = by_leaves e g leaves refl
+  served_if true true e g = plain_ok (λ q. g)
+  served_if false refused e g = plain_ok (λ q. absurd (both_ways (config_at v).m e q))
+
+  -- the rows that served are live
+  pub served_ok : ServedOk v w.cache.rows a (served (place_of v w.cache.rows) a)
+  served_ok =
+      let b = served_if (config_at v).m (is_refused1 (config_at v) a) refl refl in
       record {
         right = b.0;
         used = b.1;
         alone = b.2;
-        live = combined_live leaves (deepest k2 w.cache.rows) (λ r i. (In-matching k1 w.cache.rows r i).0) (λ r q. (In-deepest k2 w.cache.rows r q).0);
+        live = served_live (place_of v w.cache.rows) a;
       }
-  served_if true true e g =
-      let b = plain_ok (λ q. g) in
-      record { right = b.0; used = b.1; alone = b.2; live = serve_live sup w.cache.rows sup_live (here v a) [] }
-  served_if false refused e g =
-      let b = plain_ok (λ q. absurd (both_ways (config_at v).m e q)) in
-      record { right = b.0; used = b.1; alone = b.2; live = serve_live sup w.cache.rows sup_live (here v a) [] }
-
-  pub served_ok : ServedOk v w.cache.rows a (served (place_of v w.cache.rows) a)
-  served_ok = served_if (config_at v).m (is_refused1 (config_at v) a) refl refl
 
 pub serves_well : Laws → PlansAreFine → ServesWell
 serves_well laws plans v w a side f = served_ok laws plans v w a side f

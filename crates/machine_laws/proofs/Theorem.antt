@@ -23,14 +23,15 @@ use Rattle.machine_spec.specs.Moments.{regs_after, memory_after}
 use Rattle.machine_spec.specs.Kept.{View, now, regs_when}
 use Rattle.machine_spec.specs.Allowed.{is_changed, is_conflict, Case, IsRight, IsAnswer, case_of, IsAllowed, AllAllowed}
 use Rattle.machine_spec.specs.Sets.{Cache}
-use Rattle.machine_spec.specs.Served.{Place, Reply, Stop, came, clash, served}
-use Rattle.machine_spec.specs.Machine.{Core, World, no_core, visited_by, visited, core_of, opened, after_event, world_after, answer_in, answer_to, step_of, run_from, run_of}
-use Rattle.machine_laws.specs.Headline.{core_named, AreOfCores, RunsAreAllowed}
+use Rattle.machine_spec.specs.Served.{Place, Reply, Halt, came, clash, served}
+use Rattle.machine_spec.specs.Machine.{Core, World, no_core, visited_by, visited, core_numbered, opened, after_event, world_after, answer_in, answer_to, step_of, run_from, run_of}
+use Rattle.trace_lang.specs.Traces.{core_of}
+use Rattle.machine_laws.specs.Headline.{AreOfCores, RunsAreAllowed}
 use Rattle.machine_laws.proofs.Facts.{view_of, Facts, AllFacts}
 use Rattle.machine_laws.proofs.Fine.{place_of, RightBy, ServesWell, MakesWell}
 use Rattle.machine_laws.proofs.Lists.{from_end, none_some}
 use Rattle.machine_laws.proofs.Logs.{each_more}
-use Rattle.machine_laws.proofs.Events.{seat_at, place_is, keeps}
+use Rattle.machine_laws.proofs.Events.{visit_at, place_is, keeps}
 
 -- AN ANSWER
 
@@ -50,8 +51,8 @@ not_stale true c d h e = absurd cc
 not_stale false c d h e = e
 
 module _ (h : Header) (log : List Step) (c : ℕ) (a : Access) (l : Cache) where
-  answered : (r : Reply) (t : Stop) → RightBy (view_of h log c (side_of a.va)) a r t
-      → IsAnswer (case_of h log c a) (visited_by (seat_at (view_of h log c (side_of a.va)) (place_of (view_of h log c (side_of a.va)) l.rows) l) a r t).answer
+  answered : (r : Reply) (t : Halt) → RightBy (view_of h log c (side_of a.va)) a r t
+      → IsAnswer (case_of h log c a) (visited_by (visit_at (view_of h log c (side_of a.va)) (place_of (view_of h log c (side_of a.va)) l.rows) l) a r t).answer
   answered r (came end) right = record {
     asid_is = ap asid_of (regs_now (view_of h log c (side_of a.va)));
     vmid_is = ap vmid_of (regs_now (view_of h log c (side_of a.va)));
@@ -72,13 +73,13 @@ module _ (serves : ServesWell) (h : Header) (log : List Step) (w : World) (all :
   answer_is : (c : ℕ) → c < h.cores → (a : Access) → IsAnswer (case_of h log c a) (answer_in h w c a)
   answer_is c lt a =
       let v : View = view_of h log c (side_of a.va) in
-      let x : Core = core_of w c in
+      let x : Core = core_numbered w c in
       let r : Reply = served (place_of v x.cache.rows) a in
-      subst (λ (p : Place). IsAnswer (case_of h log c a) (visited (seat_at v p x.cache) a).answer) (sym (place_is h log w all c (side_of a.va) lt))
-      (answered h log c a x.cache r r.stop (serves v x a refl (all.each c (side_of a.va) lt)).right)
+      subst (λ (p : Place). IsAnswer (case_of h log c a) (visited (visit_at v p x.cache) a).answer) (sym (place_is h log w all c (side_of a.va) lt))
+      (answered h log c a x.cache r r.halt (serves v x a refl (all.each c (side_of a.va) lt)).right)
 
   -- the step of an event is allowed behind the log
-  allowed_one : (e : Event) → core_named e < h.cores → IsAllowed h log (step_of h w e)
+  allowed_one : (e : Event) → core_of e < h.cores → IsAllowed h log (step_of h w e)
   unfolding answer_to
   allowed_one (Store core pa value) own = refl
   allowed_one (Msr core reg value) own = refl
@@ -123,7 +124,7 @@ fine_run serves makes h events = from_end (IsFine h) more (λ own. (start_all h,
   where
     more : (es : List Event) (e : Event) → IsFine h es → IsFine h (es ++ e ∷ [])
     more es e fine own =
-        let parts = All-pop (λ d. core_named d < h.cores) (es ++ e ∷ []) es (Some e) refl own in
+        let parts = All-pop (λ d. core_of d < h.cores) (es ++ e ∷ []) es (Some e) refl own in
         let before = fine parts.0 in
         let log : List Step = run_of h es in
         let w : World = world_after h es in

@@ -31,7 +31,8 @@ use Rattle.machine_spec.specs.Header.{Header}
 use Rattle.machine_spec.specs.Allowed.{Case, config_now, IsConflict, case_of, IsAllowed}
 use Rattle.machine_spec.specs.Machine.{world_after, answer_in, step_of, run_of}
 use Rattle.machine_spec.proofs.Worked.{on_worked_runs}
-use Rattle.machine_laws.specs.Headline.{core_named, AreOfCores}
+use Rattle.trace_lang.specs.Traces.{core_of}
+use Rattle.machine_laws.specs.Headline.{AreOfCores}
 use Rattle.machine_laws.specs.NotAllowedRuns.{two_cores, global_page, asid_page, read, read_once, page_gone, trail, front, Allows, under_asid_2, other_gone}
 use Rattle.machine_laws.specs.NotAllowedRuns.{read_below, leaf2_gone, ChainsUpToTheirUse, LeavesOfTheirAsid, LeavesUpToTheirEnd, TablesUpToTheirUse, BasesOfTheirWord, FaultsOfNow, AccessesAreJudged, ConflictsOfLeaves, WrongAnswersAreRefused}
 use Rattle.machine_laws.proofs.Logs.{get-last}
@@ -42,14 +43,14 @@ use Rattle.machine_laws.proofs.Theorem.{run_on}
 -- THE NEXT STEP OF A RUN
 
 abbrev are_of_cores : Header → List Event → Bool
-are_of_cores h events = list_all (λ e. nat_lt (core_named e) h.cores) events
+are_of_cores h events = list_all (λ e. nat_lt (core_of e) h.cores) events
 
 of_cores : (h : Header) (events : List Event) → are_of_cores h events ≡ true → AreOfCores h events
-of_cores h [] ok = All-nil (λ e. core_named e < h.cores)
+of_cores h [] ok = All-nil (λ e. core_of e < h.cores)
 of_cores h (e ∷ events) ok =
-    let within : nat_lt (core_named e) h.cores ≡ true = first_of_and (nat_lt (core_named e) h.cores) (are_of_cores h events) ok in
-    All-cons (λ e. core_named e < h.cores) e events (ltb-true (core_named e) h.cores within)
-    (of_cores h events (second_of_and (nat_lt (core_named e) h.cores) (are_of_cores h events) ok))
+    let within : nat_lt (core_of e) h.cores ≡ true = first_of_and (nat_lt (core_of e) h.cores) (are_of_cores h events) ok in
+    All-cons (λ e. core_of e < h.cores) e events (ltb-true (core_of e) h.cores within)
+    (of_cores h events (second_of_and (nat_lt (core_of e) h.cores) (are_of_cores h events) ok))
 
 next_allowed : (h : Header) (events : List Event) (e : Event) → AreOfCores h (events ++ e ∷ [])
     → IsAllowed h (run_of h events) (step_of h (world_after h events) e)

@@ -9,8 +9,7 @@ use Rattle.trails.specs.declared.step.Answer.{Answer}
 use Rattle.trails.specs.declared.step.Step.{Step}
 use Rattle.table_reads.specs.Memory.{Memory}
 use Rattle.trace_lang.specs.declared.header.Size.TheVariants.{NoRows}
--- the core that does an event
-pub use Rattle.trace_lang.specs.Traces.{core_of as core_named}
+use Rattle.trace_lang.specs.Traces.{core_of}
 use Rattle.walk_spec.specs.Fresh.{fresh_items, fresh_outcome}
 use Rattle.machine_spec.specs.Header.{Header}
 use Rattle.machine_spec.specs.Moments.{memory_after, regs_after}
@@ -20,7 +19,7 @@ use Rattle.machine_spec.specs.Machine.{run_of}
 
 -- each event is of a core of the machine
 abbrev pub AreOfCores : (header : Header) (events : List Event) → Type 0
-AreOfCores h events = All (λ e. core_named e < h.cores) events
+AreOfCores h events = All (λ e. core_of e < h.cores) events
 
 -- Every step of every run is allowed.
 abbrev pub RunsAreAllowed : Type 0

@@ -13,8 +13,8 @@ use Rattle.machine_spec.specs.Header.{Header, shape_of}
 use Rattle.machine_spec.specs.Invalidations.{issued_by, completes}
 use Rattle.machine_spec.specs.Rows.{Row}
 use Rattle.machine_spec.specs.Sets.{Cache, victim, same_set, same_key, is_row, filled}
-use Rattle.machine_spec.specs.Served.{Place, Reply, Stop, came, clash, served}
-use Rattle.machine_spec.specs.Machine.{World, most_held, made_by, seat_of, core_of, regs_in, after_event, opened, world_after}
+use Rattle.machine_spec.specs.Served.{Place, Reply, Halt, came, clash, served}
+use Rattle.machine_spec.specs.Machine.{World, most_held, made_by, visit_of, core_numbered, regs_in, after_event, opened, world_after}
 
 -- an element of a list
 abbrev pub In : {X : Type 0} → (element : X) (list : List X) → Type 0
@@ -50,12 +50,12 @@ abbrev pub none_used : Used
 none_used = record { served = []; made = [] }
 
 -- a conflict uses none
-abbrev pub used_by : (place : Place) (access : Access) (reply : Reply) (stop : Stop) → Used
+abbrev pub used_by : (place : Place) (access : Access) (reply : Reply) (halt : Halt) → Used
 used_by p a r (came end) = record { served = r.by; made = made_by p a r (came end) }
 used_by p a r (clash one two) = none_used
 
 abbrev pub used_here : (header : Header) (world : World) (number : ℕ) (access : Access) → Used
-used_here h w c a = let p = (seat_of h w c (core_of w c)).place in let r = served p a in used_by p a r r.stop
+used_here h w c a = let p = (visit_of h w c (core_numbered w c)).place in let r = served p a in used_by p a r r.halt
 
 -- the rows that an event uses at a core
 abbrev pub used_at : (header : Header) (world : World) (number : ℕ) (event : Event) → Used
@@ -94,9 +94,9 @@ abbrev pub RowsLeaveForACause : Type 0
 RowsLeaveForACause =
     (h : Header) (events : List Event) (e : Event) (c : ℕ) → c < h.cores → (r : Row) →
     let w = world_after h events in
-    let v = core_of w c in
+    let v = core_numbered w c in
     In r v.cache.rows →
-    In r (core_of (after_event h w e) c).cache.rows ⊎ (IsRemoved w c v.inbox e r ⊎ IsEvicted h c v.cache (used_at h w c e) r)
+    In r (core_numbered (after_event h w e) c).cache.rows ⊎ (IsRemoved w c v.inbox e r ⊎ IsEvicted h c v.cache (used_at h w c e) r)
 
 -- a row was used at a moment behind which another wasn't
 pub record IsUsedSince (uses : List Row) (other row : Row) : Type 0 where
@@ -114,5 +114,5 @@ LruLosesTheLongestUnused =
     let used = used_at h w c e in
     (earlier later : List Row) (new : Row) → used.made ≡ earlier ++ new ∷ later →
     (first : Row) (others : List Row) →
-    rows_of_set h new (filled h c (core_of w c).cache used.served earlier) ≡ first ∷ others →
+    rows_of_set h new (filled h c (core_numbered w c).cache used.served earlier) ≡ first ∷ others →
     (r : Row) → In r others → IsUsedSince (uses_of h c events ++ (used.served ++ earlier)) first r

@@ -16,7 +16,7 @@ use Rattle.machine_spec.specs.Header.{Header, Shape}
 use Rattle.machine_spec.specs.Rows.{Row}
 use Rattle.machine_spec.specs.Sets.{Cache, victim, same_set, placed, filled}
 use Rattle.machine_spec.specs.Served.{Place, served}
-use Rattle.machine_spec.specs.Machine.{Core, World, killed, core_of, moved, regs_in, world_after}
+use Rattle.machine_spec.specs.Machine.{Core, World, killed, core_numbered, moved, regs_in, world_after}
 use Rattle.machine_laws.specs.Headline.{AreOfCores}
 
 -- an event that touches no inbox and no row
@@ -54,7 +54,7 @@ NoRowOutlivesItsVmid =
     let issue : Event = Tlbi core El2 Vmalls12e1 true 0 in
     let events = before ++ issue ∷ (between ++ Dsb core Ish ∷ []) in
     AreOfCores h events → (c : ℕ) → c < h.cores →
-    All (λ r. r.key.vmid ≡ vmid_of (regs_in (world_after h before) core) → length before < r.made.step) (core_of (world_after h events) c).cache.rows
+    All (λ r. r.key.vmid ≡ vmid_of (regs_in (world_after h before) core) → length before < r.made.step) (core_numbered (world_after h events) c).cache.rows
 
 -- A row serves only under the register fields and the VMID under which it was made.
 abbrev pub RowsServeTheirOwn : Type 0

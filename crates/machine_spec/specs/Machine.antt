@@ -28,7 +28,7 @@ use Rattle.machine_spec.specs.Allowed.{is_earlier, is_changed}
 use Rattle.machine_spec.specs.Rows.{Row}
 use Rattle.machine_spec.specs.Made.{rows_made}
 use Rattle.machine_spec.specs.Sets.{Cache, filled}
-use Rattle.machine_spec.specs.Served.{Place, Reply, Stop, came, clash, served}
+use Rattle.machine_spec.specs.Served.{Place, Reply, Halt, came, clash, served}
 
 -- a core: its registers with their queue, the invalidations that have reached it and have not taken effect, oldest first,
 -- and its rows
@@ -89,7 +89,7 @@ pub record Visited : Type 0 where
   pub cache : Cache
 
 -- where an access is done: the trace's header, the core's number, what it meets there, and the rows with their evictions
-pub record Seat : Type 0 where
+pub record Visit : Type 0 where
   pub header : Header
   pub number : ℕ
   pub place : Place
@@ -104,52 +104,52 @@ abbrev pub is_stale : (place : Place) (access : Access) (items : List Item) → 
 is_stale p a items = list_any (is_changed p.regs (side_of a.va) p.memory) items
 
 -- the rows that a reply makes, which is no conflict
-abbrev pub made_by : (place : Place) (access : Access) (reply : Reply) (stop : Stop) → List Row
+abbrev pub made_by : (place : Place) (access : Access) (reply : Reply) (halt : Halt) → List Row
 made_by p a r (came end) =
     let c = config_of p.regs in
     rows_made record { regs = p.regs; step = p.step } (untagged a.va) r.items (marks (regime_of c (side_of a.va)) (walk c true a) r.items) end
 made_by p a r (clash one two) = []
 
--- the answer and the rows by how the service stopped; a conflict makes and moves none
-abbrev pub visited_by : (seat : Seat) (access : Access) (reply : Reply) (stop : Stop) → Visited
-visited_by s a r (came end) =
-    let l = filled s.header s.number s.cache r.by (made_by s.place a r (came end)) in
+-- the answer and the rows by how the service halted; a conflict makes and moves none
+abbrev pub visited_by : (visit : Visit) (access : Access) (reply : Reply) (halt : Halt) → Visited
+visited_by v a r (came end) =
+    let l = filled v.header v.number v.cache r.by (made_by v.place a r (came end)) in
     record {
       answer = record {
-        asid = asid_of s.place.regs;
-        vmid = vmid_of s.place.regs;
+        asid = asid_of v.place.regs;
+        vmid = vmid_of v.place.regs;
         outcome = fed_outcome end;
         first = r.items;
         second = None;
-        old = is_old s.place r.items;
-        stale = is_stale s.place a r.items;
-        evicted = l.evictions - s.cache.evictions;
+        old = is_old v.place r.items;
+        stale = is_stale v.place a r.items;
+        evicted = l.evictions - v.cache.evictions;
       };
       cache = l;
     }
-visited_by s a r (clash one two) =
+visited_by v a r (clash one two) =
     record {
       answer = record {
-        asid = asid_of s.place.regs;
-        vmid = vmid_of s.place.regs;
+        asid = asid_of v.place.regs;
+        vmid = vmid_of v.place.regs;
         outcome = Conflict;
         first = r.items ++ one;
         second = Some (r.items ++ two);
-        old = is_old s.place (r.items ++ one);
+        old = is_old v.place (r.items ++ one);
         stale = false;
         evicted = 0;
       };
-      cache = s.cache;
+      cache = v.cache;
     }
 
 -- an access or a prefetch
-abbrev pub visited : (seat : Seat) (access : Access) → Visited
-visited s a = let r = served s.place a in visited_by s a r r.stop
+abbrev pub visited : (visit : Visit) (access : Access) → Visited
+visited v a = let r = served v.place a in visited_by v a r r.halt
 
 -- EVENTS
 
-abbrev pub seat_of : (header : Header) (world : World) (number : ℕ) (core : Core) → Seat
-seat_of h w c core = record {
+abbrev pub visit_of : (header : Header) (world : World) (number : ℕ) (core : Core) → Visit
+visit_of h w c core = record {
   header = h;
   number = c;
   place = record { regs = core.bank.regs; memory = w.memory; rows = core.cache.rows; step = w.step };
@@ -157,16 +157,16 @@ seat_of h w c core = record {
 }
 
 -- the core of a number
-abbrev pub core_of : (world : World) (number : ℕ) → Core
-core_of w c = get_or w.cores c no_core
+abbrev pub core_numbered : (world : World) (number : ℕ) → Core
+core_numbered w c = get_or w.cores c no_core
 
 -- the registers in force of the cores
 abbrev pub regs_in : (world : World) (number : ℕ) → Regs
-regs_in w c = (core_of w c).bank.regs
+regs_in w c = (core_numbered w c).bank.regs
 
 -- what an access leaves of a core
 abbrev pub accessed : (header : Header) (world : World) (number : ℕ) (core : Core) (access : Access) → Core
-accessed h w c core a = record core { cache = (visited (seat_of h w c core) a).cache }
+accessed h w c core a = record core { cache = (visited (visit_of h w c core) a).cache }
 
 -- what an event does to the inbox and the rows of a core
 unfoldable pub acted : (header : Header) (world : World) (number : ℕ) (core : Core) (event : Event) → Core
@@ -199,7 +199,7 @@ abbrev pub world_after : (header : Header) (events : List Event) → World
 world_after h events = fold (after_event h) (opened h) events
 
 abbrev pub answer_in : (header : Header) (world : World) (number : ℕ) (access : Access) → Answer
-answer_in h w c a = (visited (seat_of h w c (core_of w c)) a).answer
+answer_in h w c a = (visited (visit_of h w c (core_numbered w c)) a).answer
 
 -- the answer of an event, which an access and a prefetch have
 unfoldable pub answer_to : (header : Header) (world : World) (event : Event) → Option Answer

@@ -1,5 +1,5 @@
 -- Which rows a step makes (this project's own rules): from the words that it read, in the order of its trail.
-use Rattle.std.specs.Prelude.{ℕ, ◌+◌, ◌/◌, ◌^◌, Bool, true, false, ◌==◌, ◌&&◌, if◌then◌else◌, List, [], ◌∷◌}
+use Rattle.std.specs.Prelude.{ℕ, ◌+◌, ◌/◌, ◌^◌, Bool, false, ◌==◌, ◌&&◌, if◌then◌else◌, List, [], ◌∷◌}
 use Rattle.std.specs.Prelude.{◌++◌, Option, Some, None}
 use Rattle.std.specs.Option.{option_or}
 use Rattle.sysregs.specs.declared.regs.Regs.{Regs}
@@ -14,7 +14,7 @@ use Rattle.walk_spec.specs.Needs.{Need}
 use Rattle.walk_spec.specs.Steps.{End, stops, reaches}
 use Rattle.walk_spec.specs.BothStages.{Landing}
 use Rattle.machine_spec.specs.Header.{Kind, leaf1, table1, leaf2, table2}
-use Rattle.machine_spec.specs.Marks.{Part, nothing, table, leaf, Mark, is_first, is_leaf1 as is_mark_leaf1, is_global, tag_by}
+use Rattle.machine_spec.specs.Marks.{Part, nothing, table, leaf_of_stage1, leaf_of_stage2, Mark, is_first, is_leaf1, is_global, tag_by}
 use Rattle.machine_spec.specs.Rows.{Row}
 
 -- under which registers a step makes rows, and which step it is
@@ -45,20 +45,21 @@ row_of k m kind trail = record {
   trail = trail;
 }
 
--- a row where a word may be cached
-abbrev pub only_if : (cached : Bool) (row : Row) → List Row
-only_if true r = r ∷ []
-only_if false r = []
+-- a row that is made on a condition
+abbrev pub only_if : (condition : Bool) (row : Row) → List Row
+only_if b r = if b then r ∷ [] else []
 
 -- A word of stage 1 gives a row where it is a table, with the whole trail up to it; one of stage 2 gives a row with the
--- items of its chain up to it.
+-- items of its chain up to it. Both only where the word may be cached.
 abbrev pub rows_by : (maker : Maker) (mark : Mark) (whole chain : List Item) (stage : Stage) (part : Part) → List Row
 rows_by k m whole chain S1 nothing = []
 rows_by k m whole chain S1 (table cached) = only_if cached (row_of k m table1 whole)
-rows_by k m whole chain S1 (leaf global cached) = []
+rows_by k m whole chain S1 (leaf_of_stage1 global) = []
+rows_by k m whole chain S1 (leaf_of_stage2 cached) = []
 rows_by k m whole chain S2 nothing = []
 rows_by k m whole chain S2 (table cached) = only_if cached (row_of k m table2 chain)
-rows_by k m whole chain S2 (leaf global cached) = only_if cached (row_of k m leaf2 chain)
+rows_by k m whole chain S2 (leaf_of_stage1 global) = []
+rows_by k m whole chain S2 (leaf_of_stage2 cached) = only_if cached (row_of k m leaf2 chain)
 
 -- it was read in this step
 abbrev pub is_read_now : (maker : Maker) (mark : Mark) → Bool
@@ -91,7 +92,7 @@ leaf_row k class x m trail = record (row_of k m leaf1 trail) {
 -- it is made where the stage 1 leaf was read in this step
 abbrev pub leaf_rows : (maker : Maker) (class address : ℕ) (trail : List Item) (last : Option Mark) → List Row
 leaf_rows k class x trail None = []
-leaf_rows k class x trail (Some m) = if is_mark_leaf1 m && is_read_now k m then leaf_row k class x m trail ∷ [] else []
+leaf_rows k class x trail (Some m) = only_if (is_leaf1 m && is_read_now k m) (leaf_row k class x m trail)
 
 -- the combined row of a walk that was fed so
 abbrev pub combined_rows : (maker : Maker) (address : ℕ) (trail : List Item) (marks : List Mark) (end : Fed Need (End Landing)) → List Row

@@ -16,24 +16,26 @@ use Rattle.tlbi_ops.specs.Covers.{is_stage1}
 use Rattle.walk_spec.specs.Ask.{Ask, done, ask}
 use Rattle.walk_spec.specs.Needs.{Regime, Need, base1, base2, word, sizes_of, Region, region_of}
 
--- what a word is: invalid, a table, or a block or page, which may be global; and whether it may be cached, which a word
--- that gives a translation, address size or access flag fault may not
+-- What a word is: invalid, a table, a block or page of stage 1, which may be global, or one of stage 2; and whether it may
+-- be cached, which a word that gives a translation, address size or access flag fault may not. Of a stage 1 leaf that
+-- isn't said, since its row is made only where the walk ends in a translation.
 pub data Part : Type 0 where
   nothing : Part
   table : (cached : Bool) → Part
-  leaf : (global cached : Bool) → Part
+  leaf_of_stage1 : (global : Bool) → Part
+  leaf_of_stage2 : (cached : Bool) → Part
 
--- a word of stage 1 (DDI 0487: the nG bit; hardware management of the access flag)
+-- a word of stage 1 (DDI 0487: the nG bit)
 abbrev pub part1 : (regime : Regime) (kind : Kind1) → Part
 part1 r Invalid = nothing
 part1 r (Table address bits) = table (not (is_too_large r.stage1 address))
-part1 r (Leaf out attr_index bits sh af global contiguous) = leaf global (not (is_too_large r.stage1 out) && (af || r.config.ha1))
+part1 r (Leaf out attr_index bits sh af global contiguous) = leaf_of_stage1 global
 
--- a word of stage 2
+-- a word of stage 2 (DDI 0487: hardware management of the access flag)
 abbrev pub part2 : (regime : Regime) (kind : Kind2) → Part
 part2 r Invalid2 = nothing
 part2 r (Table2 address) = table (not (is_too_large r.stage2 address))
-part2 r (Leaf2 out mem_attr read write xn sh af dbm contiguous) = leaf false (not (is_too_large r.stage2 out) && (af || r.config.ha2))
+part2 r (Leaf2 out mem_attr read write xn sh af dbm contiguous) = leaf_of_stage2 (not (is_too_large r.stage2 out) && (af || r.config.ha2))
 
 -- a word of a stage with so many levels left
 abbrev pub part_of : (regime : Regime) (stage : Stage) (left word : ℕ) → Part
@@ -76,18 +78,21 @@ marks r (ask n k) (i ∷ items) = mark r n i ∷ marks r (k i) items
 abbrev pub is_table : (part : Part) → Bool
 is_table nothing = false
 is_table (table cached) = true
-is_table (leaf global cached) = false
+is_table (leaf_of_stage1 global) = false
+is_table (leaf_of_stage2 cached) = false
 
 abbrev pub is_leaf : (part : Part) → Bool
 is_leaf nothing = false
 is_leaf (table cached) = false
-is_leaf (leaf global cached) = true
+is_leaf (leaf_of_stage1 global) = true
+is_leaf (leaf_of_stage2 cached) = true
 
 -- a global block or page serves every ASID
 abbrev pub is_global : (part : Part) → Bool
 is_global nothing = false
 is_global (table cached) = false
-is_global (leaf global cached) = global
+is_global (leaf_of_stage1 global) = global
+is_global (leaf_of_stage2 cached) = false
 
 -- an item of stage 1
 abbrev pub is_first : (mark : Mark) → Bool

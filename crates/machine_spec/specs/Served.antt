@@ -16,16 +16,20 @@ use Rattle.machine_spec.specs.Header.{leaf1, table1, leaf2, table2}
 use Rattle.machine_spec.specs.Rows.{Row, matches, matches1, matching, deepest}
 use Rattle.machine_spec.specs.Made.{key_of}
 
--- what is given for a need: an item with those that follow it in a row's trail, and the rows that served; nothing, where
--- memory lacks the place; or two chains that both match
+-- how a service halts: as the walk came out, or with two trails of which one would have to go on
+pub data Halt : Type 0 where
+  came : Fed Need (End Landing) → Halt
+  clash : (one two : List Item) → Halt
+
+-- what is given for a need: an item with those that follow it in a row's trail, and the rows that served; or the service
+-- halts, where memory lacks the place or two chains both match
 pub data Supplied : Type 0 where
   gives : (item : Item) (rest : List Item) (by : List Row) → Supplied
-  nothing : Supplied
-  both : (one two : List Item) → Supplied
+  halts : (halt : Halt) → Supplied
 
-abbrev pub supplied_by : (found : Option Item) → Supplied
-supplied_by None = nothing
-supplied_by (Some i) = gives i [] []
+abbrev pub supplied_by : (need : Need) (found : Option Item) → Supplied
+supplied_by n None = halts (came (lacks n))
+supplied_by n (Some i) = gives i [] []
 
 -- a row's chain
 abbrev pub chain_by : (row : Row) (otherwise : Supplied) (trail : List Item) → Supplied
@@ -41,7 +45,7 @@ begun2 otherwise (Some r) = chain_by r otherwise r.trail
 abbrev pub chain_of : (otherwise : Supplied) (leaves : List Row) (table : Option Row) → Supplied
 chain_of otherwise [] t = begun2 otherwise t
 chain_of otherwise (r ∷ []) t = chain_by r otherwise r.trail
-chain_of otherwise (r ∷ s ∷ more) t = both r.trail s.trail
+chain_of otherwise (r ∷ s ∷ more) t = halts (clash r.trail s.trail)
 
 -- what an access meets: the registers in force, memory, the live rows of its core, and the number of the step
 pub record Place : Type 0 where
@@ -52,7 +56,7 @@ pub record Place : Type 0 where
 
 -- what memory and registers give now
 abbrev pub fresh_of : (place : Place) (access : Access) (need : Need) → Supplied
-fresh_of p a n = supplied_by (given p.regs (side_of a.va) p.memory p.step n)
+fresh_of p a n = supplied_by n (given p.regs (side_of a.va) p.memory p.step n)
 
 -- bases of stage 1 and words are those of now; where stage 2 begins, rows are asked first
 abbrev pub supply : (place : Place) (access : Access) (need : Need) → Supplied
@@ -62,38 +66,34 @@ supply p a (base2 x) =
     chain_of (fresh_of p a (base2 x)) (matching (matches leaf2 k x) p.rows) (deepest (matches table2 k x) p.rows)
 supply p a (word w) = fresh_of p a (word w)
 
--- how a service stops: as the walk came out, or with two trails of which one would have to go on
-pub data Stop : Type 0 where
-  came : Fed Need (End Landing) → Stop
-  clash : (one two : List Item) → Stop
-
--- what was served: the items, how it stopped, and the rows that served, in the order of the trail
+-- what was served: the items, how it halted, and the rows that served, in the order of the trail
 pub record Reply : Type 0 where
   pub items : List Item
-  pub stop : Stop
+  pub halt : Halt
   pub by : List Row
 
 abbrev pub pushed : (item : Item) (rows : List Row) (reply : Reply) → Reply
-pushed i rows r = record { items = i ∷ r.items; stop = r.stop; by = rows ++ r.by }
+pushed i rows r = record { items = i ∷ r.items; halt = r.halt; by = rows ++ r.by }
 
-abbrev pub stopped : (stop : Stop) → Reply
-stopped s = record { items = []; stop = s; by = [] }
+abbrev pub halted : (halt : Halt) → Reply
+halted s = record { items = []; halt = s; by = [] }
 
-abbrev pub goes_on : (need : Need) (supplied : Supplied) (next : Item → List Item → Reply) → Reply
-goes_on n (gives i rest rows) next = pushed i rows (next i rest)
-goes_on n nothing next = stopped (came (lacks n))
-goes_on n (both one two) next = stopped (clash one two)
+abbrev pub goes_on : (supplied : Supplied) (next : Item → List Item → Reply) → Reply
+goes_on (gives i rest rows) next = pushed i rows (next i rest)
+goes_on (halts h) next = halted h
 
--- a walk takes the items that it has already, and then what is supplied
+-- A walk takes the items that it has already, and then what is supplied; the rest of a chain answers the needs that follow. In
+-- a run none flows beyond its stage 2 translation: a row holds just what a walk took up to its word, and so will this walk.
 abbrev pub serve : (supply : Need → Supplied) (items : List Item) (walk : Ask Need Item (End Landing)) → Reply
-serve sup items (done e) = stopped (came (ended e))
-serve sup [] (ask n k) = goes_on n (sup n) (λ i rest. serve sup rest (k i))
+serve sup items (done e) = halted (came (ended e))
+serve sup [] (ask n k) = goes_on (sup n) (λ i rest. serve sup rest (k i))
 serve sup (i ∷ items) (ask n k) = pushed i [] (serve sup items (k i))
 
--- a walk takes the items of a row's trail up to its end
+-- A walk takes the items of a row's trail up to its end. Where the stage 1 leaf refuses the access, those behind it are
+-- dropped: they are stage 2 of its output, for which this walk doesn't ask.
 abbrev pub taken : (items : List Item) (walk : Ask Need Item (End Landing)) → Reply
-taken items (done e) = stopped (came (ended e))
-taken [] (ask n k) = stopped (came (lacks n))
+taken items (done e) = halted (came (ended e))
+taken [] (ask n k) = halted (came (lacks n))
 taken (i ∷ items) (ask n k) = pushed i [] (taken items (k i))
 
 abbrev pub credited : (row : Row) (reply : Reply) → Reply
@@ -108,7 +108,7 @@ begun1 (Some r) next = credited r (next r.trail)
 abbrev pub combined : (leaves : List Row) (table : Option Row) (supply : Need → Supplied) (walk : Ask Need Item (End Landing)) → Reply
 combined [] t sup w = begun1 t (λ items. serve sup items w)
 combined (r ∷ []) t sup w = credited r (taken r.trail w)
-combined (r ∷ s ∷ more) t sup w = stopped (clash r.trail s.trail)
+combined (r ∷ s ∷ more) t sup w = halted (clash r.trail s.trail)
 
 -- An access is served. What stage 1 refuses before its tables comes before any row, and without stage 1 no row of it is asked.
 abbrev pub served : (place : Place) (access : Access) → Reply
