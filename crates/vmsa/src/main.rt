@@ -1,5 +1,5 @@
-//! Translates an address through a dump or an image of memory: `vmsa explain REGS DUMP VA EL KIND [pan]`,
-//! `vmsa raw IMAGE TCR TTBR0 VA`.
+//! Translates an address through a dump or an image of memory, or runs a trace: `vmsa explain REGS DUMP VA EL KIND [pan]`,
+//! `vmsa raw IMAGE TCR TTBR0 VA`, `vmsa run TRACE`.
 #![tactic(auto)]
 
 ghost use Rattle.std.specs.Prelude.{◌≡◌, ◌≢◌, ℕ, [], drop, map, string_bytes, IfOk, MatchResult};
@@ -92,7 +92,7 @@ fn word(words: &io::Result<Vec<String>>, place: usize) -> &str {
     }
 }
 
-/// The files of a command are its first two words behind its name.
+/// Failures are counted by the names of files, which are the first two words behind a command's name.
 fn main(rt: HostRuntime) -> ExitCode {
     let alloc = rt.alloc();
     let words = taken_words(alloc, env::args(&rt));
