@@ -63,15 +63,15 @@ module _ (size index count : ℕ) (table : List ℕ) (front : List Segment) wher
     taken w =
         let is = is_read _ _ _ e in
         let within : nat_lt size ((segment_of header).offset + (segment_of header).size) ≡ false =
-            ap (λ (t : Segment). nat_lt size (t.offset + t.size)) (sym is.1) ∙ fits size _ w in
+        ap (λ (t : Segment). nat_lt size (t.offset + t.size)) (sym is.1) ∙ fits size _ w in
         rw (opened size index count table h, is.0, within)
-            (ap (λ (t : Segment). behind front (before t (left size (index + 1) count table))) (sym is.1)
-            ∙ behind_before front s (left size (index + 1) count table))
+        (ap (λ (t : Segment). behind front (before t (left size (index + 1) count table))) (sym is.1)
+        ∙ behind_before front s (left size (index + 1) count table))
 
     -- one that is, and doesn't
     pub past : size < s.offset + s.size → behind front (left size index count table) ≡ Err (PastEnd index)
     past w =
         let is = is_read _ _ _ e in
         let out : nat_lt size ((segment_of header).offset + (segment_of header).size) ≡ true =
-            ap (λ (t : Segment). nat_lt size (t.offset + t.size)) (sym is.1) ∙ beyond size _ w in
+        ap (λ (t : Segment). nat_lt size (t.offset + t.size)) (sym is.1) ∙ beyond size _ w in
         rw (opened size index count table h, is.0, out) refl

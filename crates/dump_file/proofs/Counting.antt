@@ -1,5 +1,5 @@
 -- Counts of failures over several calls, and the count of one of two names.
-use Rattle.std.proofs.Common.{◌≡◌, ◌≢◌, ℕ, ◌≤◌, List, Bool, true, false, bytes_eq, refl, sym, ◌∙◌, subst, arith, Decides}
+use Rattle.std.proofs.Common.{◌≡◌, ℕ, ◌≤◌, List, Bool, true, false, bytes_eq, refl, sym, ◌∙◌, subst, arith, Decides}
 use Rattle.std.proofs.lemmas.Slice.Eq.{bytes_eq-Decides}
 use Rattle.dump_file.specs.Counted.{OthersStay, NoneFalls}
 

@@ -147,7 +147,7 @@ part_joined (Ok came) (Bytes bytes) size pages between before mid now at front f
       (q e (s e h)).0,
       ap (λ (x : List ℕ). x ++ second) one
           ∙ ap (λ (x : List ℕ). take (length first) (drop at bytes) ++ x)
-              (two ∙ ap (take (length second)) (sym (drop-drop (length first) at bytes ∙ ap (λ (n : ℕ). drop (at + n) bytes) l)))
+          (two ∙ ap (take (length second)) (sym (drop-drop (length first) at bytes ∙ ap (λ (n : ℕ). drop (at + n) bytes) l)))
           ∙ sym (take-add (length first) (length second) (drop at bytes))
           ∙ ap (λ (n : ℕ). take n (drop at bytes)) (sym (length-append first second)),
     )

@@ -7,8 +7,8 @@ pub returns-in_err-table_at-clause-error : goal.returns-in_err-table_at-clause-e
 returns-in_err-table_at-clause-error g c =
     let p = err_from_is_err_and c.from_residual-in_err-table_at.result c.from_residual-in_err-table_at.ensures.1 in
     rw (p.1, p.2)
-        (head_err _ _ _ _ _ (omega arith) (omega arith) c.in_ok-fill_from.ensures.bound _ _ c.requires c.in_ok-fill_from.ensures.bytes
-        c.in_err-table_at.ensures.table)
+    (head_err _ _ _ _ _ (omega arith) (omega arith) c.in_ok-fill_from.ensures.bound _ _ c.requires c.in_ok-fill_from.ensures.bytes
+    c.in_err-table_at.ensures.table)
 
 pub returns-clause-table : goal.returns-clause-table
 returns-clause-table g c =

@@ -5,8 +5,15 @@ use Rattle.dump_file.proofs.fill.fill_from.Goals as goal
 
 pub loop-done-init : goal.loop-done-init
 loop-done-init g c =
-    record { within = omega arith; same = refl; missing = omega arith; faults = omega arith; others = λ n h. (refl, refl); front = front_none _ _ _;
-    turns = record { turns = 0; came = (refl, refl) } }
+    record {
+      within = omega arith;
+      same = refl;
+      missing = omega arith;
+      faults = omega arith;
+      others = λ n h. (refl, refl);
+      front = front_none _ _ _;
+      turns = record { turns = 0; came = (refl, refl) };
+    }
 
 pub loop-done-preserved : goal.loop-done-preserved
 loop-done-preserved g c =

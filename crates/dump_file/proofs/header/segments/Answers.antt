@@ -16,7 +16,7 @@ pub returns-then-segment-size : goal.returns-then-segment-size
 returns-then-segment-size c =
     let whole : 56 * c.loop-index.index + 56 - 56 * c.loop-index.index ≡ 56 = omega arith in
     rw c.from.ensures
-        (sym c.loop-index.invariant.due ∙ past _ _ _ _ _ c.in-Some.segment c.loop-index-test.true (rw whole at c.in-Some.ensures) c.if-segment-size.true)
+    (sym c.loop-index.invariant.due ∙ past _ _ _ _ _ c.in-Some.segment c.loop-index-test.true (rw whole at c.in-Some.ensures) c.if-segment-size.true)
 
 pub loop-index-preserved : goal.loop-index-preserved
 loop-index-preserved c =

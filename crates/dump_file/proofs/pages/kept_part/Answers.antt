@@ -8,7 +8,7 @@ returns-in_default-clause-among c = among_promoted c.args.pages.now c.get.follow
 pub copy_part-requires : goal.copy_part-requires
 copy_part-requires c =
     let full : length c.in-Some.page.now.items ≡ min 4096 (c.args.file.now.size - 4096 * (c.args.at / 4096)) =
-        c.requires.full _ (found _ _ c.in-Some.page.now c.in-Some.ensures.value) in
+    c.requires.full _ (found _ _ c.in-Some.page.now c.in-Some.ensures.value) in
     rw c.as_slice.ensures.value (omega (arith, full))
 
 pub returns-clause-part : goal.returns-clause-part

@@ -10,7 +10,7 @@ returns-clause-full g c =
     let start : c.args.at - c.args.at % 4096 ≡ 4096 * (c.args.at / 4096) = omega arith in
     let same = written c.in-Ok.page.len page c.in-Ok.page.items (omega arith) in
     let added : IsAdded c.args.pages.now.entries c.keep.new.pages.entries (c.args.at / 4096) page =
-        subst (λ (x : List ℕ). IsAdded c.args.pages.now.entries c.keep.new.pages.entries (c.args.at / 4096) x) same c.keep.ensures in
+    subst (λ (x : List ℕ). IsAdded c.args.pages.now.entries c.keep.new.pages.entries (c.args.at / 4096) x) same c.keep.ensures in
     full_added _ _ 0 0 (c.args.at - c.args.at % 4096) 0 page size _ _ start added c.requires.full
 
 pub returns-clause-part : goal.returns-clause-part
@@ -29,6 +29,6 @@ returns-clause-stay g c =
     let start : c.args.at - c.args.at % 4096 ≡ 4096 * (c.args.at / 4096) = omega arith in
     let same = written c.in-Ok.page.len page c.in-Ok.page.items (omega arith) in
     let added : IsAdded c.args.pages.now.entries c.keep.new.pages.entries (c.args.at / 4096) page =
-        subst (λ (x : List ℕ). IsAdded c.args.pages.now.entries c.keep.new.pages.entries (c.args.at / 4096) x) same c.keep.ensures in
+    subst (λ (x : List ℕ). IsAdded c.args.pages.now.entries c.keep.new.pages.entries (c.args.at / 4096) x) same c.keep.ensures in
     stay_added _ _ _ _ _ _ page size _ (c.args.at / 4096) start added _ c.in_ok-count.ensures.bytes (omega (arith, c.in-Ok.ensures.len))
-        c.in_ok-count.ensures.bound
+    c.in_ok-count.ensures.bound

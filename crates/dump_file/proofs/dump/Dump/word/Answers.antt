@@ -15,6 +15,6 @@ returns-clause-word g c =
 pub returns-clause-stands : goal.returns-clause-stands
 returns-clause-stands g c = λ bytes h st.
     let told : g.F.Files.holds c.args.files.now c.as_str.result.now ≡ Bytes bytes =
-        ap (g.F.Files.holds c.args.files.now) (c.as_str.ensures.value ∙ ap (λ (d : Opened). d.name) c.self.view_is) ∙ h in
+    ap (g.F.Files.holds c.args.files.now) (c.as_str.ensures.value ∙ ap (λ (d : Opened). d.name) c.self.view_is) ∙ h in
     let stay = subst (λ (x : Holding). StayOf x c.self.inside.size c.self.inside.pages.entries c.word_at.new.pages.entries) told c.word_at.ensures.stay in
     stands_after bytes _ c.word_at.new.pages.entries stay (subst (StandsFor bytes) (sym c.self.view_is) st)
