@@ -37,9 +37,11 @@ missing_weaker (Bytes bytes) m n o l k = k
 pub stops_later : (holds held : List ℕ → Holding) (a b c m n o : List ℕ → ℕ) (f : Named) (status : Status) → held ≡ holds → NoneFalls a b → NoneFalls m n
     → Stops record { holds = held; faults = b; faults_after = c; missing = n; missing_after = o } f status
     → Stops record { holds = holds; faults = a; faults_after = c; missing = m; missing_after = o } f status
-stops_later holds held a b c m n o f (NoFile name) e l k s =
-    (s.0, missing_weaker (holds f.name) (m f.name) (n f.name) (o f.name) (k f.name)
-        (subst (λ (h : List ℕ → Holding). IsMissingBy (h f.name) (n f.name) (o f.name)) e s.1))
+stops_later holds held a b c m n o f (NoFile name) e l k s = (
+  s.0,
+  missing_weaker (holds f.name) (m f.name) (n f.name) (o f.name) (k f.name)
+      (subst (λ (h : List ℕ → Holding). IsMissingBy (h f.name) (n f.name) (o f.name)) e s.1),
+)
 stops_later holds held a b c m n o f (Refused why) e l k s = subst (λ (h : List ℕ → Holding). IsRefusedBy (h f.name) f.form why) e s
 stops_later holds held a b c m n o f ReadFault e l k s = rose_weaker (a f.name) (b f.name) (c f.name) (c f.name) (l f.name) (omega arith) s
 stops_later holds held a b c m n o f NoMemory e l k s = tt

@@ -5,7 +5,7 @@ use Rattle.dump_file.specs.Held.{Holding, Untold, Absent, Bytes, Reading, ReadFa
 use Rattle.dump_file.specs.DumpOf.{dump_of}
 use Rattle.trace_lang.specs.Lines.{trace_of}
 use Rattle.statuses.specs.declared.status.Why.{Why}
-use Rattle.statuses.specs.declared.status.Why.TheVariants.{Word, Regs, Dump, Trace}
+use Rattle.statuses.specs.declared.status.Why.TheVariants.{Regs, Dump, Trace}
 use Rattle.statuses.specs.declared.status.Status.{Status}
 use Rattle.statuses.specs.declared.status.Status.TheVariants.{NoFile, Refused, ReadFault, NoMemory}
 

@@ -1,5 +1,5 @@
 -- What is due comes, and what comes was due.
-use Rattle.std.proofs.Common.{◌≡◌, ◌≢◌, ◌⊎◌, ℕ, List, [], ◌∷◌, Option, Some, None, Ok, Err, inl, inr, refl, sym, ap, ◌∙◌, subst}
+use Rattle.std.proofs.Common.{◌≡◌, ◌≢◌, ℕ, List, [], ◌∷◌, Option, Some, None, Ok, Err, inl, inr, refl, sym, ap, ◌∙◌, subst}
 use Rattle.dump_file.specs.Held.{Holding, Untold, Absent, Bytes, Reading, IsMissingBy}
 use Rattle.explain_text.specs.Written.{Writing, WriteFails, Got, GotNothing}
 use Rattle.commands.specs.Asked.{Asked}

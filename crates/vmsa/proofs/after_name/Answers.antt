@@ -9,5 +9,5 @@ use Rattle.vmsa.proofs.after_name.Goals as goal
 pub returns : goal.returns
 returns c =
     items_from_collect {E = AllocError} (Ok c.in_ok-collect.field-0) c.in_ok-collect.ensures.ran
-        (YieldsList-from_vec {s = c.next-name.new.self} (into_iter_items c.next-name.new.self) refl (search rules))
+    (YieldsList-from_vec {s = c.next-name.new.self} (into_iter_items c.next-name.new.self) refl (search rules))
     ∙ behind_first c.next-name.result _ _ _ _ c.next-name.ensures.cases (search rules) (search rules)

@@ -21,8 +21,8 @@ loop-k-preserved g c =
     let e = c.step.ensures in
     let count : length c.step.new.self.log ≡ c.loop-k.k + 1 = more c.step.new.self.log c.loop-k.machine.log e.log.0 c.loop-k.k e.log.1 i.count in
     let last : c.index-log-k.result ≡ e.log.0 =
-        last_is c.step.new.self.log c.loop-k.machine.log e.log.0 c.index-log-k.result c.loop-k.k e.log.1 i.count (rw c.log.ensures at c.index-log-k.is) in
-        record {
+    last_is c.step.new.self.log c.loop-k.machine.log e.log.0 c.index-log-k.result c.loop-k.k e.log.1 i.count (rw c.log.ensures at c.index-log-k.is) in
+    record {
       later = search rules;
       trace = e.trace ∙ i.trace;
       count = count;
@@ -40,11 +40,11 @@ returns-in_err-step-clause-text g c =
     let e = c.step.ensures in
     let count : length c.step.new.self.log ≡ c.loop-k.k + 1 = more c.step.new.self.log c.loop-k.machine.log e.log.0 c.loop-k.k e.log.1 i.count in
     let last : c.index-log-k.result ≡ e.log.0 =
-        last_is c.step.new.self.log c.loop-k.machine.log e.log.0 c.index-log-k.result c.loop-k.k e.log.1 i.count (rw c.log.ensures at c.index-log-k.is) in
+    last_is c.step.new.self.log c.loop-k.machine.log e.log.0 c.index-log-k.result c.loop-k.k e.log.1 i.count (rw c.log.ensures at c.index-log-k.is) in
     let run : c.step.new.self.log ≡ run_of c.args.machine.now.trace.header (take (c.loop-k.k + 1) c.args.machine.now.trace.events) =
     e.run ∙ ap (λ t. run_of t.header (take (length c.step.new.self.log) t.events)) i.trace
-        ∙ ap (λ n. run_of c.args.machine.now.trace.header (take n c.args.machine.now.trace.events)) count in
+    ∙ ap (λ n. run_of c.args.machine.now.trace.header (take n c.args.machine.now.trace.events)) count in
     part_written _ _ c.step-in-loop-k.new.self c.args.machine.now.trace.header c.args.machine.now.trace.events c.loop-k.machine.log c.step.new.self.log
-        e.log.0 c.index-log-k.result e.log.1 last
+    e.log.0 c.index-log-k.result e.log.1 last
     (c.loop-k.k + 1) run c.step-in-loop-k.result c.from_residual.result (search rules) (search rules)
-        (c.step-in-loop-k.ensures.text _ c.loop-k.machine.log i.report)
+    (c.step-in-loop-k.ensures.text _ c.loop-k.machine.log i.report)
