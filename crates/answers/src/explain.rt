@@ -99,7 +99,8 @@ fn walk<F: Files>(regs: &Regs, access: &Access, words: &mut DumpWords<F>) -> (Ou
     requires { AreAccepted regs.now }
     ensures same_reference { words.new.files.ghost_name ≡ words.old.files.ghost_name }
     ensures later { F.faults words.old.files.now words.old.dump.now.name ≤ F.faults words.new.files.now words.old.dump.now.name }
-    ensures failed { words.old.failures < words.new.failures → Rose (F.faults words.old.files.now words.old.dump.now.name) (F.faults words.new.files.now words.old.dump.now.name) }
+    ensures failed { words.old.failures < words.new.failures →
+        Rose (F.faults words.old.files.now words.old.dump.now.name) (F.faults words.new.files.now words.old.dump.now.name) }
     ensures counted { words.old.failures ≤ words.new.failures }
     ensures missing { F.missing words.old.files.now words.old.dump.now.name ≤ F.missing words.new.files.now words.old.dump.now.name }
     ensures outcome { HasLine result.0 }

@@ -51,7 +51,8 @@ fn walk<F: Files>(asked: &RawArgs, image: &mut Image<F>) -> (Outcome, Trail)
     requires { words_refusal (Asked.Raw (raw_words_of asked.now)) ≡ None }
     ensures same_reference { image.new.files.ghost_name ≡ image.old.files.ghost_name }
     ensures later { F.faults image.old.files.now image.old.name.now ≤ F.faults image.new.files.now image.old.name.now }
-    ensures failed { image.old.failures < image.new.failures → Rose (F.faults image.old.files.now image.old.name.now) (F.faults image.new.files.now image.old.name.now) }
+    ensures failed { image.old.failures < image.new.failures →
+        Rose (F.faults image.old.files.now image.old.name.now) (F.faults image.new.files.now image.old.name.now) }
     ensures counted { image.old.failures ≤ image.new.failures }
     ensures outcome { HasLine result.0 }
     ensures walked { WalkedWhole (raw_regs asked.now.tcr asked.now.ttbr0) (raw_access asked.now.va) 0

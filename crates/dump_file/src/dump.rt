@@ -157,7 +157,8 @@ impl Dump {
         ensures same { F.holds files.new ≡ F.holds files.old }
         ensures unchanged { IsSame self.old self.new }
         ensures nowhere { serving self.old.segments pa ≡ None → result ≡ Ok None }
-        ensures word { IfOk result (IsWord (F.holds files.old self.old.name) self.old (F.missing files.old self.old.name) (F.missing files.new self.old.name) pa) }
+        ensures word { IfOk result (IsWord (F.holds files.old self.old.name) self.old
+            (F.missing files.old self.old.name) (F.missing files.new self.old.name) pa) }
         ensures stands { (bytes : List ℕ) → F.holds files.old self.old.name ≡ Bytes bytes → StandsFor bytes self.old → StandsFor bytes self.new }
         ensures missing { F.missing files.old self.old.name ≤ F.missing files.new self.old.name }
         ensures cause { HasCause (F.faults files.old self.old.name) (F.faults files.new self.old.name) result }

@@ -148,7 +148,8 @@ module _ {L T : Type 0} (fits : Need → Item → Bool) (alike : Need → Need �
         d.step (suc left) t j ≡ s → Takes fits (d.had (suc left) t) front (done (Ok j)) →
         ((next : T) → Takes fits (levels d left next) (r ∷ rest) u → Way left next (r ∷ rest) u) → Takes fits (step_then (levels d left) s) (r ∷ rest) u →
         Way (suc left) t (front ++ r ∷ rest) u
-    by_step left t front r rest j u (Down next) e h deeper w = way_below left t next front (r ∷ rest) j u h e (λ i l. last_back front r rest i l) (deeper next w)
+    by_step left t front r rest j u (Down next) e h deeper w =
+        way_below left t next front (r ∷ rest) j u h e (λ i l. last_back front r rest i l) (deeper next w)
     by_step left t front r rest j u (Reached l) e h deeper w = absurd w
     by_step left t front r rest j u (Stopped f) e h deeper w = absurd w
 
