@@ -17,10 +17,10 @@ use Rattle.walk_spec.specs.Ask.{Ask, done, ask, ended, lacks, ends, needs, on}
 use Rattle.walk_spec.specs.Needs.{Regime, regime_of, Need, base1, base2, word, WordNeed, fits}
 use Rattle.walk_spec.specs.Steps.{End, stops, reaches}
 use Rattle.walk_spec.specs.Stage2.{is_refused2, fault2, Asked2}
-use Rattle.walk_spec.specs.Stage1.{asked2, untagged}
+use Rattle.walk_spec.specs.Stage1.{asked2, stands2, untagged}
 use Rattle.walk_spec.specs.BothStages.{Landing, walk, is_refused1, outcome_of}
 use Rattle.walk_spec.specs.Fresh.{fed_outcome}
-use Rattle.walk_laws.specs.Shift.{stands, stands2}
+use Rattle.walk_laws.specs.Shift.{stands}
 use Rattle.machine_spec.specs.Header.{Kind, leaf1, table1}
 use Rattle.machine_spec.specs.Moments.{regs_after, memory_after}
 use Rattle.machine_spec.specs.Marks.{Mark, mark, marks, is_first}
