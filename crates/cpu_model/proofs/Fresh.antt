@@ -15,7 +15,7 @@ use Rattle.machine_spec.specs.Sets.{Cache}
 use Rattle.machine_spec.specs.Machine.{Visited, visited}
 use Rattle.machine_laws.proofs.NoRows.{fresh_answer, visited_fresh}
 use Rattle.trails.specs.Printed.{printed}
-use Rattle.cpu_model.specs.Cores.{CoreState, no_rows, Suits, visit_at, with_cache}
+use Rattle.cpu_model.specs.Cores.{CoreState, no_rows, Suits, visit_at, cpu_with_cache}
 use Rattle.cpu_model.proofs.Levels.{fresh_run_line}
 
 -- a count that stands at 0 did not rise
@@ -45,7 +45,7 @@ module _ (c : CoreState) (m : Memory) (k : ℕ) (a : Access) (none : c.size ≡ 
       let e = is m refl not_risen in
       rw (e.0, e.1) (sym (ap (λ (v : Visited). v.answer) fresh))
 
-  pub kept : c ≡ with_cache c (visited (visit_at h c m k) a).cache
+  pub kept : c ≡ cpu_with_cache c (visited (visit_at h c m k) a).cache
   kept = rw (ap (λ (v : Visited). v.cache) fresh) refl
 
 -- the outcome of a walk over memory has a line in a run

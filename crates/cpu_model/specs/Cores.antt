@@ -26,12 +26,12 @@ abbrev pub new_core : (number : ℕ) (size : Size) (policy : Policy) → CoreSta
 new_core n s p = record { number = n; size = s; policy = p; bank = no_bank; cache = no_rows }
 
 -- the core with other registers and another queue
-abbrev pub with_bank : (core : CoreState) (bank : Bank) → CoreState
-with_bank c b = record c { bank = b }
+abbrev pub cpu_with_bank : (core : CoreState) (bank : Bank) → CoreState
+cpu_with_bank c b = record c { bank = b }
 
 -- the core with other rows
-abbrev pub with_cache : (core : CoreState) (cache : Cache) → CoreState
-with_cache c l = record c { cache = l }
+abbrev pub cpu_with_cache : (core : CoreState) (cache : Cache) → CoreState
+cpu_with_cache c l = record c { cache = l }
 
 -- a header gives the caches of the core
 abbrev pub Suits : (header : Header) (core : CoreState) → Type 0

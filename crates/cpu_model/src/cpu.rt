@@ -8,7 +8,7 @@ ghost use Rattle.trace_lang.specs.declared.header.Size.TheVariants.{NoRows};
 ghost use Rattle.machine_spec.specs.Header.{Header};
 ghost use Rattle.machine_spec.specs.Moments.{written, settled, drained, queued};
 ghost use Rattle.machine_spec.specs.Machine.{killed, visited};
-ghost use Rattle.cpu_model.specs.Cores.{new_core, with_bank, with_cache, Suits, visit_at};
+ghost use Rattle.cpu_model.specs.Cores.{new_core, cpu_with_bank, cpu_with_cache, Suits, visit_at};
 
 use crate::words::Words;
 use bitwords::NoMemory;
@@ -89,7 +89,7 @@ impl Cpu {
 
     /// The oldest write takes effect, where one waits.
     pub fn settle(&mut self)
-        ensures { self.new ≡ with_bank self.old (settled self.old.bank) }
+        ensures { self.new ≡ cpu_with_bank self.old (settled self.old.bank) }
     {
         if self.queue.len() > 0 {
             let (reg, value) = self.queue.remove(0);
@@ -100,7 +100,7 @@ impl Cpu {
     /// A write waits behind the others. Where the queue is full, its oldest takes effect first.
     pub fn msr(&mut self, reg: Reg, value: u64)
         requires { refused_field reg value ≡ None }
-        ensures { self.new ≡ with_bank self.old (queued self.old.bank (reg, value)) }
+        ensures { self.new ≡ cpu_with_bank self.old (queued self.old.bank (reg, value)) }
     {
         if self.queue.len() == MOST_QUEUED {
             let (oldest, first) = self.queue.remove(0);
@@ -111,7 +111,7 @@ impl Cpu {
 
     /// All writes take effect, oldest first.
     pub fn isb(&mut self)
-        ensures { self.new ≡ with_bank self.old (drained self.old.bank) }
+        ensures { self.new ≡ cpu_with_bank self.old (drained self.old.bank) }
     {
         write_all(&mut self.force, self.queue.as_slice());
         self.queue.clear();
@@ -119,7 +119,7 @@ impl Cpu {
 
     /// An invalidation takes effect: the rows that it covers go. There are none.
     pub fn take(&mut self, _inval: &Inval)
-        ensures { self.new ≡ with_cache self.old (killed self.old.cache _inval.now) }
+        ensures { self.new ≡ cpu_with_cache self.old (killed self.old.cache _inval.now) }
     {
         let _no_rows = self.size;
     }
@@ -129,7 +129,7 @@ impl Cpu {
     pub fn access(&mut self, phys: &Phys, moment: u32, access: &Access) -> Answer
         ensures answer { (h : Header) → Suits h self.old → result ≡ (visited (visit_at h self.old (memory_of phys.now) moment) access.now).answer }
         ensures after { (h : Header) → Suits h self.old →
-            self.new ≡ with_cache self.old (visited (visit_at h self.old (memory_of phys.now) moment) access.now).cache }
+            self.new ≡ cpu_with_cache self.old (visited (visit_at h self.old (memory_of phys.now) moment) access.now).cache }
         ensures line { HasLine (printed true result.outcome) }
     {
         let mut words = Words { phys };

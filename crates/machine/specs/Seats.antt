@@ -11,8 +11,6 @@ use Rattle.trails.specs.declared.event.Event.{Event}
 use Rattle.trails.specs.declared.event.Event.TheVariants.{Store, Msr}
 use Rattle.phys_mem.specs.Memory.{is_aligned}
 use Rattle.machine_spec.specs.Header.{Header}
-use Rattle.machine_spec.specs.Moments.{Bank}
-use Rattle.machine_spec.specs.Sets.{Cache}
 use Rattle.machine_spec.specs.Machine.{Core, World}
 use Rattle.cpu_model.specs.Cores.{CoreState, new_core}
 
@@ -42,14 +40,6 @@ no_seat = new_seat 0 NoRows Lru
 -- each core has its number, and the caches of the header
 abbrev pub AreSeats : (header : Header) (seats : List SeatState) → Type 0
 AreSeats h seats = (c : ℕ) → c < length seats → build_of (get_or seats c no_seat) ≡ (c, h.size, h.policy)
-
--- a core with other registers and another queue
-abbrev pub with_bank : (core : Core) (bank : Bank) → Core
-with_bank w b = record w { bank = b }
-
--- a core with other rows
-abbrev pub with_cache : (core : Core) (cache : Cache) → Core
-with_cache w l = record w { cache = l }
 
 -- the machine of a memory and of cores, at a step
 abbrev pub world_of : (step : ℕ) (memory : Memory) (seats : List SeatState) → World

@@ -9,9 +9,9 @@ ghost use Rattle.trace_lang.specs.declared.header.Size.TheVariants.{NoRows};
 ghost use Rattle.machine_spec.specs.Header.{Header};
 ghost use Rattle.machine_spec.specs.Moments.{settled, drained, queued};
 ghost use Rattle.machine_spec.specs.Invalidations.{is_wide, completes};
-ghost use Rattle.machine_spec.specs.Machine.{killed, delivered, mailed, finished, visited};
-ghost use Rattle.cpu_model.specs.Cores.{Suits, visit_at, with_cache as core_with_cache};
-ghost use Rattle.machine.specs.Seats.{core_at, build_of, new_seat, with_bank, with_cache};
+ghost use Rattle.machine_spec.specs.Machine.{with_bank, with_cache, killed, delivered, mailed, finished, visited};
+ghost use Rattle.cpu_model.specs.Cores.{Suits, visit_at, cpu_with_cache};
+ghost use Rattle.machine.specs.Seats.{core_at, build_of, new_seat};
 
 use bitwords::NoMemory;
 use cpu_model::Cpu;
@@ -64,7 +64,7 @@ fn completes(core: u8, kind: Barrier, inval: &Inval) -> bool
 
 /// The invalidations that a DSB completes take effect, oldest first.
 fn take_all(cpu: &mut Cpu, inbox: &[Inval], core: u8, kind: Barrier)
-    ensures { cpu.new ≡ core_with_cache cpu.old (fold killed cpu.old.cache (filter (completes (Dsb core kind)) inbox.now)) }
+    ensures { cpu.new ≡ cpu_with_cache cpu.old (fold killed cpu.old.cache (filter (completes (Dsb core kind)) inbox.now)) }
 {
     for inval in inbox {
         if completes(core, kind, inval) {

@@ -147,15 +147,15 @@ module _ (laws : Laws) (v : View) (s : Step) (none : (i : Inval) → issued_now 
   leaf1_row : (trail : List Item) (l : Landing) (m : Mark) → IsOn R (here v a) trail (done (reaches l)) → AllGood trail
       → last_first (marks R (here v a) trail) ≡ Some m
       → m.item.moment ≡ now v → is_first m ≡ true → is_leaf m.part ≡ true → IsRow (longer v s) inbox (row_with (key_of regs) l.class m trail)
-  leaf1_row trail l m on used is at first lf = λ b suits.
+  leaf1_row trail l m on used is at first lf = λ b may.
       let r : Row = row_with (key_of regs) l.class m trail in
       let d = split_last (marks R (here v a) trail) m is in
       let used2 : AllUsed (Good v) None (d.pre ++ m ∷ d.out) = subst (AllUsed (Good v) None) d.is used in
       let held : IsHeld v (config_at v) (vmid_of regs) m = held_at laws v s none inbox None d.pre m d.out used2 in
       let base : m.base ≡ false = word_at d.pre m d.out (subst LeavesAreWords d.is (leaves_words R (here v a) trail)) lf in
-      let near = eqb-true (untagged b.va / 2 ^ l.class) (untagged a.va / 2 ^ l.class) suits.held in
-      let t = laws.first_leaf (config_at v) a b trail l suits.on suits.accepted on near in
-      let e : side_of b.va ≡ v.side = leaf_side (config_at v) a b trail l (marks R (here v a) trail) suits.on t near ∙ sym side in
+      let near = eqb-true (untagged b.va / 2 ^ l.class) (untagged a.va / 2 ^ l.class) may.held in
+      let t = laws.first_leaf (config_at v) a b trail l may.on may.accepted on near in
+      let e : side_of b.va ≡ v.side = leaf_side (config_at v) a b trail l (marks R (here v a) trail) may.on t near ∙ sym side in
       let stored : AllUsed (IsStored (sided (longer v s) (side_of b.va)) inbox r) None (d.pre ++ m ∷ d.out) =
       whole_leaf (Good v) (IsStored (sided (longer v s) (side_of b.va)) inbox r)
       (λ x u. closed laws v s none inbox (side_of b.va) r refl refl x u (both_same v.side (side_of b.va) x e)) None d.pre m d.out first lf d.second

@@ -21,7 +21,7 @@ use Rattle.machine_spec.specs.Kept.{View, now}
 use Rattle.machine_spec.specs.Rows.{Row}
 use Rattle.machine_spec.specs.Sets.{Cache, filled}
 use Rattle.machine_spec.specs.Served.{Place, Reply, Halt, came, clash, served}
-use Rattle.machine_spec.specs.Machine.{Core, World, no_core, killed, delivered_by, delivered, most_held, posted, mailed, finished, Visit, made_by, visited_by, visited, visit_of, core_numbered, regs_in, acted, moved, at_each, after_event, step_of}
+use Rattle.machine_spec.specs.Machine.{Core, World, no_core, with_bank, with_cache, killed, delivered_by, delivered, most_held, posted, mailed, finished, Visit, made_by, visited_by, visited, visit_of, core_numbered, regs_in, acted, moved, at_each, after_event, step_of}
 use Rattle.trace_lang.specs.Traces.{core_of}
 use Rattle.machine_laws.proofs.Facts.{In, sided, view_of, IsApart, AllApart, Facts, AllFacts}
 use Rattle.machine_laws.proofs.Fine.{place_of, ServedOk, ServesWell, longer, issued_now, MadeOk, MakesWell}
@@ -84,12 +84,6 @@ stays_left inbox e r no_cover i m cov = elim (cases_Bool (completes e i)) [
 -- the side of a view doesn't count
 pub sided_facts : (v : View) (t : Side) (w : Core) → Facts v w → Facts (sided v t) w
 sided_facts v t w f = record { bank_is = f.bank_is; mail = f.mail; rows = f.rows; apart = f.apart }
-
-abbrev with_bank : Core → Bank → Core
-with_bank w b = record w { bank = b }
-
-abbrev with_cache : Core → Cache → Core
-with_cache w l = record w { cache = l }
 
 -- where an access is done in a core
 abbrev pub visit_at : View → Place → Cache → Visit

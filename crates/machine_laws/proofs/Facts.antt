@@ -56,7 +56,7 @@ IsStored v inbox r m None = IsLast v inbox r m
 IsStored v inbox r m (Some u) = IsKeptItem v r.key.config r.key.vmid m u × (u < now v)
 
 -- an access that a row of stage 1 may serve
-pub record Suits (r : Row) (a : Access) : Type 0 where
+pub record MayServe (r : Row) (a : Access) : Type 0 where
   pub held : holds r.region (untagged a.va) ≡ true
   pub on : r.key.config.m ≡ true
   pub accepted : is_refused1 r.key.config a ≡ false
@@ -100,8 +100,8 @@ pub record IsTableRow2 (P : Mark → Option ℕ → Type 0) (r : Regime) (p : Bo
 
 -- what a row promises of each address of its region; P by the side of the access
 abbrev pub IsRowBy : (Side → Mark → Option ℕ → Type 0) → Row → Kind → Type 0
-IsRowBy P r leaf1 = (a : Access) → Suits r a → IsLeafRow1 (P (side_of a.va)) r.key.config r r.trail a
-IsRowBy P r table1 = (r.global ≡ false) × ((a : Access) → Suits r a → IsTableRow1 (P (side_of a.va)) r.key.config r.trail a)
+IsRowBy P r leaf1 = (a : Access) → MayServe r a → IsLeafRow1 (P (side_of a.va)) r.key.config r r.trail a
+IsRowBy P r table1 = (r.global ≡ false) × ((a : Access) → MayServe r a → IsTableRow1 (P (side_of a.va)) r.key.config r.trail a)
 IsRowBy P r leaf2 = (r.key.asid ≡ 0) × (r.global ≡ false)
     × ((s : Side) (p : Bool) (x : ℕ) → holds r.region x ≡ true → IsLeafRow2 (P s) (regime_of r.key.config s) p r.trail x r.region.class)
 IsRowBy P r table2 = (r.key.asid ≡ 0) × (r.global ≡ false)

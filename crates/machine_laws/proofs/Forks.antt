@@ -10,10 +10,10 @@ use Rattle.walk_spec.specs.declared.leaf.Leaf2.{Leaf2}
 use Rattle.walk_spec.specs.Ask.{Ask, done, ask, after, Stands, needs, bad, ends, on}
 use Rattle.walk_spec.specs.Needs.{Regime, Need, base2, fits}
 use Rattle.walk_spec.specs.Steps.{End, stops, reaches}
-use Rattle.walk_spec.specs.Stage1.{asked2}
+use Rattle.walk_spec.specs.Stage1.{asked2, stands2}
 use Rattle.walk_spec.specs.Stage2.{is_refused2, walk2_behind}
 use Rattle.walk_spec.specs.BothStages.{Landing, walk}
-use Rattle.walk_laws.specs.Shift.{stands, stands2}
+use Rattle.walk_laws.specs.Shift.{stands}
 use Rattle.machine_laws.proofs.Facts.{regime_for}
 use Rattle.machine_laws.proofs.Sides.{Twin, twin_chain}
 use Rattle.machine_laws.proofs.Sounds.{words_behind}

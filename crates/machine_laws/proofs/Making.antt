@@ -330,9 +330,9 @@ module _ (laws : Laws) (v : View) (s : Step) (none : (i : Inval) → issued_now 
     table1_row tr u ws m rest on is at first part base held used =
         let r : Row = row_with (key_of regs) m table1 tr in (
           refl,
-          λ b suits.
-              let t = laws.first_table (config_at v) a b tr u ws m suits.on suits.accepted on is first part suits.held in
-              let e : side_of b.va ≡ v.side = table_side (config_at v) a b tr ws m suits.accepted is t.same first part ∙ sym side in
+          λ b may.
+              let t = laws.first_table (config_at v) a b tr u ws m may.on may.accepted on is first part may.held in
+              let e : side_of b.va ≡ v.side = table_side (config_at v) a b tr ws m may.accepted is t.same first part ∙ sym side in
               record {
                 plan = t.plan;
                 on = t.on;

@@ -17,10 +17,10 @@ use Rattle.walk_spec.specs.Ask.{Ask, done, ask, ended, lacks, ends, needs, on}
 use Rattle.walk_spec.specs.Needs.{Regime, regime_of, Need, base1, base2, word, WordNeed, fits}
 use Rattle.walk_spec.specs.Steps.{End, stops, reaches}
 use Rattle.walk_spec.specs.Stage2.{is_refused2, fault2, Asked2}
-use Rattle.walk_spec.specs.Stage1.{asked2, untagged}
+use Rattle.walk_spec.specs.Stage1.{asked2, stands2, untagged}
 use Rattle.walk_spec.specs.BothStages.{Landing, walk, is_refused1, outcome_of}
 use Rattle.walk_spec.specs.Fresh.{fed_outcome}
-use Rattle.walk_laws.specs.Shift.{stands, stands2}
+use Rattle.walk_laws.specs.Shift.{stands}
 use Rattle.machine_spec.specs.Header.{Kind, leaf1, table1}
 use Rattle.machine_spec.specs.Moments.{regs_after, memory_after}
 use Rattle.machine_spec.specs.Marks.{Mark, mark, marks, is_first}
@@ -32,7 +32,7 @@ use Rattle.machine_spec.specs.Made.{key_of, last_first}
 use Rattle.machine_spec.specs.Served.{Supplied, supply, Halt, came, clash, Reply, pushed, halted, serve, taken, credited, begun1, combined, served}
 use Rattle.machine_spec.specs.Machine.{Core}
 use Rattle.machine_laws.proofs.Trees.{IsOn, chain, Plan, fin, flat, IsWord, AllSecond}
-use Rattle.machine_laws.proofs.Facts.{In, sided, regime_for, IsStored, Suits, IsLeafRow1, IsTableRow1, IsRowBy, IsApart, AllApart, Facts}
+use Rattle.machine_laws.proofs.Facts.{In, sided, regime_for, IsStored, MayServe, IsLeafRow1, IsTableRow1, IsRowBy, IsApart, AllApart, Facts}
 use Rattle.machine_laws.proofs.Laws.{Laws, Judged, IsCut}
 use Rattle.machine_laws.proofs.Lists.{In-filter, none_some}
 use Rattle.machine_laws.proofs.Stands.{on_ends, on_needs, marks_append, marks_nil, flat_fin}
@@ -268,8 +268,9 @@ module _ (laws : Laws) (plans : PlansAreFine) (v : View) (w : Core) (a : Access)
 
   -- BY THE ROW OF A STAGE 1 TABLE
 
-  suits_of : (r : Row) → Same v w f r → holds r.region (untagged a.va) ≡ true → (config_at v).m ≡ true → is_refused1 (config_at v) a ≡ false → Suits r a
-  suits_of r s h m n = record { held = h; on = ap (λ (c : Config). c.m) s.config_same ∙ m; accepted = ap (λ c. is_refused1 c a) s.config_same ∙ n }
+  may_serve : (r : Row) → Same v w f r → holds r.region (untagged a.va) ≡ true → (config_at v).m ≡ true → is_refused1 (config_at v) a ≡ false
+      → MayServe r a
+  may_serve r s h m n = record { held = h; on = ap (λ (c : Config). c.m) s.config_same ∙ m; accepted = ap (λ c. is_refused1 c a) s.config_same ∙ n }
 
   good_all : (r : Row) → Same v w f r → (r.global ≡ false → r.key.asid ≡ asid_of (regs_after v.core v.log)) → (ms : List Mark) →
       AllUsed (IsStored (sided v (side_of a.va)) w.inbox r) None ms → AllUsed (Good v) None ms
@@ -338,7 +339,7 @@ module _ (laws : Laws) (plans : PlansAreFine) (v : View) (w : Core) (a : Access)
       let m = In-deepest (matches1 table1 (key_of (regs_after v.core v.log)) (untagged a.va)) w.cache.rows r e in
       let t = matched1 table1 (key_of (regs_after v.core v.log)) (untagged a.va) r m.1 in
       let s = same_of table1 r t.0 in
-      from_table r.trail (table_good r s t.1 ((as_kind table1 r t.0.kind_is m.0).1 a (suits_of r s t.0.held on ok)))
+      from_table r.trail (table_good r s t.1 ((as_kind table1 r t.0.kind_is m.0).1 a (may_serve r s t.0.held on ok)))
 
   -- BY COMBINED ROWS
 
@@ -357,7 +358,7 @@ module _ (laws : Laws) (plans : PlansAreFine) (v : View) (w : Core) (a : Access)
         s,
         t.1,
         subst (λ c. IsLeafRow1 (IsStored (sided v (side_of a.va)) w.inbox r) c r r.trail a) s.config_same
-            (as_kind leaf1 r t.0.kind_is m.0 a (suits_of r s t.0.held on ok)),
+            (as_kind leaf1 r t.0.kind_is m.0 a (may_serve r s t.0.held on ok)),
       )
 
   cut_good : (ms cut : List Mark) → IsCut ms cut → AllUsed (Good v) None ms → AllUsed (Good v) None cut

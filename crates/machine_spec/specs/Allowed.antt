@@ -25,9 +25,10 @@ use Rattle.walk_spec.specs.declared.leaf.Leaf2.{Leaf2}
 use Rattle.walk_spec.specs.Ask.{needs, ends, lacks}
 use Rattle.walk_spec.specs.Needs.{base2, word, WordNeed, is_base, stage_eq, regime_of}
 use Rattle.walk_spec.specs.Steps.{End, reaches}
+use Rattle.walk_spec.specs.Stage1.{stands2}
 use Rattle.walk_spec.specs.BothStages.{Landing, walk, outcome_of}
 use Rattle.walk_spec.specs.Fresh.{fed_outcome}
-use Rattle.walk_laws.specs.Shift.{stands, stands2}
+use Rattle.walk_laws.specs.Shift.{stands}
 use Rattle.machine_spec.specs.Header.{Header}
 use Rattle.machine_spec.specs.Moments.{memory_after}
 use Rattle.machine_spec.specs.Marks.{Mark, marks}

@@ -46,6 +46,14 @@ pub record World : Type 0 where
 abbrev pub no_core : Core
 no_core = record { bank = no_bank; inbox = []; cache = record { rows = []; evictions = 0 } }
 
+-- the core with other registers and another queue
+abbrev pub with_bank : (core : Core) (bank : Bank) → Core
+with_bank w b = record w { bank = b }
+
+-- the core with other rows
+abbrev pub with_cache : (core : Core) (cache : Cache) → Core
+with_cache w l = record w { cache = l }
+
 -- INVALIDATIONS
 
 -- an invalidation takes effect at a core: the rows that it covers go

@@ -1,10 +1,9 @@
 -- What a supply of stage 1 words does, and what a walk over it does.
 use Rattle.std.specs.Prelude.{ℕ, ℤ, ◌≡◌, ◌≤◌, List, [], ◌∷◌, ◌++◌, length, Result, Ok, Err}
 use Rattle.geometry.specs.Tables.{level_of}
-use Rattle.fault_codes.specs.Status.{HasStatus}
 use Rattle.trails.specs.declared.item.Item.{Item}
 use Rattle.trails.specs.declared.outcome.Stop.{Stop}
-use Rattle.trails.specs.declared.outcome.Stop.TheVariants.{Fault, Absent, Conflict}
+use Rattle.trails.specs.declared.outcome.Stop.TheVariants.{Fault}
 use Rattle.trails.specs.Lengths.{most_per_word}
 use Rattle.walk_spec.specs.declared.entry.Entry1.{Entry1}
 use Rattle.walk_spec.specs.declared.entry.Table1.{Table1}
@@ -30,12 +29,6 @@ pub record Gave {S : Type 0} (gives : List Item → Result ℕ Stop → S → Ty
 -- a place is that of the last item
 abbrev pub IsLastPlace : (items : List Item) (place : ℕ) → Type 0
 IsLastPlace items p = (front : List Item) × (i : Item) × (items ≡ front ++ i ∷ []) × (p ≡ i.pa)
-
--- a fault has a status code
-abbrev pub HasCode : (stop : Stop) → Type 0
-HasCode (Fault f) = HasStatus f
-HasCode (Absent s level pa s1ptw) = Unit {0}
-HasCode Conflict = Unit {0}
 
 -- what a supply does for an entry: it is asked for the level and the place
 abbrev pub by_entry : {S : Type 0} → (gives : S → ℤ → ℕ → List Item → Result ℕ Stop → S → Type 0) → Gives S Entry1 Item ℕ Stop

@@ -2,7 +2,8 @@ ghost use Rattle.std.specs.Prelude.{◌≡◌, ◌+◌, ◌≤◌, ◌%◌, ℕ,
 ghost use Rattle.trails.specs.declared.item.Item.{Item};
 ghost use Rattle.trails.specs.declared.outcome.Stop.{Stop};
 ghost use Rattle.trails.specs.Lengths.{most_items, most_per_word};
-ghost use Rattle.stage1_walk.specs.Gave.{Gave, HasCode};
+ghost use Rattle.trails.specs.Printed.{HasTextStop};
+ghost use Rattle.stage1_walk.specs.Gave.{Gave};
 
 use trails::{Stop, Trail};
 
@@ -18,5 +19,5 @@ pub trait Supply1 {
         requires aligned { ipa % 8 ≡ 0 }
         requires room { length trail.old + most_per_word ≤ most_items }
         ensures gave { Gave (gives self.old level ipa) trail.old trail.new result self.new }
-        ensures code { IfErr result HasCode };
+        ensures text { IfErr result HasTextStop };
 }

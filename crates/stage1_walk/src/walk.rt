@@ -3,11 +3,12 @@ ghost use Rattle.geometry.specs.Tables.{most_left, left_below, level_of};
 ghost use Rattle.sysregs.specs.Registers.{InRange, granule_of};
 ghost use Rattle.sysregs.specs.Sides.{side_of, tg_of};
 ghost use Rattle.trails.specs.Lengths.{most_items, most_per_word};
+ghost use Rattle.trails.specs.Printed.{HasTextStop};
 ghost use Rattle.walk_spec.specs.Stage1.{untagged};
 ghost use Rattle.walk_spec.specs.BothStages.{asked, is_refused1};
 ghost use Rattle.stage1_walk.specs.Under.{IsUnder, asked_under};
 ghost use Rattle.stage1_walk.specs.Clauses.{IsTableOf, table_from};
-ghost use Rattle.stage1_walk.specs.Gave.{Gave, HasCode, IsLastPlace, Walked1};
+ghost use Rattle.stage1_walk.specs.Gave.{Gave, IsLastPlace, Walked1};
 
 use crate::sizes::sizes1;
 use crate::step::{Under, step_by};
@@ -43,7 +44,7 @@ fn word_of<S: Supply1>(entry: &Entry1, supply: &mut S, trail: &mut Trail) -> Res
     requires aligned { entry.now.place % 8 ≡ 0 }
     requires room { length trail.old + most_per_word ≤ most_items }
     ensures gave { Gave (S.gives supply.old (level_of entry.now.left) entry.now.place) trail.old trail.new result supply.new }
-    ensures code { IfErr result HasCode }
+    ensures text { IfErr result HasTextStop }
 {
     supply.word_at(level(entry.left), entry.place, trail)
 }
@@ -62,7 +63,7 @@ fn walk_left<const G: u32, S: Supply1>(
     requires table { table.address < 2 ^ 52 × table.address % 8 ≡ 0 }
     requires room { length trail.old + most_per_word * (left + 1) ≤ most_items }
     ensures most { length trail.new ≤ length trail.old + most_per_word * (left + 1) }
-    ensures code { IfErr result HasCode }
+    ensures text { IfErr result HasTextStop }
     ensures walked { Walked1 S.gives (asked_under under.now) left table supply.old trail.old trail.new result supply.new }
 {
     loop {
@@ -105,7 +106,7 @@ pub fn walk1<const G: u32, S: Supply1>(
     requires table { IsTableOf config.now (side_of access.now.va) from.now }
     requires room { length trail.old + most_per_word * (left_below from.now.level + 1) ≤ most_items }
     ensures most { length trail.new ≤ length trail.old + most_per_word * (left_below from.now.level + 1) }
-    ensures code { IfErr result HasCode }
+    ensures text { IfErr result HasTextStop }
     ensures walked { Walked1 S.gives (asked config.now true access.now) (left_below from.now.level) (table_from from.now)
         supply.old trail.old trail.new result supply.new }
 {

@@ -1,21 +1,15 @@
 -- What a kept chain of stage 2 gives.
-use Rattle.std.specs.Prelude.{ℕ, ◌≡◌, List, [], false}
+use Rattle.std.specs.Prelude.{◌≡◌, []}
 use Rattle.sysregs.specs.declared.regs.Config.{Config}
-use Rattle.sysregs.specs.declared.regs.Side.{Side}
 use Rattle.trails.specs.declared.item.Item.{Item}
 use Rattle.walk_spec.specs.declared.leaf.Leaf2.{Leaf2}
-use Rattle.walk_spec.specs.Ask.{Stands, needs, ends, on}
-use Rattle.walk_spec.specs.Needs.{Need, word, WordNeed, fits, regime_of}
+use Rattle.walk_spec.specs.Ask.{Stands, needs, ends}
+use Rattle.walk_spec.specs.Needs.{Need, word, WordNeed}
 use Rattle.walk_spec.specs.Steps.{End, reaches}
-use Rattle.walk_spec.specs.Stage2.{walk2}
 use Rattle.stage2_walk.specs.declared.replayed.Replay2.{Replay2}
 use Rattle.stage2_walk.specs.declared.replayed.Replay2.TheVariants.{Ended, More, Other}
 use Rattle.stage2_walk.specs.Clauses.{IsTableOf}
-use Rattle.stage2_walk.specs.Standing.{NeedsOf, asked2_at}
-
--- how stage 2 for an IPA stands on a chain; it is the same for either side of the addresses
-abbrev pub stands2 : (config : Config) (side : Side) (ipa : ℕ) (chain : List Item) → Stands Need Item (End Leaf2)
-stands2 c s ipa chain = on (fits (regime_of c s)) (walk2 (asked2_at c false ipa)) chain
+use Rattle.stage2_walk.specs.Standing.{NeedsOf}
 
 -- It ended exactly where the walk is at a leaf and no item is left over, and there is more exactly where the walk needs
 -- a word, of this table; so the chain isn't empty, since the base is needed before any word.

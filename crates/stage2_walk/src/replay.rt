@@ -1,8 +1,9 @@
 //! Stage 2 over a chain that was kept.
-ghost use Rattle.std.specs.Prelude.{◌≡◌};
+ghost use Rattle.std.specs.Prelude.{◌≡◌, false};
 ghost use Rattle.sysregs.specs.Registers.{InRange};
 ghost use Rattle.sysregs.specs.declared.regs.Side.{Side};
-ghost use Rattle.stage2_walk.specs.Replayed.{IsReplayed2, HasTable2, stands2};
+ghost use Rattle.walk_spec.specs.Stage1.{stands2};
+ghost use Rattle.stage2_walk.specs.Replayed.{IsReplayed2, HasTable2};
 
 use crate::replayed::Replay2;
 use crate::stand::{Stood2, stand2};
@@ -13,7 +14,7 @@ use trails::Item;
 /// the place of a stage 1 descriptor.
 pub fn replay2(config: &Config, ipa: u64, chain: &[Item]) -> Replay2
     requires config { InRange config.now }
-    ensures replayed { (s : Side) → IsReplayed2 result (stands2 config.now s ipa chain.now) }
+    ensures replayed { (s : Side) → IsReplayed2 result (stands2 config.now s false ipa chain.now) }
     ensures table { HasTable2 config.now result }
 {
     match stand2(config, ipa, false, chain, 0) {

@@ -4,6 +4,8 @@ use Rattle.fault_codes.specs.declared.fault.Class.TheVariants.{External}
 use Rattle.fault_codes.specs.Status.{HasStatus}
 use Rattle.trails.specs.declared.outcome.Outcome.{Outcome}
 use Rattle.trails.specs.declared.outcome.Outcome.TheVariants.{Mapped, Faulted, Absent, Conflict}
+use Rattle.trails.specs.declared.outcome.Stop.{Stop}
+use Rattle.trails.specs.declared.outcome.Stop.TheVariants.{Fault}
 use Rattle.trails.specs.declared.step.Answer.{Answer}
 use Rattle.trails.specs.declared.step.Step.{Step}
 
@@ -16,6 +18,11 @@ printed _ outcome = outcome
 abbrev pub HasText : (outcome : Outcome) → Type 0
 HasText (Faulted fault) = HasStatus fault
 HasText _ = Unit {0}
+
+-- the same of what stops a walk
+abbrev pub HasTextStop : (stop : Stop) → Type 0
+HasTextStop (Fault fault) = HasStatus fault
+HasTextStop _ = Unit {0}
 
 -- the answer of an event, if there is one, has a text in a run
 abbrev pub HasTextInRun : (answer : Option Answer) → Type 0

@@ -10,6 +10,7 @@ use Rattle.trails.specs.declared.item.Item.{Item}
 use Rattle.trails.specs.declared.outcome.Access.{Access}
 use Rattle.trails.specs.declared.outcome.Stop.{Stop}
 use Rattle.trails.specs.declared.outcome.Stop.TheVariants.{Fault as FaultStop, Absent, Conflict}
+use Rattle.trails.specs.Printed.{HasTextStop}
 use Rattle.table_reads.specs.Memory.{Told}
 use Rattle.table_reads.proofs.Weaker.{misses_weaker, rose_weaker}
 use Rattle.walk_spec.specs.declared.entry.Entry1.{Entry1}
@@ -22,7 +23,7 @@ use Rattle.walk_spec.specs.Stage1.{word_of}
 use Rattle.walk_spec.specs.BothStages.{asked}
 use Rattle.walk_spec.specs.Walked.{LacksFor, result_of, HasLineStop}
 use Rattle.walk_spec.proofs.Finer.{Walks, StopsBy, TellsEnd, ran_finer, Keeps, ran_keeps}
-use Rattle.stage1_walk.specs.Gave.{by_entry, Walked1, answer_of, HasCode}
+use Rattle.stage1_walk.specs.Gave.{by_entry, Walked1, answer_of}
 use Rattle.stage1_walk.proofs.OnEntries.{last_same}
 use Rattle.translate.specs.Checked.{RegsAt}
 use Rattle.translate.specs.Deep.{Reads2, StopTells, DeepGave, WalkedFrom1}
@@ -123,7 +124,8 @@ module _ {S : Type 0} (memory : S → Told) (faults : S → ℕ) (keeps : S → 
       record { more = w.more; end = d.0; grown = w.grown; took = d.1; cause = q.1; answer = w.answer ∙ q.0 }
 
 -- a stop of a walk that lacks only words is no conflict
-pub line_stop : {L : Type 0} (m : Told) (F : Type 0) (e : Fed Need (End L)) (x : Stop) → LacksFor m F e → Err x ≡ result_of e → HasCode x → HasLineStop x
+pub line_stop : {L : Type 0} (m : Told) (F : Type 0) (e : Fed Need (End L)) (x : Stop) → LacksFor m F e → Err x ≡ result_of e → HasTextStop x
+    → HasLineStop x
 line_stop m F e (FaultStop f) h a c = c
 line_stop m F e (Absent s l p q) h a c = tt
 line_stop m F (ended (stops f)) Conflict h a c = absurd cc
@@ -132,7 +134,7 @@ line_stop m F (lacks base1) Conflict h a c = h
 line_stop m F (lacks (base2 x)) Conflict h a c = h
 line_stop m F (lacks (word w)) Conflict h a c = absurd cc
 
-pub line_of : {L : Type 0} (m : Told) (F : Type 0) (e : Fed Need (End L)) (r : Result L Stop) → LacksFor m F e → r ≡ result_of e → IfErr r HasCode
+pub line_of : {L : Type 0} (m : Told) (F : Type 0) (e : Fed Need (End L)) (r : Result L Stop) → LacksFor m F e → r ≡ result_of e → IfErr r HasTextStop
     → IfErr r HasLineStop
 line_of m F e (Ok l) h a c = tt
 line_of m F e (Err x) h a c = line_stop m F e x h a c

@@ -5,11 +5,12 @@ ghost use Rattle.geometry.specs.Tables.{left_below};
 ghost use Rattle.sysregs.specs.Registers.{InRange};
 ghost use Rattle.sysregs.specs.Sides.{side_of};
 ghost use Rattle.trails.specs.Lengths.{most_items, most_per_word};
+ghost use Rattle.trails.specs.Printed.{HasTextStop};
 ghost use Rattle.walk_spec.specs.Stage2.{is_refused2};
 ghost use Rattle.walk_spec.specs.BothStages.{asked, is_refused1};
 ghost use Rattle.walk_spec.specs.Walked.{HasLineStop};
 ghost use Rattle.stage1_walk.specs.Clauses as Clauses1;
-ghost use Rattle.stage1_walk.specs.Gave.{HasCode, Walked1};
+ghost use Rattle.stage1_walk.specs.Gave.{Walked1};
 ghost use Rattle.stage2_walk.specs.SoundSteps.{IsSoundLeaf};
 ghost use Rattle.stage2_walk.specs.Clauses.{IsTableOf, WalkedFrom};
 
@@ -35,7 +36,7 @@ pub fn walk1_from<D: Supply1>(
     requires table { Clauses1.IsTableOf config.now (side_of access.now.va) from.now }
     requires room { length trail.old + most_per_word * (left_below from.now.level + 1) ≤ most_items }
     ensures most { length trail.new ≤ length trail.old + most_per_word * (left_below from.now.level + 1) }
-    ensures code { IfErr result HasCode }
+    ensures text { IfErr result HasTextStop }
     ensures walked { Walked1 D.gives (asked config.now true access.now) (left_below from.now.level) (Clauses1.table_from from.now)
         supply.old trail.old trail.new result supply.new }
 {

@@ -15,9 +15,10 @@ use Rattle.trails.specs.declared.outcome.Access.{Access}
 use Rattle.walk_spec.specs.declared.leaf.Leaf2.{Leaf2}
 use Rattle.walk_spec.specs.Ask.{ends}
 use Rattle.walk_spec.specs.Steps.{reaches}
+use Rattle.walk_spec.specs.Stage1.{stands2}
 use Rattle.walk_spec.specs.BothStages.{Landing}
 use Rattle.walk_spec.proofs.Worked.{on_worked_walks, tables, user_regs, stage2_regs, access, kernel_read, base, item, descent, rights, wb, normal}
-use Rattle.walk_laws.specs.Shift.{stands, regions, stands2, regions2, IsOpen, NeedsWord}
+use Rattle.walk_laws.specs.Shift.{stands, regions, regions2, IsOpen, NeedsWord}
 use Rattle.walk_laws.proofs.Shifts.{stage2_shifts, walk_shifts, table1_shifts, table2_shifts}
 
 abbrev user : Config

@@ -21,7 +21,7 @@ use Rattle.walk_spec.specs.Ask.{Stands, needs, bad, ends, on}
 use Rattle.walk_spec.specs.Needs.{Need, base1, base2, word, fits, regime_of, Region}
 use Rattle.walk_spec.specs.Steps.{End, stops, reaches}
 use Rattle.walk_spec.specs.Stage2.{walk2}
-use Rattle.walk_spec.specs.Stage1.{asked2}
+use Rattle.walk_spec.specs.Stage1.{asked2, stands2}
 use Rattle.walk_spec.specs.BothStages.{Landing, is_refused1, walk}
 use Rattle.walk_laws.specs.Regions.{regions_met}
 use Rattle.walk_laws.specs.Moved.{moved, moved2}
@@ -29,10 +29,6 @@ use Rattle.walk_laws.specs.Moved.{moved, moved2}
 -- two numbers have the same bits from this one up
 abbrev pub SameAbove : (class x y : ℕ) → Type 0
 SameAbove k x y = x / 2 ^ k ≡ y / 2 ^ k
-
--- how stage 2 for an IPA stands on a list of items
-abbrev pub stands2 : (config : Config) (side : Side) (s1ptw : Bool) (ipa : ℕ) (items : List Item) → Stands Need Item (End Leaf2)
-stands2 c s p x items = on (fits (regime_of c s)) (walk2 (asked2 (regime_of c s) p x)) items
 
 -- the regions of the words that stage 2 for an IPA met
 abbrev pub regions2 : (config : Config) (side : Side) (s1ptw : Bool) (ipa : ℕ) (items : List Item) → List (Option Region)

@@ -1,9 +1,10 @@
 -- Stage 1: from an address to a leaf, over the words of its tables (DDI 0487, AArch64.S1Translate and the stage 1 table
 -- walk), and how each word is had.
-use Rattle.std.specs.Prelude.{ℕ, ◌%◌, ◌^◌, zero, suc, Bool, true, false, not, ◌&&◌, ◌||◌, if◌then◌else◌, Result, Ok, Err}
+use Rattle.std.specs.Prelude.{ℕ, ◌%◌, ◌^◌, zero, suc, Bool, true, false, not, ◌&&◌, ◌||◌, if◌then◌else◌, List, Result, Ok, Err}
 use Rattle.geometry.specs.Tables.{level_of}
 use Rattle.geometry.specs.Runs.{leaf_class, goes_to}
 use Rattle.sysregs.specs.declared.regs.Config.{Config}
+use Rattle.sysregs.specs.declared.regs.Side.{Side}
 use Rattle.permissions.specs.declared.bits.El.TheVariants.{El1}
 use Rattle.permissions.specs.declared.bits.Kind.TheVariants.{Read}
 use Rattle.permissions.specs.Rights.{perms_of, rights1, joined, is_uxn, is_allowed1, is_allowed2}
@@ -26,8 +27,8 @@ use Rattle.walk_spec.specs.declared.entry.Entry1.{Entry1}
 use Rattle.walk_spec.specs.declared.leaf.Leaf1.{Leaf1}
 use Rattle.walk_spec.specs.declared.leaf.Leaf2.{Leaf2}
 use Rattle.walk_spec.specs.declared.leaf.Fields1.{Fields1}
-use Rattle.walk_spec.specs.Ask.{Ask, done, ask, after, finer}
-use Rattle.walk_spec.specs.Needs.{Regime, Need, word}
+use Rattle.walk_spec.specs.Ask.{Ask, done, ask, after, finer, Stands, on}
+use Rattle.walk_spec.specs.Needs.{Regime, Need, word, fits, regime_of}
 use Rattle.walk_spec.specs.Steps.{End, stops, reaches, step_then}
 use Rattle.walk_spec.specs.Stage2.{Asked2, walk2}
 
@@ -110,6 +111,10 @@ read1_by c e (reaches l) = if is_readable c l then read1 e l.pa else done (Err r
 -- stage 2 of an IPA under a regime
 abbrev pub asked2 : (regime : Regime) (s1ptw : Bool) (ipa : ℕ) → Asked2
 asked2 r s1ptw ipa = record { config = r.config; sizes = r.stage2; s1ptw = s1ptw; ipa = ipa }
+
+-- how stage 2 for an IPA stands on a list of items
+abbrev pub stands2 : (config : Config) (side : Side) (s1ptw : Bool) (ipa : ℕ) (items : List Item) → Stands Need Item (End Leaf2)
+stands2 c s s1ptw ipa items = on (fits (regime_of c s)) (walk2 (asked2 (regime_of c s) s1ptw ipa)) items
 
 -- how the word of an entry is had: with stage 2 on, its place is translated first
 abbrev pub word_of : (regime : Regime) (entry : Entry1) → Ask Need Item (Result Item Fault)

@@ -5,14 +5,14 @@ use Rattle.sysregs.specs.declared.regs.Regs.{Regs}
 use Rattle.sysregs.specs.declared.regs.Side.{Side}
 use Rattle.sysregs.specs.Registers.{config_of}
 use Rattle.sysregs.specs.Sides.{side_of}
-use Rattle.fault_codes.specs.Status.{HasStatus}
 use Rattle.fault_codes.specs.declared.fault.Stage.TheVariants.{S1, S2}
 use Rattle.trails.specs.declared.item.Item.{Item}
 use Rattle.trails.specs.declared.outcome.Access.{Access}
 use Rattle.trails.specs.declared.outcome.Outcome.{Outcome}
-use Rattle.trails.specs.declared.outcome.Outcome.TheVariants.{Mapped, Faulted, Absent as IsAbsent, Conflict as IsConflict}
+use Rattle.trails.specs.declared.outcome.Outcome.TheVariants.{Conflict as IsConflict}
 use Rattle.trails.specs.declared.outcome.Stop.{Stop}
 use Rattle.trails.specs.declared.outcome.Stop.TheVariants.{Fault, Absent, Conflict}
+use Rattle.trails.specs.Printed.{HasText, HasTextStop}
 use Rattle.table_reads.specs.Numbers.{sizes1, sizes2}
 use Rattle.table_reads.specs.Items.{base_item}
 use Rattle.table_reads.specs.Memory.{Memory, Told, Holds, Misses}
@@ -73,15 +73,12 @@ abbrev pub IsFresh : (regs : Regs) (access : Access) (moment : ℕ) (told : Told
 IsFresh regs a k told failed items o =
     (m : Memory) → told ≡ Some m → (failed → ⊥) → (items ≡ fresh_items m regs a k) × (o ≡ fresh_outcome m regs a k)
 
--- a stop that has a line of its own: its fault has a status code, and it is no conflict
+-- a stop that has a line of its own: it has a text, and it is no conflict
 abbrev pub HasLineStop : (stop : Stop) → Type 0
-HasLineStop (Fault f) = HasStatus f
-HasLineStop (Absent s level pa s1ptw) = Unit {0}
 HasLineStop Conflict = ⊥
+HasLineStop stop = HasTextStop stop
 
 -- the same of an outcome
 abbrev pub HasLine : (outcome : Outcome) → Type 0
-HasLine (Mapped pa perms mem sh) = Unit {0}
-HasLine (Faulted f) = HasStatus f
-HasLine (IsAbsent s level pa s1ptw) = Unit {0}
 HasLine IsConflict = ⊥
+HasLine outcome = HasText outcome

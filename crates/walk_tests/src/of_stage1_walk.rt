@@ -1,6 +1,6 @@
 ghost use Rattle.std.specs.Prelude.{◌≡◌, [], false};
 ghost use Rattle.permissions.specs.declared.bits.El.TheVariants.{El1};
-ghost use Rattle.stage1_walk.specs.Gave.{HasCode};
+ghost use Rattle.trails.specs.Printed.{HasTextStop};
 
 use attributes::{Cache, Device, MemType, Share};
 use bitflags::Flags;
@@ -37,7 +37,7 @@ const REFUSED: Fault = Fault {
 };
 
 fn stop(lack: Lack) -> Stop
-    ensures { HasCode result }
+    ensures { HasTextStop result }
 {
     match lack {
         Lack::Refused => Stop::Fault { fault: REFUSED },

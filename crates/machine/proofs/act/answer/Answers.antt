@@ -3,8 +3,8 @@ use Rattle.trails.specs.declared.event.Event.{Event}
 use Rattle.trails.specs.declared.event.Event.TheVariants.{Access as AccessOf, Prefetch}
 use Rattle.trails.specs.Printed.{printed}
 use Rattle.phys_mem.specs.Words.{memory_of}
-use Rattle.machine_spec.specs.Machine.{World, Visit, visit_of, moved, visited, answer_to}
-use Rattle.machine.specs.Seats.{core_at, no_seat, world_of, with_cache}
+use Rattle.machine_spec.specs.Machine.{World, with_cache, Visit, visit_of, moved, visited, answer_to}
+use Rattle.machine.specs.Seats.{core_at, no_seat, world_of}
 use Rattle.machine.proofs.Acts.{one_at, core_in, suits, visit_is, access_own, access_other, prefetch_own, prefetch_other, by_asked, line_text}
 use Rattle.machine.proofs.act.answer.Goals as goal
 

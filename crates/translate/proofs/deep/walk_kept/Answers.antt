@@ -27,4 +27,4 @@ pub returns-clause-line : goal.returns-clause-line
 returns-clause-line g c =
     let w = deep_walked g.S.Supply.memory g.S.Supply.faults g.S.Supply.keeps c.args.under.now c.args.access.now _ _ c.args.deep.now _ _ _ _ c.requires.under
     (rw c.config.ensures.same at c.walk1_from.ensures.walked) in
-    line_of _ _ w.end _ w.cause w.answer c.walk1_from.ensures.code
+    line_of _ _ w.end _ w.cause w.answer c.walk1_from.ensures.text
