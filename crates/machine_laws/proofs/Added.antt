@@ -5,15 +5,15 @@ use Rattle.std.specs.List.{list_any}
 use Rattle.std.proofs.lemmas.Bool.{eq-eqb, both_ways, or_parts, not-true}
 use Rattle.std.proofs.lemmas.Option.{same_Some}
 use Rattle.sysregs.specs.declared.regs.Regs.{Regs}
-use Rattle.sysregs.specs.declared.regs.Config.{Config}
-use Rattle.sysregs.specs.Registers.{granule_of}
+use Rattle.sysregs.specs.Equality.{same_bool, same_fields}
+use Rattle.sysregs.proofs.Configs.{equal_self, same_bool_self, same_fields_self}
 use Rattle.trace_lang.specs.declared.header.Policy.{Policy}
 use Rattle.trace_lang.specs.declared.header.Policy.TheVariants.{Lru, Fifo, Random}
 use Rattle.tagged_tlb.specs.declared.row.Key.{Key}
 use Rattle.walk_spec.specs.Needs.{Region}
 use Rattle.machine_spec.specs.Header.{Header, shape_of, leaf1, leaf2}
 use Rattle.machine_spec.specs.Marks.{Mark, is_global}
-use Rattle.machine_spec.specs.Rows.{Row, same_bool, same_numbers, same_granules, same_low, same_high, same_rest, same_fields, same_kind, same_region, holds, matches1}
+use Rattle.machine_spec.specs.Rows.{Row, same_kind, same_region, holds, matches1}
 use Rattle.machine_spec.specs.Made.{Maker, key_of}
 use Rattle.machine_spec.specs.Sets.{Cache, victim, without, same_set, same_key, added, is_row, to_end, touched}
 use Rattle.machine_laws.proofs.Facts.{In, IsApart, IsApart1, IsApart2, AllApart}
@@ -25,45 +25,8 @@ use Rattle.machine_laws.proofs.Sets.{kind_itself, In-added}
 
 -- EQUAL KEYS
 
-same_bool_self : (b : Bool) → same_bool b b ≡ true
-same_bool_self true = refl
-same_bool_self false = refl
-
-same : (n : ℕ) → (n == n) ≡ true
-same n = eq-eqb n n refl
-
 same_region_self : (r : Region) → same_region r r ≡ true
-same_region_self r = rw (same r.class, same r.start) refl
-
-numbers_self : (c : Config) → same_numbers c c ≡ true
-numbers_self c = rw (same c.t0sz, same c.t1sz, same c.sh0, same c.sh1, same c.ips, same c.t2sz, same c.sl0, same c.sl2, same c.ps, same c.mair) refl
-
-granules_self : (c : Config) → same_granules c c ≡ true
-granules_self c = rw (same (granule_of c.tg0), same (granule_of c.tg1), same (granule_of c.tg2)) refl
-
-low_self : (c : Config) → same_low c c ≡ true
-low_self c = rw (same_bool_self c.epd0, same_bool_self c.tbi0, same_bool_self c.tbid0, same_bool_self c.e0pd0, same_bool_self c.hpd0) refl
-
-high_self : (c : Config) → same_high c c ≡ true
-high_self c = rw (same_bool_self c.epd1, same_bool_self c.tbi1, same_bool_self c.tbid1, same_bool_self c.e0pd1, same_bool_self c.hpd1) refl
-
-rest_self : (c : Config) → same_rest c c ≡ true
-rest_self c = rw (
-  same_bool_self c.m,
-  same_bool_self c.i,
-  same_bool_self c.wxn,
-  same_bool_self c.epan,
-  same_bool_self c.ha1,
-  same_bool_self c.hd1,
-  same_bool_self c.vm,
-  same_bool_self c.ptw,
-  same_bool_self c.ha2,
-  same_bool_self c.hd2,
-) refl
-
-pub same_fields_self : (c : Config) → same_fields c c ≡ true
-unfolding same_fields
-same_fields_self c = rw (numbers_self c, granules_self c, low_self c, high_self c, rest_self c) refl
+same_region_self r = rw (equal_self r.class, equal_self r.start) refl
 
 -- rows of equal kinds, regions, keys and global flags would serve the same
 pub same_key_from : (r x : Row) → r.kind ≡ x.kind → r.region ≡ x.region → r.key.vmid ≡ x.key.vmid → r.key.asid ≡ x.key.asid → r.global ≡ x.global
@@ -92,7 +55,7 @@ In-to_end rows r x h =
     elim (In-push_cases (filter (λ y. not (is_row r y)) rows) r x h) [ inl i ↦ inl (In-from_filter (λ y. not (is_row r y)) rows x i).0 | inr e ↦ inr e ]
 
 is_row_self : (r : Row) → is_row r r ≡ true
-is_row_self r = rw (same r.made.step, same r.made.order) refl
+is_row_self r = rw (equal_self r.made.step, equal_self r.made.order) refl
 
 -- olds: the rows before the step, told apart
 module _ (olds : List Row) (apart : AllApart olds) where

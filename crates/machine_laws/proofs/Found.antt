@@ -3,6 +3,8 @@ use Rattle.std.proofs.Common.{◌≡◌, ℕ, Bool, true, false, cond, List, [],
 use Rattle.std.specs.Prelude.{filter, ◌==◌, ◌&&◌, ◌||◌, nat_lt}
 use Rattle.std.proofs.lemmas.Bool.{eqb-true, both_ways, and_parts}
 use Rattle.std.proofs.lemmas.Option.{same_Some}
+use Rattle.sysregs.specs.Equality.{same_fields}
+use Rattle.sysregs.proofs.Configs.{fields_same}
 use Rattle.trails.specs.declared.item.Item.{Item}
 use Rattle.tagged_tlb.specs.declared.row.Key.{Key}
 use Rattle.walk_spec.specs.Ask.{Ask, done, ask}
@@ -10,12 +12,12 @@ use Rattle.walk_spec.specs.Needs.{Need}
 use Rattle.walk_spec.specs.Steps.{End}
 use Rattle.walk_spec.specs.BothStages.{Landing}
 use Rattle.machine_spec.specs.Header.{Kind}
-use Rattle.machine_spec.specs.Rows.{Row, same_fields, same_kind, holds, matches, matches1, is_older, inserted, by_making, matching, closer, deepest}
+use Rattle.machine_spec.specs.Rows.{Row, same_kind, holds, matches, matches1, is_older, inserted, by_making, matching, closer, deepest}
 use Rattle.machine_spec.specs.Served.{Supplied, gives, halts, goes_on, serve, taken}
 use Rattle.machine_laws.proofs.Facts.{In, IsApart, AllApart}
 use Rattle.machine_laws.proofs.Lists.{In-from_filter, In-append, none_some}
 use Rattle.machine_laws.proofs.Pairs.{pairs_filter}
-use Rattle.machine_laws.proofs.Equal.{fields_same, kind_same}
+use Rattle.machine_laws.proofs.Equal.{kind_same}
 
 -- IN THE ORDER OF MAKING
 

@@ -3,8 +3,10 @@ use Rattle.std.proofs.Common.{◌≡◌, ℕ, Bool, true, false, not, cond, List
 use Rattle.std.specs.Prelude.{filter, All, ◌==◌, ◌&&◌, ◌||◌}
 use Rattle.std.proofs.lemmas.Bool.{and_from, and_parts, eqb-true}
 use Rattle.std.proofs.lemmas.List.Elements.{All-nil, All-cons, All-head, All-tail}
+use Rattle.sysregs.specs.Equality.{same_fields}
 use Rattle.sysregs.specs.Registers.{config_of, vmid_of}
 use Rattle.sysregs.specs.Sides.{side_of}
+use Rattle.sysregs.proofs.Configs.{fields_same}
 use Rattle.trails.specs.declared.item.Item.{Item}
 use Rattle.trails.specs.declared.outcome.Access.{Access}
 use Rattle.tagged_tlb.specs.declared.row.Key.{Key}
@@ -15,13 +17,12 @@ use Rattle.walk_spec.specs.Stage1.{untagged}
 use Rattle.walk_spec.specs.BothStages.{Landing, is_refused1, walk}
 use Rattle.walk_spec.specs.Fresh.{given}
 use Rattle.machine_spec.specs.Header.{Kind, leaf1, table1, leaf2, table2}
-use Rattle.machine_spec.specs.Rows.{Row, same_fields, same_kind, holds, matches, matches1, matching, deepest}
+use Rattle.machine_spec.specs.Rows.{Row, same_kind, holds, matches, matches1, matching, deepest}
 use Rattle.machine_spec.specs.Made.{key_of}
 use Rattle.machine_spec.specs.Served.{Place, Supplied, supplied_by, chain_by, begun2, chain_of, fresh_of, supply, serve, begun1, combined, served}
 use Rattle.machine_laws.specs.Rules.{RowsServeTheirOwn}
 use Rattle.machine_laws.proofs.Facts.{In}
 use Rattle.machine_laws.proofs.Lists.{In-filter, In-from_filter}
-use Rattle.machine_laws.proofs.Equal.{fields_same}
 use Rattle.machine_laws.proofs.Found.{In-matching, In-deepest, NamesLive, serve_live, taken_none}
 
 -- the register fields and the VMID are those of a key

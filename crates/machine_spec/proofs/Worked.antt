@@ -2,6 +2,7 @@
 use Rattle.std.proofs.Common.{◌≡◌, ℕ, List, [], ◌∷◌, map, pos, false, true}
 use Rattle.std.specs.Prelude.{⊤, Option, Some, None, slice_get}
 use Prim.Native.String.{String}
+use Rattle.sysregs.specs.Equality.{same_fields}
 use Rattle.attributes.specs.declared.kinds.MemType.{MemType}
 use Rattle.attributes.specs.declared.kinds.Share.{Share}
 use Rattle.fault_codes.specs.declared.fault.Stage.{Stage}
@@ -24,7 +25,6 @@ use Rattle.machine_spec.specs.Header.{Header}
 use Rattle.machine_spec.specs.Moments.{stored, banked}
 use Rattle.machine_spec.specs.Invalidations.{issued_by, completes}
 use Rattle.machine_spec.specs.Marks.{mark}
-use Rattle.machine_spec.specs.Rows.{same_fields}
 use Rattle.machine_spec.specs.Machine.{acted, answer_to, run_of}
 use Rattle.machine_spec.specs.Summary.{Summary, summary}
 

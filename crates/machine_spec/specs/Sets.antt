@@ -3,10 +3,11 @@
 use Rattle.std.specs.Prelude.{ℕ, ◌+◌, ◌*◌, ◌/◌, ◌%◌, ◌^◌, zero, suc, Bool, not, ◌==◌, ◌&&◌, nat_le, if◌then◌else◌}
 use Rattle.std.specs.Prelude.{List, [], ◌∷◌, ◌++◌, length, fold, filter}
 use Rattle.std.specs.List.{list_any}
+use Rattle.sysregs.specs.Equality.{same_bool, same_fields}
 use Rattle.trace_lang.specs.declared.header.Policy.{Policy}
 use Rattle.trace_lang.specs.declared.header.Policy.TheVariants.{Lru, Fifo, Random}
 use Rattle.machine_spec.specs.Header.{Header, Shape, shape_of, keeps_rows}
-use Rattle.machine_spec.specs.Rows.{Row, same_bool, same_fields, same_kind, same_region}
+use Rattle.machine_spec.specs.Rows.{Row, same_kind, same_region}
 
 -- the rows of a core, in the order of rank, and how many were evicted so far
 pub record Cache : Type 0 where
