@@ -7,6 +7,7 @@ use Rattle.std.specs.Str.{is_utf8}
 use Rattle.toml.specs.Data.{Data, integer, string, Members, no_members, member, get_member}
 use Rattle.toml.specs.Parse.{parse_document}
 use Rattle.texts.specs.Numbers.{number_of}
+use Rattle.texts.specs.Results.{◌>>=◌}
 use Rattle.sysregs.specs.declared.regs.Reg.{Reg}
 use Rattle.sysregs.specs.declared.regs.Reg.TheVariants.{SctlrEl1, TcrEl1, Ttbr0El1, Ttbr1El1, MairEl1, HcrEl2, VtcrEl2, VttbrEl2}
 use Rattle.sysregs.specs.declared.regs.Regs.{Regs}
@@ -74,12 +75,6 @@ refused_at register value = option_map (λ field. record { reg = register; field
 abbrev pub first_refused : (registers : Regs) (list : List Reg) → Option UnsupportedField
 first_refused regs [] = None
 first_refused regs (reg ∷ more) = option_or (refused_at reg (value_of regs reg)) (first_refused regs more)
-
--- one step and then the next, up to the first refusal
-infixl 10 ◌>>=◌
-abbrev pub ◌>>=◌ : {A B : Type 0} → Result A RegRefusal → (A → Result B RegRefusal) → Result B RegRefusal
-(Ok x) >>= f = f x
-(Err why) >>= f = Err why
 
 -- refuses what was found
 abbrev pub none_is : {A : Type 0} → (why : A → RegRefusal) (found : Option A) → Result (Unit {0}) RegRefusal
