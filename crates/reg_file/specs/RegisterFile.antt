@@ -15,6 +15,8 @@ use Rattle.sysregs.specs.declared.regs.Unsupported.{Unsupported as UnsupportedFi
 use Rattle.sysregs.specs.Names.{reg_key}
 use Rattle.sysregs.specs.Refused.{refused_field, value_of}
 use Rattle.reg_file.specs.declared.reading.TheConstants.{MOST_BYTES}
+use Rattle.reg_file.specs.declared.refusals.RegError.{RegError}
+use Rattle.reg_file.specs.declared.refusals.RegError.TheVariants.{Refused, NoMemory}
 use Rattle.reg_file.specs.declared.refusals.RegRefusal.{RegRefusal}
 use Rattle.reg_file.specs.declared.refusals.RegRefusal.TheVariants.{TooLarge, NotToml, Unknown, Missing, BadValue, Unsupported}
 
@@ -75,6 +77,11 @@ refused_at register value = option_map (λ field. record { reg = register; field
 abbrev pub first_refused : (registers : Regs) (list : List Reg) → Option UnsupportedField
 first_refused regs [] = None
 first_refused regs (reg ∷ more) = option_or (refused_at reg (value_of regs reg)) (first_refused regs more)
+
+-- the refusal of an error; want of memory is none
+abbrev pub reg_refusal : (error : RegError) → Option RegRefusal
+reg_refusal (Refused why) = Some why
+reg_refusal NoMemory = None
 
 -- refuses what was found
 abbrev pub none_is : {A : Type 0} → (why : A → RegRefusal) (found : Option A) → Result (Unit {0}) RegRefusal
