@@ -13,7 +13,8 @@ use Rattle.sysregs.specs.Refused.{AreAccepted, refused_field, value_of}
 use Rattle.reg_file.specs.declared.reading.TheConstants.{MOST_BYTES}
 use Rattle.reg_file.specs.declared.refusals.RegRefusal.{RegRefusal}
 use Rattle.reg_file.specs.declared.refusals.RegRefusal.TheVariants.{TooLarge, NotToml, Unsupported}
-use Rattle.reg_file.specs.RegisterFile.{regs_of, regs_in, of_document, none_is, first_refused, all_regs, ◌>>=◌, numbers_in}
+use Rattle.texts.specs.Results.{◌>>=◌}
+use Rattle.reg_file.specs.RegisterFile.{regs_of, regs_in, of_document, none_is, first_refused, all_regs, numbers_in}
 
 -- neither is there
 apart : (reg : Reg) (field : Option Field) (more : Option UnsupportedField) → option_or (option_map (λ f. record { reg = reg; field = f }) field) more ≡ None

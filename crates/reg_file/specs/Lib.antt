@@ -1,3 +1,2 @@
 pub use Rattle.sysregs.specs.Refused
 pub mod RegisterFile
-pub mod Given

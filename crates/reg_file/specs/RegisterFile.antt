@@ -7,6 +7,7 @@ use Rattle.std.specs.Str.{is_utf8}
 use Rattle.toml.specs.Data.{Data, integer, string, Members, no_members, member, get_member}
 use Rattle.toml.specs.Parse.{parse_document}
 use Rattle.texts.specs.Numbers.{number_of}
+use Rattle.texts.specs.Results.{◌>>=◌}
 use Rattle.sysregs.specs.declared.regs.Reg.{Reg}
 use Rattle.sysregs.specs.declared.regs.Reg.TheVariants.{SctlrEl1, TcrEl1, Ttbr0El1, Ttbr1El1, MairEl1, HcrEl2, VtcrEl2, VttbrEl2}
 use Rattle.sysregs.specs.declared.regs.Regs.{Regs}
@@ -14,6 +15,8 @@ use Rattle.sysregs.specs.declared.regs.Unsupported.{Unsupported as UnsupportedFi
 use Rattle.sysregs.specs.Names.{reg_key}
 use Rattle.sysregs.specs.Refused.{refused_field, value_of}
 use Rattle.reg_file.specs.declared.reading.TheConstants.{MOST_BYTES}
+use Rattle.reg_file.specs.declared.refusals.RegError.{RegError}
+use Rattle.reg_file.specs.declared.refusals.RegError.TheVariants.{Refused, NoMemory}
 use Rattle.reg_file.specs.declared.refusals.RegRefusal.{RegRefusal}
 use Rattle.reg_file.specs.declared.refusals.RegRefusal.TheVariants.{TooLarge, NotToml, Unknown, Missing, BadValue, Unsupported}
 
@@ -75,11 +78,10 @@ abbrev pub first_refused : (registers : Regs) (list : List Reg) → Option Unsup
 first_refused regs [] = None
 first_refused regs (reg ∷ more) = option_or (refused_at reg (value_of regs reg)) (first_refused regs more)
 
--- one step and then the next, up to the first refusal
-infixl 10 ◌>>=◌
-abbrev pub ◌>>=◌ : {A B : Type 0} → Result A RegRefusal → (A → Result B RegRefusal) → Result B RegRefusal
-(Ok x) >>= f = f x
-(Err why) >>= f = Err why
+-- the refusal of an error; want of memory is none
+abbrev pub reg_refusal : (error : RegError) → Option RegRefusal
+reg_refusal (Refused why) = Some why
+reg_refusal NoMemory = None
 
 -- refuses what was found
 abbrev pub none_is : {A : Type 0} → (why : A → RegRefusal) (found : Option A) → Result (Unit {0}) RegRefusal

@@ -1,9 +1,9 @@
 ghost use Rattle.std.specs.Prelude.{◌≡◌, option_map, find, is_none, Some, None, IfOk, IfErr};
 ghost use Rattle.toml.specs.View.{view, table_view};
 ghost use Rattle.sysregs.specs.Names.{reg_key};
+ghost use Rattle.texts.specs.Results.{Gives};
 ghost use Rattle.reg_file.specs.RegisterFile.{is_known, number_from, number_at, first_unknown, entry, needed_regs, all_regs};
-ghost use Rattle.reg_file.specs.RegisterFile.{none_is, numbers_in, refused_at, first_refused, regs_in};
-ghost use Rattle.reg_file.specs.Given.{Gives};
+ghost use Rattle.reg_file.specs.RegisterFile.{reg_refusal, none_is, numbers_in, refused_at, first_refused, regs_in};
 ghost use Rattle.reg_file.specs.declared.refusals.RegRefusal.TheVariants as why;
 
 use crate::name::Name;
@@ -48,7 +48,7 @@ fn known(key: &str) -> bool
 
 /// Refuses the first key that names no register.
 fn all_known(alloc: Global, table: &Table) -> Result<(), RegError>
-    ensures { Gives (none_is why.Unknown (first_unknown (table_view table.now))) result }
+    ensures { Gives reg_refusal (λ u. u) result (none_is why.Unknown (first_unknown (table_view table.now))) }
 {
     for (key, _value) in table.iter() {
         if !known(key.as_str()) {
@@ -69,7 +69,7 @@ fn entry<'a>(table: &'a Table, reg: Reg) -> Option<&'a Value>
 
 /// Refuses the first register that must be there and isn't.
 fn all_there(table: &Table) -> Result<(), RegError>
-    ensures { Gives (none_is why.Missing (find (λ reg. is_none (entry (table_view table.now) reg)) needed_regs)) result }
+    ensures { Gives reg_refusal (λ u. u) result (none_is why.Missing (find (λ reg. is_none (entry (table_view table.now) reg)) needed_regs)) }
 {
     for reg in NEEDED {
         if entry(table, reg).is_none() {
@@ -110,7 +110,7 @@ fn value_at(table: &Table, reg: Reg) -> Result<u64, RegError>
 }
 
 fn numbers(table: &Table) -> Result<Regs, RegError>
-    ensures { Gives (numbers_in (table_view table.now)) result }
+    ensures { Gives reg_refusal (λ regs. regs) result (numbers_in (table_view table.now)) }
 {
     Ok(Regs {
         sctlr_el1: value_at(table, Reg::SctlrEl1)?,
@@ -125,7 +125,7 @@ fn numbers(table: &Table) -> Result<Regs, RegError>
 }
 
 fn supported(reg: Reg, value: u64) -> Result<(), RegError>
-    ensures { Gives (none_is why.Unsupported (refused_at reg value)) result }
+    ensures { Gives reg_refusal (λ u. u) result (none_is why.Unsupported (refused_at reg value)) }
 {
     match check_reg(reg, value) {
         Ok(()) => Ok(()),
@@ -135,7 +135,7 @@ fn supported(reg: Reg, value: u64) -> Result<(), RegError>
 
 /// Refuses the first register that sets a refused field.
 fn all_supported(regs: &Regs) -> Result<(), RegError>
-    ensures { Gives (none_is why.Unsupported (first_refused regs.now all_regs)) result }
+    ensures { Gives reg_refusal (λ u. u) result (none_is why.Unsupported (first_refused regs.now all_regs)) }
 {
     supported(Reg::SctlrEl1, regs.sctlr_el1)?;
     supported(Reg::TcrEl1, regs.tcr_el1)?;
@@ -149,7 +149,7 @@ fn all_supported(regs: &Regs) -> Result<(), RegError>
 
 /// The registers of a table.
 pub fn from_table(alloc: Global, table: &Table) -> Result<Regs, RegError>
-    ensures { Gives (regs_in (table_view table.now)) result }
+    ensures { Gives reg_refusal (λ regs. regs) result (regs_in (table_view table.now)) }
 {
     all_known(alloc, table)?;
     all_there(table)?;

@@ -1,7 +1,7 @@
 ghost use Rattle.std.specs.Prelude.{◌≡◌, IfOk, IfErr, Ok};
 ghost use Rattle.sysregs.specs.Refused.{AreAccepted};
-ghost use Rattle.reg_file.specs.RegisterFile.{regs_of};
-ghost use Rattle.reg_file.specs.Given.{Fails, Gives};
+ghost use Rattle.texts.specs.Results.{Fails, Gives};
+ghost use Rattle.reg_file.specs.RegisterFile.{reg_refusal, regs_of};
 
 use crate::entries::from_table;
 use crate::refusals::{RegError, RegRefusal, refused};
@@ -13,7 +13,7 @@ use sysregs::Regs;
 pub const MOST_BYTES: usize = 65536;
 
 fn registers(alloc: Global, bytes: &[u8]) -> Result<Regs, RegError>
-    ensures { Gives (regs_of bytes.now) result }
+    ensures { Gives reg_refusal (λ regs. regs) result (regs_of bytes.now) }
 {
     if bytes.len() > MOST_BYTES {
         return refused(RegRefusal::TooLarge {
@@ -37,7 +37,7 @@ fn registers(alloc: Global, bytes: &[u8]) -> Result<Regs, RegError>
 pub fn read(alloc: Global, bytes: &[u8]) -> Result<Regs, RegError>
     ensures registers { IfOk result (λ regs. regs_of bytes.now ≡ Ok regs) }
     ensures accepted { IfOk result AreAccepted }
-    ensures refused { IfErr result (Fails (regs_of bytes.now)) }
+    ensures refused { IfErr result (λ e. Fails (reg_refusal e) (regs_of bytes.now)) }
 {
     registers(alloc, bytes)
 }

@@ -17,7 +17,8 @@ use Rattle.trace_lang.specs.declared.header.Policy.TheVariants.{Fifo}
 use Rattle.phys_mem.specs.Memory.{is_aligned}
 use Rattle.phys_mem.specs.Ranges.{is_range, share_byte, bytes_of}
 use Rattle.trace_lang.specs.Traces.{Header, Parts, parts_of, IsTrace, RangeFits, RangesFitBehind, most_cores, most_ranges, most_events, most_memory}
-use Rattle.trace_lang.specs.Words.{◌>>=◌, is_end, in_range, number_or, no_word_at}
+use Rattle.texts.specs.Results.{◌>>=◌}
+use Rattle.trace_lang.specs.Words.{is_end, in_range, number_or, no_word_at}
 use Rattle.trace_lang.specs.Events.{event_of}
 use Rattle.trace_lang.specs.Lines.{State, no_lines, with_event, is_base, is_size, words_met, range_met, body_met, lines_met, then_ended, most_text, trace_of}
 use Rattle.trace_lang.specs.Limits.{IsBuilt, HasNoPrefetch, HasWords}

@@ -20,7 +20,8 @@ use Rattle.permissions.specs.AccessNames.{el_of, kind_of}
 use Rattle.phys_mem.specs.Memory.{is_aligned}
 use Rattle.phys_mem.specs.Ranges.{share_byte, bytes_of}
 use Rattle.trace_lang.specs.Traces.{Header, Parts, IsTrace, RangeFits, RangesFitBehind, EventFits, is_within, may_issue, most_cores, most_ranges, most_events, most_memory}
-use Rattle.trace_lang.specs.Words.{◌>>=◌, in_range, number_at, name_at, no_word_at, named, words_of, is_text}
+use Rattle.texts.specs.Results.{◌>>=◌}
+use Rattle.trace_lang.specs.Words.{in_range, number_at, name_at, no_word_at, named, words_of, is_text}
 use Rattle.trace_lang.specs.Events.{Verb, store, msr, settle, isb, tlbi, dsb, deliver, access, event_of, event_by, core_at, place_at, operand_at, pan_at, supported_by, verbs, reg_names, op_names, origins, barriers}
 use Rattle.trace_lang.specs.Lines.{State, no_lines, with_header, with_event, cores_met, is_base, is_size, range_met, caches_met, policy_met, ranges_met, body_met, met, words_met, line_met, without_return, lines_met, refused_in, most_line, sizes, policies}
 use Rattle.trace_lang.specs.Limits.{KeepsLimits, KeepsLimitsIn}

@@ -27,7 +27,8 @@ use Rattle.sysregs.specs.Ops.{form_of, has_operand}
 use Rattle.permissions.specs.AccessNames.{el_text, kind_text, el_of, kind_of}
 use Rattle.phys_mem.specs.Memory.{is_aligned}
 use Rattle.trace_lang.specs.Traces.{Header, EventFits, core_of, is_within, may_issue}
-use Rattle.trace_lang.specs.Words.{◌>>=◌, word_or, number_or, in_range, number_at, name_at, no_word_at, named}
+use Rattle.texts.specs.Results.{◌>>=◌}
+use Rattle.trace_lang.specs.Words.{word_or, number_or, in_range, number_at, name_at, no_word_at, named}
 use Rattle.trace_lang.specs.Events.{Verb, store, msr, settle, isb, tlbi, dsb, deliver, access, event_of, event_by, core_at, place_at, operand_at, pan_at, supported_by, allowed_from, reg_names, op_names, origins, barriers}
 use Rattle.trace_lang.specs.Limits.{is_prefetch, HasWords}
 use Rattle.trace_lang.specs.Canonical.{op_word, origin_text, barrier_text, event_words}

@@ -22,7 +22,7 @@ reads_a_header = refl
 
 reads_events
     : trace_of
-      (header ++ codes "store 1 0xff8 7\r\n\t# none\n\nmsr 0 TCR_EL1 0x10\nisb 0\ntlbi 0 el2 ALLE1\ntlbi 0 el1 VAE1IS 5\naccess 1 el0 read 4096 pan\nend\n")
+    (header ++ codes "store 1 0xff8 7\r\n\t# none\n\nmsr 0 TCR_EL1 0x10\nisb 0\ntlbi 0 el2 ALLE1\ntlbi 0 el1 VAE1IS 5\naccess 1 el0 read 4096 pan\nend\n")
     ≡ Ok (parts_of 2 ((0, 4096) ∷ []) NoRows Fifo (
     Store 1 0xff8 7 ∷ Msr 0 TcrEl1 16 ∷ Isb 0 ∷ Tlbi 0 El2 Alle1 false 0 ∷ Tlbi 0 El1 Vae1 true 5
     ∷ Access 1 record { va = 4096; el = El0; kind = Read; pan = true } ∷ []))

@@ -19,7 +19,8 @@ use Rattle.trace_lang.specs.declared.refusals.LineRefusal.{LineRefusal}
 use Rattle.trace_lang.specs.declared.refusals.LineRefusal.TheVariants.{Unsupported, NotAtEl1}
 use Rattle.phys_mem.specs.Memory.{is_aligned}
 use Rattle.trace_lang.specs.Traces.{Header, is_within, may_issue}
-use Rattle.trace_lang.specs.Words.{◌>>=◌, in_range, number_at, name_at, no_word_at, named}
+use Rattle.texts.specs.Results.{◌>>=◌}
+use Rattle.trace_lang.specs.Words.{in_range, number_at, name_at, no_word_at, named}
 
 -- the words that begin an event
 pub data Verb : Type 0 where

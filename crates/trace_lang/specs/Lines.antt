@@ -17,7 +17,8 @@ use Rattle.trace_lang.specs.declared.refusals.TraceRefusal.TheVariants as refusa
 use Rattle.trace_lang.specs.Traces.{Header, Parts, most_cores, most_ranges, most_events, most_memory}
 use Rattle.phys_mem.specs.Memory.{is_aligned}
 use Rattle.phys_mem.specs.Ranges.{share_byte, bytes_of}
-use Rattle.trace_lang.specs.Words.{is_text, is_end, words_of, ◌>>=◌, in_range, number_at, name_at, no_word_at, named}
+use Rattle.texts.specs.Results.{◌>>=◌}
+use Rattle.trace_lang.specs.Words.{is_text, is_end, words_of, in_range, number_at, name_at, no_word_at, named}
 use Rattle.trace_lang.specs.Events.{event_of}
 
 -- what has been read

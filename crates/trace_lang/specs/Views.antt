@@ -1,6 +1,7 @@
 -- What the code's types stand for, and what calls answer beside what is due.
 use Rattle.std.specs.Prelude.{◌≡◌, ℕ, Bool, true, false, if◌then◌else◌, List, [], Option, Some, None, Result, Ok, Err}
 use Rattle.std.specs.List.{list_all, slice_split}
+use Rattle.texts.specs.Results.{Fails}
 use Rattle.trace_lang.specs.declared.refusals.LineRefusal.{LineRefusal}
 use Rattle.trace_lang.specs.declared.refusals.TraceRefusal.{TraceRefusal}
 use Rattle.trace_lang.specs.declared.refusals.TraceError.{TraceError}
@@ -49,27 +50,17 @@ header_of h = record { cores = h.cores; ranges = h.ranges.items; size = h.size; 
 abbrev pub state_of : (reading : Reading) → State
 state_of r = record { phase = r.phase; trace = record { header = header_of r.head; events = r.events.items } }
 
--- an error is the refusal that is due, or want of memory
-abbrev pub Fails : {A : Type 0} → (error : LineError) (due : Result A LineRefusal) → Type 0
-Fails NoMemory due = Unit {0}
-Fails (Refused why) due = due ≡ Err why
+-- the refusal of a line's error; want of memory is none
+abbrev pub line_refusal : (error : LineError) → Option LineRefusal
+line_refusal (Refused why) = Some why
+line_refusal NoMemory = None
 
--- an answer stands for what is due, unless memory was refused
-abbrev pub Gives : {A B : Type 0} → (view : A → B) (result : Result A LineError) (due : Result B LineRefusal) → Type 0
-Gives view (Ok x) due = due ≡ Ok (view x)
-Gives view (Err e) due = Fails e due
+-- the refusal of a text's error; want of memory is none
+abbrev pub trace_refusal : (error : TraceError) → Option TraceRefusal
+trace_refusal (trace.Refused why) = Some why
+trace_refusal trace.NoMemory = None
 
 -- after Ok the state is the one that is due, and a refusal is the one that is due
 abbrev pub Steps : {A S : Type 0} → (new : S) (result : Result A LineError) (due : Result S LineRefusal) → Type 0
 Steps new (Ok _) due = due ≡ Ok new
-Steps new (Err e) due = Fails e due
-
--- an error is the refusal that is due, or want of memory
-abbrev pub FailsTrace : {A : Type 0} → (error : TraceError) (due : Result A TraceRefusal) → Type 0
-FailsTrace trace.NoMemory due = Unit {0}
-FailsTrace (trace.Refused why) due = due ≡ Err why
-
--- an answer stands for what is due of a text, unless memory was refused
-abbrev pub GivesTrace : {A B : Type 0} → (view : A → B) (result : Result A TraceError) (due : Result B TraceRefusal) → Type 0
-GivesTrace view (Ok x) due = due ≡ Ok (view x)
-GivesTrace view (Err e) due = FailsTrace e due
+Steps new (Err e) due = Fails (line_refusal e) due

@@ -3,6 +3,7 @@ use Rattle.std.specs.Prelude.{ℕ, ◌-◌, slice_get, List, [], ◌∷◌, leng
 use Rattle.std.specs.Prelude.{◌==◌, nat_lt, nat_le, bytes_eq, if◌then◌else◌, Result, Ok, Err}
 use Rattle.std.specs.List.{slice_split}
 use Rattle.texts.specs.Numbers.{number_of}
+use Rattle.texts.specs.Results.{◌>>=◌}
 use Rattle.trace_lang.specs.declared.refusals.LineRefusal.{LineRefusal}
 use Rattle.trace_lang.specs.declared.refusals.LineRefusal.TheVariants.{BadWord, BadNumber, OutOfRange}
 
@@ -21,11 +22,6 @@ is_end b = b == 0x0a
 -- the words of a line
 abbrev pub words_of : (line : List ℕ) → List (List ℕ)
 words_of line = filter (λ w. not (length w == 0)) (slice_split is_blank line)
-
-infixl 10 ◌>>=◌
-abbrev pub ◌>>=◌ : {A B : Type 0} → (first : Result A LineRefusal) → (next : A → Result B LineRefusal) → Result B LineRefusal
-(Ok x) >>= f = f x
-(Err e) >>= f = Err e
 
 -- a value, or a word that may not stand at this place
 abbrev pub word_or : {A : Type 0} → (place : ℕ) (found : Option A) → Result A LineRefusal

@@ -1,7 +1,8 @@
 ghost use Rattle.std.specs.Prelude.{◌≡◌, map};
+ghost use Rattle.texts.specs.Results.{Gives};
 ghost use Rattle.trace_lang.specs.Traces.{may_issue};
 ghost use Rattle.trace_lang.specs.Events.{store, msr, tlbi, dsb, access, core_at, place_at, operand_at, pan_at, event_by, event_of};
-ghost use Rattle.trace_lang.specs.Views.{header_of, Gives};
+ghost use Rattle.trace_lang.specs.Views.{header_of, line_refusal};
 
 use crate::LineRefusal;
 use crate::names::{self, Verb};
@@ -15,7 +16,7 @@ use trails::{Access, Event, Origin};
 
 /// The number of a core.
 fn core_at(head: &Head, words: &[&[u8]]) -> Result<u8, LineError>
-    ensures { Gives (λ n. n) result (core_at (header_of head.now) (map (λ w. w.now) words.now)) }
+    ensures { Gives line_refusal (λ n. n) result (core_at (header_of head.now) (map (λ w. w.now) words.now)) }
 {
     let n = number_at(words, 2)?;
     let n = in_range(2, n < head.cores as u64, n)?;
@@ -24,14 +25,14 @@ fn core_at(head: &Head, words: &[&[u8]]) -> Result<u8, LineError>
 
 /// The place of a store.
 fn place_at(head: &Head, words: &[&[u8]]) -> Result<u64, LineError>
-    ensures { Gives (λ n. n) result (place_at (header_of head.now) (map (λ w. w.now) words.now)) }
+    ensures { Gives line_refusal (λ n. n) result (place_at (header_of head.now) (map (λ w. w.now) words.now)) }
 {
     let place = number_at(words, 3)?;
     in_range(3, is_aligned(place) && head.is_within(place), place)
 }
 
 fn store(head: &Head, core: u8, words: &[&[u8]]) -> Result<Event, LineError>
-    ensures { Gives (λ e. e) result (event_by (header_of head.now) (map (λ w. w.now) words.now) core store) }
+    ensures { Gives line_refusal (λ e. e) result (event_by (header_of head.now) (map (λ w. w.now) words.now) core store) }
 {
     let pa = place_at(head, words)?;
     let value = number_at(words, 4)?;
@@ -40,7 +41,7 @@ fn store(head: &Head, core: u8, words: &[&[u8]]) -> Result<Event, LineError>
 }
 
 fn msr(head: &Head, core: u8, words: &[&[u8]]) -> Result<Event, LineError>
-    ensures { Gives (λ e. e) result (event_by (header_of head.now) (map (λ w. w.now) words.now) core msr) }
+    ensures { Gives line_refusal (λ e. e) result (event_by (header_of head.now) (map (λ w. w.now) words.now) core msr) }
 {
     let word = word_at(words, 3)?;
     let reg = word_or(3, names::register_named(word))?;
@@ -61,7 +62,7 @@ fn may_issue(from: Origin, op: Op) -> bool
 
 /// The operand of an operation, which is 0 where it has none.
 fn operand_at(op: Op, words: &[&[u8]]) -> Result<u64, LineError>
-    ensures { Gives (λ n. n) result (operand_at op (map (λ w. w.now) words.now)) }
+    ensures { Gives line_refusal (λ n. n) result (operand_at op (map (λ w. w.now) words.now)) }
 {
     if op.form().scope.has_operand() {
         let operand = number_at(words, 5)?;
@@ -73,7 +74,7 @@ fn operand_at(op: Op, words: &[&[u8]]) -> Result<u64, LineError>
 }
 
 fn tlbi(head: &Head, core: u8, words: &[&[u8]]) -> Result<Event, LineError>
-    ensures { Gives (λ e. e) result (event_by (header_of head.now) (map (λ w. w.now) words.now) core tlbi) }
+    ensures { Gives line_refusal (λ e. e) result (event_by (header_of head.now) (map (λ w. w.now) words.now) core tlbi) }
 {
     let word = word_at(words, 3)?;
     let from = word_or(3, names::origin_named(word))?;
@@ -93,7 +94,7 @@ fn tlbi(head: &Head, core: u8, words: &[&[u8]]) -> Result<Event, LineError>
 }
 
 fn dsb(head: &Head, core: u8, words: &[&[u8]]) -> Result<Event, LineError>
-    ensures { Gives (λ e. e) result (event_by (header_of head.now) (map (λ w. w.now) words.now) core dsb) }
+    ensures { Gives line_refusal (λ e. e) result (event_by (header_of head.now) (map (λ w. w.now) words.now) core dsb) }
 {
     let word = word_at(words, 3)?;
     let kind = word_or(3, names::barrier_named(word))?;
@@ -103,7 +104,7 @@ fn dsb(head: &Head, core: u8, words: &[&[u8]]) -> Result<Event, LineError>
 
 /// Whether the word `pan` stands behind an access.
 fn pan_at(words: &[&[u8]]) -> Result<bool, LineError>
-    ensures { Gives (λ p. p) result (pan_at (map (λ w. w.now) words.now)) }
+    ensures { Gives line_refusal (λ p. p) result (pan_at (map (λ w. w.now) words.now)) }
 {
     if words.len() < 6 {
         return Ok(false);
@@ -115,7 +116,7 @@ fn pan_at(words: &[&[u8]]) -> Result<bool, LineError>
 }
 
 fn access(head: &Head, core: u8, words: &[&[u8]]) -> Result<Event, LineError>
-    ensures { Gives (λ e. e) result (event_by (header_of head.now) (map (λ w. w.now) words.now) core access) }
+    ensures { Gives line_refusal (λ e. e) result (event_by (header_of head.now) (map (λ w. w.now) words.now) core access) }
 {
     let word = word_at(words, 3)?;
     let el = word_or(3, El::named(word))?;
@@ -129,7 +130,7 @@ fn access(head: &Head, core: u8, words: &[&[u8]]) -> Result<Event, LineError>
 
 /// The event of a line.
 pub fn event(head: &Head, words: &[&[u8]]) -> Result<Event, LineError>
-    ensures { Gives (λ e. e) result (event_of (header_of head.now) (map (λ w. w.now) words.now)) }
+    ensures { Gives line_refusal (λ e. e) result (event_of (header_of head.now) (map (λ w. w.now) words.now)) }
 {
     let word = word_at(words, 1)?;
     let verb = word_or(1, names::verb_named(word))?;

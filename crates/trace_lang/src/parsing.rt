@@ -1,9 +1,10 @@
 ghost use Rattle.std.specs.Prelude.{◌≡◌, ◌≤◌, length, IfOk, Err};
 ghost use Rattle.std.specs.List.{slice_split};
+ghost use Rattle.texts.specs.Results.{Gives};
 ghost use Rattle.trace_lang.specs.Words.{is_end};
 ghost use Rattle.trace_lang.specs.Lines.{no_lines, refused_in, lines_met, ended_in, most_text, trace_of};
 ghost use Rattle.trace_lang.specs.Limits.{KeepsLimits, IsBuilt, HasNoPrefetch};
-ghost use Rattle.trace_lang.specs.Views.{state_of, GivesTrace};
+ghost use Rattle.trace_lang.specs.Views.{state_of, trace_refusal};
 
 use crate::cuts::{cut_line, without_return};
 use crate::places::LineError;
@@ -40,7 +41,7 @@ fn refused_in(line: u32, why: LineRefusal) -> TraceRefusal
 
 fn read_lines(alloc: Global, bytes: &[u8]) -> Result<Reading, TraceError>
     requires { length bytes.now ≤ most_text }
-    ensures read { GivesTrace state_of result (lines_met no_lines 1 (slice_split is_end bytes.now)) }
+    ensures read { Gives trace_refusal state_of result (lines_met no_lines 1 (slice_split is_end bytes.now)) }
     ensures limits { IfOk result (λ r. KeepsLimits (state_of r)) }
     ensures built { IfOk result (λ r. IsBuilt (state_of r).trace.header) }
     ensures known { IfOk result (λ r. HasNoPrefetch (state_of r).trace) }
@@ -64,7 +65,7 @@ fn read_lines(alloc: Global, bytes: &[u8]) -> Result<Reading, TraceError>
 
 fn ended(reading: Reading) -> Result<Trace, TraceError>
     requires { KeepsLimits (state_of reading) }
-    ensures trace { GivesTrace (λ t. t) result (ended_in reading.phase (state_of reading)) }
+    ensures trace { Gives trace_refusal (λ t. t) result (ended_in reading.phase (state_of reading)) }
     ensures same { IfOk result (λ t. t ≡ (state_of reading).trace) }
 {
     let Reading {
@@ -90,7 +91,7 @@ fn ended(reading: Reading) -> Result<Trace, TraceError>
 /// then for its words from the left, then for a word too many, and last for what its words say together: a range that
 /// shares a byte with an earlier one, a register field that is not supported, an operation that EL1 may not issue.
 pub fn parse(alloc: Global, bytes: &[u8]) -> Result<Trace, TraceError>
-    ensures trace { GivesTrace (λ t. t) result (trace_of bytes.now) }
+    ensures trace { Gives trace_refusal (λ t. t) result (trace_of bytes.now) }
     ensures built { IfOk result (λ t. IsBuilt t.header) }
     ensures known { IfOk result (λ t. HasNoPrefetch t) }
 {

@@ -1,6 +1,7 @@
 ghost use Rattle.std.specs.Prelude.{◌≡◌, ◌≤◌, ◌-◌, map, Err};
+ghost use Rattle.texts.specs.Results.{Gives};
 ghost use Rattle.trace_lang.specs.Words.{word_or, word_at, number_at, in_range, no_word_at};
-ghost use Rattle.trace_lang.specs.Views.{Gives};
+ghost use Rattle.trace_lang.specs.Views.{line_refusal};
 
 use crate::LineRefusal;
 use texts::number;
@@ -22,7 +23,7 @@ pub fn refused<T>(why: LineRefusal) -> Result<T, LineError>
 
 /// A value, or a word that may not stand at this place.
 pub fn word_or<T>(place: u32, found: Option<T>) -> Result<T, LineError>
-    ensures { Gives (λ x. x) result (word_or place found) }
+    ensures { Gives line_refusal (λ x. x) result (word_or place found) }
 {
     match found {
         Some(value) => Ok(value),
@@ -33,7 +34,7 @@ pub fn word_or<T>(place: u32, found: Option<T>) -> Result<T, LineError>
 /// The word at a place. Places count from 1.
 pub fn word_at<'a>(words: &[&'a [u8]], place: u32) -> Result<&'a [u8], LineError>
     requires { 1 ≤ place }
-    ensures { Gives (λ w. w.now) result (word_or place (word_at (map (λ w. w.now) words.now) (place - 1))) }
+    ensures { Gives line_refusal (λ w. w.now) result (word_or place (word_at (map (λ w. w.now) words.now) (place - 1))) }
 {
     match words.get(place as usize - 1) {
         Some(word) => Ok(*word),
@@ -44,7 +45,7 @@ pub fn word_at<'a>(words: &[&'a [u8]], place: u32) -> Result<&'a [u8], LineError
 /// The number at a place.
 pub fn number_at(words: &[&[u8]], place: u32) -> Result<u64, LineError>
     requires { 1 ≤ place }
-    ensures { Gives (λ n. n) result (number_at (map (λ w. w.now) words.now) place) }
+    ensures { Gives line_refusal (λ n. n) result (number_at (map (λ w. w.now) words.now) place) }
 {
     let word = word_at(words, place)?;
     match number(word) {
@@ -55,7 +56,7 @@ pub fn number_at(words: &[&[u8]], place: u32) -> Result<u64, LineError>
 
 /// A number that passes a test.
 pub fn in_range(place: u32, passes: bool, n: u64) -> Result<u64, LineError>
-    ensures { Gives (λ n. n) result (in_range place passes n) }
+    ensures { Gives line_refusal (λ n. n) result (in_range place passes n) }
 {
     if passes {
         Ok(n)
@@ -66,7 +67,7 @@ pub fn in_range(place: u32, passes: bool, n: u64) -> Result<u64, LineError>
 
 /// Refuses a word at a place or behind it.
 pub fn no_word_at(words: &[&[u8]], place: u32) -> Result<(), LineError>
-    ensures { Gives (λ u. u) result (no_word_at (map (λ w. w.now) words.now) place) }
+    ensures { Gives line_refusal (λ u. u) result (no_word_at (map (λ w. w.now) words.now) place) }
 {
     if words.len() < place as usize {
         Ok(())

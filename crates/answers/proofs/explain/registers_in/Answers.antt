@@ -1,7 +1,7 @@
 use Rattle.std.proofs.Common.{rules, take}
 use Rattle.std.proofs.Common.{subst}
-use Rattle.reg_file.specs.RegisterFile.{regs_of}
-use Rattle.reg_file.specs.Given.{Fails}
+use Rattle.texts.specs.Results.{Fails}
+use Rattle.reg_file.specs.RegisterFile.{reg_refusal, regs_of}
 use Rattle.answers.proofs.Registers.{are_registers, are_refused}
 use Rattle.answers.proofs.explain.registers_in.Goals as goal
 
@@ -15,4 +15,4 @@ returns-in-Err-Refused-clause-error g c =
     rw c.from-in-Err-Refused.ensures
     (are_refused (g.F.Files.holds c.args.files.now c.args.name.now) _ _ c.args.size c.in-Ok.count c.fill_from.new.into
     c.requires (search rules) c.in-Ok.ensures.bytes c.in-Err-Refused.why
-    (subst (Fails (regs_of (take c.in-Ok.count c.fill_from.new.into))) c.in-Err-Refused.field-0-is c.in-Err-Refused.ensures.refused))
+    (subst (λ e. Fails (reg_refusal e) (regs_of (take c.in-Ok.count c.fill_from.new.into))) c.in-Err-Refused.field-0-is c.in-Err-Refused.ensures.refused))
