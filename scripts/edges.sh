@@ -8,7 +8,7 @@ image=$PWD/data/image
 work=$(mktemp -d) || exit 1
 trap 'rm -rf "$work"' EXIT
 chmod 755 "$work"
-cp "$program" "$work/vmsa" && cp "$image" "$work/image" && cd "$work" || exit 1
+cp "$program" "$work/vmsa" && chmod 755 "$work/vmsa" && cp "$image" "$work/image" && cd "$work" || exit 1
 export LC_ALL=C
 passed=0
 failed=0
