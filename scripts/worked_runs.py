@@ -46,7 +46,7 @@ VARIANTS = {
 LISTS = ["[]", "◌∷◌"]
 COMMON = LISTS + ["true", "false", "refl"]
 WORDS = ["header", "on_worked_runs", "Comes", "ReportsAs", "told", "conflict_told", "mapped", "fault", "fault2",
-         "base1", "base2", "word1", "word2", "access"]
+         "start1", "start2", "word1", "word2", "access"]
 
 
 def camel(name):

@@ -16,10 +16,10 @@ answer_text (Explain regs access walked) = explain_text regs access walked.trail
 answer_text (Run machine) = run_text machine
 
 -- the outcome of a walk has a line; a machine is before its first event
-abbrev pub IsPrintable : Answer → Type 0
-IsPrintable (Raw va walked) = HasLine walked.outcome
-IsPrintable (Explain regs access walked) = HasLine walked.outcome
-IsPrintable (Run machine) = IsReady machine
+abbrev pub HasAnswerText : Answer → Type 0
+HasAnswerText (Raw va walked) = HasLine walked.outcome
+HasAnswerText (Explain regs access walked) = HasLine walked.outcome
+HasAnswerText (Run machine) = IsReady machine
 
 -- the answer of one walk
 abbrev pub IsOfWalk : Answer → Type 0

@@ -4,7 +4,7 @@ ghost use Rattle.explain_text.specs.Written.{Wrote};
 ghost use Rattle.explain_text.specs.Texts.{item_text};
 ghost use Rattle.walk_spec.specs.Walked.{HasLine};
 ghost use Rattle.answers.specs.Texts.{raw_access_text, raw_mapped_text, raw_outcome_text, raw_text};
-ghost use Rattle.answers.specs.Due.{answer_text, IsPrintable, IsOfWalk};
+ghost use Rattle.answers.specs.Due.{answer_text, HasAnswerText, IsOfWalk};
 
 use explain_text::{QuietMemory, Sink, WriteFailed, absent_line, explain, fault_line, item_lines};
 use machine::Machine;
@@ -110,7 +110,7 @@ fn raw_lines<O: Sink>(out: &mut O, va: u64, walked: &Walked) -> Result<(), Write
 /// The text of a walk, line by line.
 fn walk_lines<O: Sink>(out: &mut O, answer: &Answer) -> Result<(), WriteFailed>
     requires walk { IsOfWalk answer.now }
-    requires printable { IsPrintable answer.now }
+    requires printable { HasAnswerText answer.now }
     ensures text { Wrote (O.written out.old) (O.written out.new) result (answer_text answer.now) }
     ensures cause { HasCause (O.faults out.old) (O.faults out.new) result }
 {
@@ -131,7 +131,7 @@ const PAGE: usize = 4096;
 /// Writes the text of a walk at once, or line by line where memory for the whole is refused.
 fn put_walk<O: Sink>(alloc: Global, out: &mut O, answer: &Answer) -> Result<(), WriteFailed>
     requires walk { IsOfWalk answer.now }
-    requires printable { IsPrintable answer.now }
+    requires printable { HasAnswerText answer.now }
     ensures text { Wrote (O.written out.old) (O.written out.new) result (answer_text answer.now) }
     ensures cause { HasCause (O.faults out.old) (O.faults out.new) result }
 {
@@ -145,7 +145,7 @@ fn put_walk<O: Sink>(alloc: Global, out: &mut O, answer: &Answer) -> Result<(), 
 
 /// Writes the text of an answer: of a walk at once, and of a run in pages while it runs.
 pub fn put_answer<O: Sink>(alloc: Global, out: &mut O, answer: Answer) -> Result<(), WriteFailed>
-    requires { IsPrintable answer }
+    requires { HasAnswerText answer }
     ensures text { Wrote (O.written out.old) (O.written out.new) result (answer_text answer) }
     ensures cause { HasCause (O.faults out.old) (O.faults out.new) result }
 {

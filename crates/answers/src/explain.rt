@@ -13,7 +13,7 @@ ghost use Rattle.answers.specs.Supplies.{dump_memory};
 ghost use Rattle.answers.specs.Explain.{AreRegisters, IsTextOver};
 ghost use Rattle.statuses.specs.Stops.{Form, Stops};
 ghost use Rattle.answers.specs.Answers.{IsDue};
-ghost use Rattle.answers.specs.Due.{answer_text, due_of, IsPrintable};
+ghost use Rattle.answers.specs.Due.{answer_text, due_of, HasAnswerText};
 
 use crate::answer::{Answer, Walked};
 use crate::dump_words::DumpWords;
@@ -125,7 +125,7 @@ fn answer_over<F: Files>(
     requires opened { IsOpened (F.holds files.old dump.old.name) dump.old }
     ensures later { F.faults files.old dump.old.name ≤ F.faults files.new dump.old.name }
     ensures missing { F.missing files.old dump.old.name ≤ F.missing files.new dump.old.name }
-    ensures outcome { IfOk result IsPrintable }
+    ensures outcome { IfOk result HasAnswerText }
     ensures text { IfOk result (λ a. IsTextOver (F.holds files.old dump.old.name) regs access (answer_text a)) }
     ensures fault { IfErr result (λ s. (s ≡ Status.ReadFault) × Rose (F.faults files.old dump.old.name) (F.faults files.new dump.old.name)) }
 {
@@ -151,7 +151,7 @@ pub fn explain<F: Files>(
     asked: &ExplainArgs,
     files: &mut F,
 ) -> Result<Answer, Status>
-    ensures outcome { IfOk result IsPrintable }
+    ensures outcome { IfOk result HasAnswerText }
     ensures due { IsDue (reading_of F.holds F.faults F.missing files.old files.new) (Some (Asked.Explain (explain_words_of asked.now))) (due_of result) }
 {
     let regs = registers(alloc, asked.registers, files)?;

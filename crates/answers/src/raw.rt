@@ -9,7 +9,7 @@ ghost use Rattle.answers.specs.Supplies.{image_memory};
 ghost use Rattle.answers.specs.Texts.{raw_regs, raw_access, raw_text};
 ghost use Rattle.answers.specs.Raw.{IsRawTextThere};
 ghost use Rattle.answers.specs.Answers.{IsDue, words_refusal};
-ghost use Rattle.answers.specs.Due.{answer_text, due_of, IsPrintable};
+ghost use Rattle.answers.specs.Due.{answer_text, due_of, HasAnswerText};
 
 use crate::answer::{Answer, Walked};
 use crate::image::Image;
@@ -69,7 +69,7 @@ fn walk<F: Files>(asked: &RawArgs, image: &mut Image<F>) -> (Outcome, Trail)
 fn answer_over<F: Files>(asked: &RawArgs, files: &mut F) -> Result<Answer, Status>
     requires { words_refusal (Asked.Raw (raw_words_of asked.now)) ≡ None }
     ensures later { F.faults files.old asked.now.image.now ≤ F.faults files.new asked.now.image.now }
-    ensures outcome { IfOk result IsPrintable }
+    ensures outcome { IfOk result HasAnswerText }
     ensures text { IfOk result (λ a. IsRawTextThere (F.holds files.old asked.now.image.now) (raw_words_of asked.now) (answer_text a)) }
     ensures fault { IfErr result (λ s. (s ≡ Status.ReadFault) × Rose (F.faults files.old asked.now.image.now) (F.faults files.new asked.now.image.now)) }
 {
@@ -90,7 +90,7 @@ fn answer_over<F: Files>(asked: &RawArgs, files: &mut F) -> Result<Answer, Statu
 /// What comes of a read whose words are accepted.
 fn read_image<F: Files>(alloc: Global, asked: &RawArgs, files: &mut F) -> Result<Answer, Status>
     requires { words_refusal (Asked.Raw (raw_words_of asked.now)) ≡ None }
-    ensures outcome { IfOk result IsPrintable }
+    ensures outcome { IfOk result HasAnswerText }
     ensures due { IsDue (reading_of F.holds F.faults F.missing files.old files.new) (Some (Asked.Raw (raw_words_of asked.now))) (due_of result) }
 {
     match files.size(asked.image) {
@@ -102,7 +102,7 @@ fn read_image<F: Files>(alloc: Global, asked: &RawArgs, files: &mut F) -> Result
 
 /// What comes of an EL1 read over an image.
 pub fn raw<F: Files>(alloc: Global, asked: &RawArgs, files: &mut F) -> Result<Answer, Status>
-    ensures outcome { IfOk result IsPrintable }
+    ensures outcome { IfOk result HasAnswerText }
     ensures due { IsDue (reading_of F.holds F.faults F.missing files.old files.new) (Some (Asked.Raw (raw_words_of asked.now))) (due_of result) }
 {
     if let Err(at) = check_reg(Reg::TcrEl1, asked.tcr) {

@@ -3,7 +3,7 @@ ghost use Rattle.std.specs.Prelude.{IfOk, Some};
 ghost use Rattle.dump_file.specs.Held.{reading_of};
 ghost use Rattle.commands.specs.Asked.{Asked, run_words_of};
 ghost use Rattle.answers.specs.Answers.{IsDue};
-ghost use Rattle.answers.specs.Due.{due_of, IsPrintable};
+ghost use Rattle.answers.specs.Due.{due_of, HasAnswerText};
 
 use crate::answer::Answer;
 use commands::RunArgs;
@@ -14,7 +14,7 @@ use std::alloc::Global;
 
 /// What comes of a run.
 pub fn run<F: Files>(alloc: Global, asked: &RunArgs, files: &mut F) -> Result<Answer, Status>
-    ensures outcome { IfOk result IsPrintable }
+    ensures outcome { IfOk result HasAnswerText }
     ensures due { IsDue (reading_of F.holds F.faults F.missing files.old files.new) (Some (Asked.Run (run_words_of asked.now))) (due_of result) }
 {
     let trace = trace(alloc, asked.trace, files)?;

@@ -13,8 +13,8 @@ use Rattle.fault_codes.specs.declared.fault.Fault.{Fault}
 use Rattle.fault_codes.specs.declared.fault.Class.TheVariants.{Translation, AddressSize, External}
 use Rattle.trails.specs.declared.item.Item.{Item}
 use Rattle.trails.specs.declared.outcome.Access.{Access}
-use Rattle.table_reads.specs.declared.step.Step.{Step}
-use Rattle.table_reads.specs.declared.step.Step.TheVariants.{Down, Reached, Stopped}
+use Rattle.table_reads.specs.declared.lead.Lead.{Lead}
+use Rattle.table_reads.specs.declared.lead.Lead.TheVariants.{Down, Reached, Stopped}
 use Rattle.table_reads.specs.Memory.{Memory}
 use Rattle.table_reads.specs.Numbers.{sizes2}
 use Rattle.table_reads.specs.Places.{is_too_large}
@@ -23,7 +23,7 @@ use Rattle.walk_spec.specs.declared.entry.Entry1.{Entry1}
 use Rattle.walk_spec.specs.declared.leaf.Leaf1.{Leaf1}
 use Rattle.walk_spec.specs.declared.leaf.Leaf2.{Leaf2}
 use Rattle.walk_spec.specs.Ask.{Ask, done, ask, after, go_on, finer, Fed, ended, lacks, fed_end, with_answer}
-use Rattle.walk_spec.specs.Needs.{Need, base1, base2, word, Regime, regime_of}
+use Rattle.walk_spec.specs.Needs.{Need, stage1_base, stage2_base, word, Regime, regime_of}
 use Rattle.walk_spec.specs.Steps.{End, stops, reaches, step_then}
 use Rattle.walk_spec.specs.Stage2.{fault2, step2, is_refused2, walk2_from, walk2_behind, walk2}
 use Rattle.walk_spec.specs.Stage1.{Asked, fault1, step1, entry1, walk1_from, read1, is_readable, read1_by, asked2, word_of}
@@ -36,8 +36,8 @@ use Rattle.trails.specs.Printed.{printed}
 
 -- a word of a level from 0 to 3, or a base
 abbrev IsLow : Need → Type 0
-IsLow base1 = Unit {0}
-IsLow (base2 ipa) = Unit {0}
+IsLow stage1_base = Unit {0}
+IsLow (stage2_base ipa) = Unit {0}
 IsLow (word w) = w.left ≤ most_left
 
 -- the same of an entry of stage 1
@@ -60,7 +60,7 @@ asks_finer Q P stop how (ask n k) h g =
     asks_after P (how n) (go_on stop (λ i. finer stop how (k i))) (g n h.0)
     (λ r. asks_go P stop (λ i. finer stop how (k i)) r (λ i. asks_finer Q P stop how (k i) (h.1 i) g))
 
-asks_step : {N L T : Type 0} (P : N → Type 0) (s : Step L T) (below : T → Ask N Item (End L)) → ((t : T) → Asks P (below t)) → Asks P (step_then below s)
+asks_step : {N L T : Type 0} (P : N → Type 0) (s : Lead L T) (below : T → Ask N Item (End L)) → ((t : T) → Asks P (below t)) → Asks P (step_then below s)
 asks_step P (Down t) below h = h t
 asks_step P (Reached l) below h = tt
 asks_step P (Stopped f) below h = tt
@@ -87,7 +87,8 @@ module _ (r : Regime) (start : r.stage2.start ≤ most_left) where
     asks_behind2 false base = asks_from2 r.stage2.start base start
 
     asks_by2 : (refused : Bool)
-        → Asks IsLow (cond refused (done (stops (fault2 (asked2 r p x) Translation most_left))) (ask (base2 x) (λ i. walk2_behind (asked2 r p x) i.value)))
+        → Asks IsLow (cond refused (done (stops (fault2 (asked2 r p x) Translation most_left)))
+        (ask (stage2_base x) (λ i. walk2_behind (asked2 r p x) i.value)))
     asks_by2 true = tt
     asks_by2 false = (tt, λ i. asks_behind2 (is_too_large r.stage2 i.value) i.value)
 
@@ -130,7 +131,7 @@ module _ (q : Asked) (start2 : q.regime.stage2.start ≤ most_left) where
         (asks_from1 q.regime.stage1.start record { address = base; bits = no_bits } h) (λ e l. asks_word q.regime start2 e l)
 
     asks_on : (refused : Bool) → is_refused1 q.regime.config q.access ≡ refused
-        → Asks IsLow (cond refused (done (stops (fault1 Translation most_left))) (ask base1 (λ i. stage1_behind q i.value)))
+        → Asks IsLow (cond refused (done (stops (fault1 Translation most_left))) (ask stage1_base (λ i. stage1_behind q i.value)))
     asks_on true e = tt
     asks_on false e = (tt, λ i. asks_large (is_too_large q.regime.stage1 i.value) i.value (start1 e))
 
@@ -179,8 +180,8 @@ external_level (suc (suc (suc (suc n)))) h = absurd (omega (arith, h))
 run_line_by : (e : Fed Need (End Landing)) → IsLowEnd e → HasLine (fed_outcome e) → HasLine (printed true (fed_outcome e))
 run_line_by (ended (stops f)) l h = h
 run_line_by (ended (reaches x)) l h = tt
-run_line_by (lacks base1) l h = h
-run_line_by (lacks (base2 ipa)) l h = h
+run_line_by (lacks stage1_base) l h = h
+run_line_by (lacks (stage2_base ipa)) l h = h
 run_line_by (lacks (word w)) l h = external_level w.left l
 
 -- the fresh walk's outcome has a line in a run

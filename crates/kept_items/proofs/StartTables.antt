@@ -9,7 +9,7 @@ use Rattle.fault_codes.specs.declared.fault.Stage.{Stage}
 use Rattle.fault_codes.specs.declared.fault.Stage.TheVariants.{S1, S2}
 use Rattle.trails.specs.declared.item.Item.{Item}
 use Rattle.table_reads.specs.declared.sizes.Sizes.{Sizes}
-use Rattle.walk_spec.specs.Needs.{Regime, base1, base2, fits, fits_base}
+use Rattle.walk_spec.specs.Needs.{Regime, stage1_base, stage2_base, fits, fits_base}
 
 pub size_small : (k : ℕ) → k ≤ 52 → 8 * 2 ^ k < 2 ^ 56
 size_small k l =
@@ -32,10 +32,10 @@ base_sound n s i h =
     let b = both_true _ _ a.0 in
     (leb-true _ _ a.1, eights i.value (2 ^ (n.input - class_of n.granule n.start)) (eqb-true _ _ b.1))
 
-pub base1_sound : (r : Regime) (i : Item) → true ≡ fits r base1 i → (i.value < 2 ^ 52) × (i.value % 8 ≡ 0)
+pub base1_sound : (r : Regime) (i : Item) → true ≡ fits r stage1_base i → (i.value < 2 ^ 52) × (i.value % 8 ≡ 0)
 unfolding fits
 base1_sound r i h = base_sound r.stage1 S1 i (sym h)
 
-pub base2_sound : (r : Regime) (ipa : ℕ) (i : Item) → true ≡ fits r (base2 ipa) i → (i.value < 2 ^ 52) × (i.value % 8 ≡ 0)
+pub base2_sound : (r : Regime) (ipa : ℕ) (i : Item) → true ≡ fits r (stage2_base ipa) i → (i.value < 2 ^ 52) × (i.value % 8 ≡ 0)
 unfolding fits
 base2_sound r ipa i h = base_sound r.stage2 S2 i (sym h)

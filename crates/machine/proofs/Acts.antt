@@ -23,7 +23,7 @@ use Rattle.machine_spec.specs.Moments.{settled, drained, queued, banked, stored}
 use Rattle.machine_spec.specs.Invalidations.{is_at_el1, issued_by}
 use Rattle.machine_spec.specs.Machine.{Core, World, no_core, with_bank, most_held, delivered_by, delivered, posted, mailed, mailed_by, finished, visit_of, core_numbered, regs_in, accessed, acted, moved, answer_to}
 use Rattle.cpu_model.specs.Cores.{Suits, visit_at}
-use Rattle.machine.specs.Runs.{asked_of}
+use Rattle.machine.specs.Events.{asked_of}
 use Rattle.machine.specs.Seats.{SeatState, core_at, build_of, no_seat, AreSeats, world_of}
 
 -- ONE CORE AMONG THE OTHERS

@@ -23,7 +23,8 @@ use Rattle.machine_laws.specs.Headline.{AreOfCores, RunsAreAllowed}
 use Rattle.machine_laws.proofs.Events.{each_at, each_length}
 use Rattle.machine_laws.proofs.Logs.{get-last}
 use Rattle.machine_laws.proofs.Theorem.{world_on, run_on}
-use Rattle.machine.specs.Seats.{SeatState, core_at, build_of, no_seat, new_seat, AreSeats, world_of, IsDoable}
+use Rattle.machine.specs.Seats.{SeatState, core_at, build_of, no_seat, new_seat, AreSeats, world_of}
+use Rattle.machine.specs.Events.{IsDoable}
 use Rattle.trails.specs.Printed.{HasTextInRun}
 use Rattle.machine.specs.Runs.{IsRun}
 use Rattle.machine.proofs.Ranges.{has_word, same_zeros}

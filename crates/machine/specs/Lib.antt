@@ -18,4 +18,5 @@ pub use Rattle.machine_spec.specs.Machine
 pub use Rattle.machine_laws.specs.Headline
 pub use Rattle.cpu_model.specs.Cores
 pub mod Seats
+pub mod Events
 pub mod Runs

@@ -21,12 +21,6 @@ pub record MachineState : Type 0 where
 abbrev pub machine_of : (state : MachineState) → World
 machine_of s = world_of (length s.log) (memory_of s.phys) s.seats
 
--- the core and the access of an event that asks for one
-abbrev pub asked_of : (event : Event) → Option (ℕ × Access)
-asked_of (AccessOf core access) = Some (core, access)
-asked_of (Prefetch core access) = Some (core, access)
-asked_of _ = None
-
 -- log and machine are those of the first events of the trace
 pub record IsRun (t : Parts) (log : List Step) (w : World) : Type 0 where
   pub within : length log ≤ length t.events

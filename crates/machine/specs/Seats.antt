@@ -44,9 +44,3 @@ AreSeats h seats = (c : ℕ) → c < length seats → build_of (get_or seats c n
 -- the machine of a memory and of cores, at a step
 abbrev pub world_of : (step : ℕ) (memory : Memory) (seats : List SeatState) → World
 world_of k m seats = record { step = k; memory = m; cores = map core_at seats }
-
--- a memory and cores can do an event: a store has a place, and a register write sets no refused field
-abbrev pub IsDoable : (memory : Memory) (event : Event) → Type 0
-IsDoable m (Store core pa value) = (is_aligned pa ≡ true) × (is_some (m pa) ≡ true)
-IsDoable m (Msr core reg value) = refused_field reg value ≡ None
-IsDoable m _ = Unit {0}

@@ -9,9 +9,9 @@ ghost use Rattle.machine_spec.specs.Moments.{stored};
 ghost use Rattle.machine_spec.specs.Invalidations.{is_at_el1};
 ghost use Rattle.machine_spec.specs.Machine.{mailed_by, finished, moved, answer_to};
 ghost use Rattle.trace_lang.specs.Traces.{core_of};
-ghost use Rattle.machine.specs.Seats.{core_at, build_of, no_seat, AreSeats, world_of, IsDoable};
+ghost use Rattle.machine.specs.Seats.{core_at, build_of, no_seat, AreSeats, world_of};
 ghost use Rattle.trails.specs.Printed.{HasTextInRun};
-ghost use Rattle.machine.specs.Runs.{asked_of};
+ghost use Rattle.machine.specs.Events.{asked_of, IsDoable};
 
 use crate::seat::Seat;
 use phys_mem::Phys;

@@ -10,7 +10,7 @@ use Rattle.tlbi_ops.specs.Covers.{covers}
 use Rattle.table_reads.specs.Places.{is_too_large}
 use Rattle.walk_spec.specs.declared.leaf.Leaf2.{Leaf2}
 use Rattle.walk_spec.specs.Ask.{done, ask}
-use Rattle.walk_spec.specs.Needs.{Regime, regime_of, base2, fits}
+use Rattle.walk_spec.specs.Needs.{Regime, regime_of, stage2_base, fits}
 use Rattle.walk_spec.specs.Steps.{stops, reaches}
 use Rattle.geometry.specs.Tables.{most_left}
 use Rattle.fault_codes.specs.declared.fault.Class.TheVariants.{AddressSize}
@@ -183,19 +183,20 @@ module _ (v : View) (w : Core) (f : Facts v w) where
     abbrev pub base_now : Item
     base_now = base_item (now v) S2 (sizes2 (config_at v)) (start_base2 (regs_after v.core v.log))
 
-    module _ (fresh : (x : ℕ) → (fits rg (base2 x) base_now ≡ true) × Good v (mark rg (base2 x) base_now) None) where
-      base_start : (p : Bool) (x : ℕ) → Begins v rg p x (fresh_of (place_of v w.cache.rows) a (base2 x))
+    module _ (fresh : (x : ℕ) → (fits rg (stage2_base x) base_now ≡ true) × Good v (mark rg (stage2_base x) base_now) None) where
+      base_start : (p : Bool) (x : ℕ) → Begins v rg p x (fresh_of (place_of v w.cache.rows) a (stage2_base x))
       base_start p x =
-          let g : Good v (mark rg (base2 x) base_now) None = (fresh x).1 in
+          let m : Mark = mark rg (stage2_base x) base_now in
+          let g : Good v m None = (fresh x).1 in
           record {
             left = walk2_behind (asked2 rg p x) base_now.value;
             words = laws.behind_words rg p x base_now.value;
             on = ((fresh x).0, refl);
-            used = subst (λ ms. AllUsed (Good v) None (mark rg (base2 x) base_now ∷ ms)) (sym (marks_nil rg (walk2_behind (asked2 rg p x) base_now.value)))
-                (subst (Good v (mark rg (base2 x) base_now)) (sym (use_second None (mark rg (base2 x) base_now) [] (mark_first rg (base2 x) base_now))) g, tt);
+            used = subst (λ ms. AllUsed (Good v) None (m ∷ ms)) (sym (marks_nil rg (walk2_behind (asked2 rg p x) base_now.value)))
+                (subst (Good v m) (sym (use_second None m [] (mark_first rg (stage2_base x) base_now))) g, tt);
             last_base =
-                subst (λ ms. LastIs (IsNowBase (now v)) (mark rg (base2 x) base_now ∷ ms)) (sym (marks_nil rg (walk2_behind (asked2 rg p x) base_now.value)))
-                (λ b. ap (λ (i : Item). i.moment) (mark_item rg (base2 x) base_now));
+                subst (λ ms. LastIs (IsNowBase (now v)) (m ∷ ms)) (sym (marks_nil rg (walk2_behind (asked2 rg p x) base_now.value)))
+                (λ b. ap (λ (i : Item). i.moment) (mark_item rg (stage2_base x) base_now));
             goes = λ g e. (refl, refl);
             word = λ l e. absurd (behind_asks (asked2 rg p x) base_now.value l e);
           }
@@ -211,13 +212,13 @@ module _ (v : View) (w : Core) (f : Facts v w) where
           (s, leaf_now r s p x ((as_kind leaf2 r t.kind_is m.0).2 (side_of a.va) p x t.held))
 
       by_table : (p : Bool) (x : ℕ) (o : Option Row) → deepest (matches table2 (key_of (regs_after v.core v.log)) x) w.cache.rows ≡ o
-          → Begins v rg p x (begun2 (fresh_of (place_of v w.cache.rows) a (base2 x)) o)
+          → Begins v rg p x (begun2 (fresh_of (place_of v w.cache.rows) a (stage2_base x)) o)
       by_table p x None e = base_start p x
       by_table p x (Some r) e =
           let m = In-deepest (matches table2 (key_of (regs_after v.core v.log)) x) w.cache.rows r e in
           let t = matched table2 (key_of (regs_after v.core v.log)) x r m.1 in
           let s = same_by table2 x r t in
-          table_start r p x (fresh_of (place_of v w.cache.rows) a (base2 x)) r.trail s
+          table_start r p x (fresh_of (place_of v w.cache.rows) a (stage2_base x)) r.trail s
           (table_now r s p x ((as_kind table2 r t.kind_is m.0).2 (side_of a.va) p x t.held))
 
       whole_of : (p : Bool) (x : ℕ) (r : Row) → Same r × IsLeafRow2 (IsStored v w.inbox r) rg p r.trail x r.region.class → Whole v rg p x r.trail
@@ -244,11 +245,11 @@ module _ (v : View) (w : Core) (f : Facts v w) where
 
       by_rows : (p : Bool) (x : ℕ) (rs : List Row) → matching (matches leaf2 (key_of (regs_after v.core v.log)) x) w.cache.rows ≡ rs →
           Begins v rg p x
-          (chain_of (fresh_of (place_of v w.cache.rows) a (base2 x)) rs (deepest (matches table2 (key_of (regs_after v.core v.log)) x) w.cache.rows))
+          (chain_of (fresh_of (place_of v w.cache.rows) a (stage2_base x)) rs (deepest (matches table2 (key_of (regs_after v.core v.log)) x) w.cache.rows))
       by_rows p x [] e = by_table p x (deepest (matches table2 (key_of (regs_after v.core v.log)) x) w.cache.rows) refl
       by_rows p x (r ∷ []) e =
           let h = leaf_of_row p x r (subst (In r) (sym e) (inl refl)) in
-          leaf_start r p x (fresh_of (place_of v w.cache.rows) a (base2 x)) r.trail h.0 h.1
+          leaf_start r p x (fresh_of (place_of v w.cache.rows) a (stage2_base x)) r.trail h.0 h.1
       by_rows p x (r ∷ s ∷ more) e =
           let t = matching (matches leaf2 (key_of (regs_after v.core v.log)) x) w.cache.rows in
           let apart : AllApart (r ∷ s ∷ more) = subst AllApart e (apart_matching (matches leaf2 (key_of (regs_after v.core v.log)) x) w.cache.rows f.apart) in
@@ -256,5 +257,5 @@ module _ (v : View) (w : Core) (f : Facts v w) where
           let is : In s t = subst (In s) (sym e) (inr (inl refl)) in
           (whole_of p x r (leaf_of_row p x r ir), whole_of p x s (leaf_of_row p x s is), two_differ p x r s (apart.0 s (inl refl)) ir is)
 
-      pub begins : (p : Bool) (x : ℕ) → Begins v rg p x (supply (place_of v w.cache.rows) a (base2 x))
+      pub begins : (p : Bool) (x : ℕ) → Begins v rg p x (supply (place_of v w.cache.rows) a (stage2_base x))
       begins p x = by_rows p x (matching (matches leaf2 (key_of (regs_after v.core v.log)) x) w.cache.rows) refl

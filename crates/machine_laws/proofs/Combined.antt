@@ -17,7 +17,7 @@ use Rattle.tlbi_ops.specs.Covers.{is_stage1}
 use Rattle.tagged_tlb.specs.declared.row.Key.{Key}
 use Rattle.tagged_tlb.specs.declared.row.Made.{Made}
 use Rattle.walk_spec.specs.Ask.{Ask, done, ask, Fed, ended, lacks}
-use Rattle.walk_spec.specs.Needs.{Regime, Need, base1, base2, word, fits}
+use Rattle.walk_spec.specs.Needs.{Regime, Need, stage1_base, stage2_base, word, fits}
 use Rattle.walk_spec.specs.Steps.{End, stops, reaches}
 use Rattle.walk_spec.specs.Stage1.{untagged}
 use Rattle.walk_spec.specs.BothStages.{Landing, walk}
@@ -77,8 +77,8 @@ LeavesAreWords (m ∷ ms) = (is_leaf m.part ≡ true → m.base ≡ false) × Le
 
 leaf_base : (r : Regime) (n : Need) (i : Item) → is_leaf (mark r n i).part ≡ true → (mark r n i).base ≡ false
 unfolding mark
-leaf_base r base1 i h = absurd cc
-leaf_base r (base2 x) i h = absurd cc
+leaf_base r stage1_base i h = absurd cc
+leaf_base r (stage2_base x) i h = absurd cc
 leaf_base r (word w) i h = refl
 
 leaves_words : {B : Type 0} (r : Regime) (t : Ask Need Item B) (xs : List Item) → LeavesAreWords (marks r t xs)

@@ -12,7 +12,7 @@ use Rattle.trails.specs.declared.step.Step.{Step}
 use Rattle.tlbi_ops.specs.declared.inval.Inval.{Inval}
 use Rattle.walk_spec.specs.declared.leaf.Leaf2.{Leaf2}
 use Rattle.walk_spec.specs.Ask.{Ask, done, ask, Fed, ended, lacks}
-use Rattle.walk_spec.specs.Needs.{Regime, Need, base2, word, WordNeed}
+use Rattle.walk_spec.specs.Needs.{Regime, Need, stage2_base, word, WordNeed}
 use Rattle.walk_spec.specs.Steps.{End, stops, reaches}
 use Rattle.walk_spec.specs.Stage2.{is_refused2}
 use Rattle.walk_spec.specs.Stage1.{untagged}
@@ -71,7 +71,7 @@ FineOf K v r t items (came (lacks n)) =
     (w : WordNeed) × (k : Item → Ask Need Item (End Landing)) × (n ≡ word w) × IsOn r t items (ask n k) × K items
     × (memory_after v.header v.log w.place ≡ None)
 FineOf K v r t items (clash one two) =
-    (x : ℕ) × (k : Item → Ask Need Item (End Landing)) × IsOn r t items (ask (base2 x) k)
+    (x : ℕ) × (k : Item → Ask Need Item (End Landing)) × IsOn r t items (ask (stage2_base x) k)
     × ((p : Bool) × (l : Leaf2) × IsOn r (chain r p x) one (done (reaches l)))
     × ((p : Bool) × (l : Leaf2) × IsOn r (chain r p x) two (done (reaches l)))
     × (last_entry one ≡ last_entry two → ⊥) × K (items ++ one) × K (items ++ two) × (is_refused2 r.config x ≡ false)
@@ -105,7 +105,7 @@ Begins v r p x (halts (clash one two)) = Whole v r p x one × Whole v r p x two 
 abbrev pub PlansAreFine : Type 0
 PlansAreFine =
     (v : View) (rows : List Row) (a : Access) → v.side ≡ side_of a.va →
-    ((p : Bool) (x : ℕ) → Begins v (regime_for (config_at v) a) p x (supply (place_of v rows) a (base2 x))) →
+    ((p : Bool) (x : ℕ) → Begins v (regime_for (config_at v) a) p x (supply (place_of v rows) a (stage2_base x))) →
     (p : Plan) → IsSound (regime_for (config_at v) a) p → (above : Option ℕ) → IsNow (now v) above →
     let t = flat (regime_for (config_at v) a) p in
     let r = serve (supply (place_of v rows) a) [] t in

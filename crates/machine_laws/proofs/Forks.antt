@@ -8,7 +8,7 @@ use Rattle.trails.specs.declared.item.Item.{Item}
 use Rattle.trails.specs.declared.outcome.Access.{Access}
 use Rattle.walk_spec.specs.declared.leaf.Leaf2.{Leaf2}
 use Rattle.walk_spec.specs.Ask.{Ask, done, ask, after, Stands, needs, bad, ends, on}
-use Rattle.walk_spec.specs.Needs.{Regime, Need, base2, fits}
+use Rattle.walk_spec.specs.Needs.{Regime, Need, stage2_base, fits}
 use Rattle.walk_spec.specs.Steps.{End, stops, reaches}
 use Rattle.walk_spec.specs.Stage1.{asked2, stands2}
 use Rattle.walk_spec.specs.Stage2.{is_refused2, walk2_behind}
@@ -48,8 +48,8 @@ need_is : {A : Type 0} (n m : Need) → ◌≡◌ {A = Stands Need Item A} (need
 need_is n m h = cc
 
 -- no question of stage 1 is for stage 2
-no_base2 : {A P : Type 0} (n : Need) (x : ℕ) → is_need1 n ≡ true → ◌≡◌ {A = Stands Need Item A} (needs n) (needs (base2 x)) → P
-no_base2 n x one h = absurd (both_ways (is_need1 n) (ap is_need1 (need_is n (base2 x) h)) one)
+no_base2 : {A P : Type 0} (n : Need) (x : ℕ) → is_need1 n ≡ true → ◌≡◌ {A = Stands Need Item A} (needs n) (needs (stage2_base x)) → P
+no_base2 n x one h = absurd (both_ways (is_need1 n) (ap is_need1 (need_is n (stage2_base x) h)) one)
 
 module _ (r : Regime) where
   -- a chain on which a twin ends is met, whatever comes behind it
@@ -67,12 +67,12 @@ module _ (r : Regime) where
 
   module _ (x : ℕ) (one : List Item) (l : Leaf2) (q : Bool) where
     abbrev Forks : Ask Need Item (End Landing) → List Item → Type 0
-    Forks t front = on (fits r) t front ≡ needs (base2 x) → IsMet (on (fits r) t (front ++ one))
+    Forks t front = on (fits r) t front ≡ needs (stage2_base x) → IsMet (on (fits r) t (front ++ one))
 
     -- behind one more item
     goes_on : (n : Need) (k : Item → Ask Need Item (End Landing)) (i : Item) (front : List Item) → Forks (k i) front → Forks (ask n k) (i ∷ front)
     goes_on n k i front next h =
-        let p = fit_needs (fits r n i) (on (fits r) (k i) front) (base2 x) h in
+        let p = fit_needs (fits r n i) (on (fits r) (k i) front) (stage2_base x) h in
         rw p.0 (next p.1)
 
     -- behind a chain comes a question of stage 1, or the end
@@ -86,7 +86,7 @@ module _ (r : Regime) where
       in_chain : (next : End Leaf2 → Result Need (End Landing)) → ((e : End Leaf2) (n : Need) → next e ≡ Ok n → is_need1 n ≡ true)
           → (t : Ask Need Item (End Leaf2)) (front : List Item) → IsWords t → Forks (after t (λ e. joined (next e) k)) front
       in_chain next first (done e) front w h = behind (next e) (first e) front h
-      in_chain next first (ask n m) [] w h = absurd (both_ways (needs_base n) w.1 (ap needs_base (need_is n (base2 x) h)))
+      in_chain next first (ask n m) [] w h = absurd (both_ways (needs_base n) w.1 (ap needs_base (need_is n (stage2_base x) h)))
       in_chain next first (ask n m) (i ∷ front) w h =
           goes_on n (λ j. after (m j) (λ e. joined (next e) k)) i front (in_chain next first (m i) front (w.2 i)) h
 
@@ -98,20 +98,20 @@ module _ (r : Regime) where
       forks (own n k) s [] h = no_base2 n x s.0 h
       forks (own n k) s (i ∷ front) h = goes_on n (λ i. flat r (k i)) i front (forks (k i) (s.2 i) front) h
       forks (via p y next k) s [] h =
-          let same : base2 y ≡ base2 x = need_is (base2 y) (base2 x) h in
+          let same : stage2_base y ≡ stage2_base x = need_is (stage2_base y) (stage2_base x) h in
           let at : y ≡ x = cc in
           let f : End Leaf2 → Ask Need Item (End Landing) = λ e. joined (next e) (λ i. flat r (k i)) in
           subst (λ z. IsMet (on (fits r) (after (chain r p z) f) one)) (sym at) (reached (subst (λ z. is_refused2 r.config z ≡ false) at s.0) p f)
       forks (via p y next k) s (i ∷ front) h =
           let t : Ask Need Item (End Leaf2) = walk2_behind (asked2 r p y) i.value in
-          goes_on (base2 y) (λ i. after (walk2_behind (asked2 r p y) i.value) (λ e. joined (next e) (λ i. flat r (k i)))) i front
+          goes_on (stage2_base y) (λ i. after (walk2_behind (asked2 r p y) i.value) (λ e. joined (next e) (λ i. flat r (k i)))) i front
           (in_chain (λ i. flat r (k i)) (λ j ys. forks (k j) (s.3 j) ys) next (λ e n is. (s.2 e n is).0) t front (words_behind (asked2 r p y) i.value)) h
 
 chain_if : (b : Bool) (t u : Ask Need Item (End Leaf2)) → b ≡ false → cond b u t ≡ t
 chain_if b t u off = rw off refl
 
 -- the walk of an access meets a front and a chain of stage 2 behind it
-pub fork_met : (c : Config) (a : Access) (front one : List Item) (x : ℕ) (q : Bool) (l : Leaf2) → stands c true a front ≡ needs (base2 x)
+pub fork_met : (c : Config) (a : Access) (front one : List Item) (x : ℕ) (q : Bool) (l : Leaf2) → stands c true a front ≡ needs (stage2_base x)
     → stands2 c (side_of a.va) q x one ≡ ends (reaches l) [] → IsMet (stands c true a (front ++ one))
 fork_met c a front one x q l asks reached =
     let r : Regime = regime_for c a in
@@ -121,4 +121,4 @@ fork_met c a front one x q l asks reached =
     twin_met r (chain r q x) (chain r p x) one (reaches l) f (twin_chain c (side_of a.va) (side_of a.va) q p x)
     (subst (λ t. on (fits r) t one ≡ ends (reaches l) []) (chain_if (is_refused2 r.config x) (chain r q x) _ ok) reached) in
     subst (λ t. IsMet (on (fits r) t (front ++ one))) is
-    (forks r x one l q met plan (laws_hold.sound c true a) front (subst (λ t. on (fits r) t front ≡ needs (base2 x)) (sym is) asks))
+    (forks r x one l q met plan (laws_hold.sound c true a) front (subst (λ t. on (fits r) t front ≡ needs (stage2_base x)) (sym is) asks))

@@ -9,14 +9,14 @@ use Rattle.fault_codes.specs.declared.fault.Fault.{Fault}
 use Rattle.trails.specs.declared.item.Item.{Item}
 use Rattle.trails.specs.declared.outcome.Access.{Access}
 use Rattle.table_reads.specs.Places.{is_too_large}
-use Rattle.table_reads.specs.declared.step.Step.{Step}
-use Rattle.table_reads.specs.declared.step.Step.TheVariants.{Reached, Stopped}
+use Rattle.table_reads.specs.declared.lead.Lead.{Lead}
+use Rattle.table_reads.specs.declared.lead.Lead.TheVariants.{Reached, Stopped}
 use Rattle.walk_spec.specs.declared.entry.Table1.{Table1}
 use Rattle.walk_spec.specs.declared.entry.Entry1.{Entry1}
 use Rattle.walk_spec.specs.declared.leaf.Leaf1.{Leaf1}
 use Rattle.walk_spec.specs.declared.leaf.Leaf2.{Leaf2}
 use Rattle.walk_spec.specs.Ask.{Ask, done, ask, after}
-use Rattle.walk_spec.specs.Needs.{Regime, Need, base1}
+use Rattle.walk_spec.specs.Needs.{Regime, Need, stage1_base}
 use Rattle.walk_spec.specs.Steps.{End, stops, reaches, step_then}
 use Rattle.walk_spec.specs.Stage2.{is_refused2}
 use Rattle.walk_spec.specs.Stage1.{Asked, fault1, entry1, step1, walk1_from, leaf1_of, is_readable}
@@ -122,7 +122,7 @@ module _ (r : Regime) (a : Access) (l : Landing) where
 
   -- THE LEAF OF STAGE 1
 
-  abbrev verdict : ℕ → Leaf1 → Bool → Step Leaf1 Table1
+  abbrev verdict : ℕ → Leaf1 → Bool → Lead Leaf1 Table1
   verdict left k refused = cond refused (Stopped (fault1 Permission left)) (Reached k)
 
   abbrev Below : Type 0
@@ -274,9 +274,9 @@ module _ (r : Regime) (a : Access) (l : Landing) where
   whole_cut : (b d : Bool) (xs : List Item) → b ≡ true → d ≡ false → IsOn r (flat r (whole_plan without b d)) xs There
       → CutAt r (flat r (whole_plan without b d)) (flat r (whole_plan with b d)) xs
   whole_cut true false xs e f h =
-      own_cut base1 (λ i. behind_plan without (is_too_large r.stage1 i.value) i.value) (λ i. behind_plan with (is_too_large r.stage1 i.value) i.value)
+      own_cut stage1_base (λ i. behind_plan without (is_too_large r.stage1 i.value) i.value) (λ i. behind_plan with (is_too_large r.stage1 i.value) i.value)
       (λ i ys g.
-      behind (mark r base1 i) (flat r (behind_plan without (is_too_large r.stage1 i.value) i.value))
+      behind (mark r stage1_base i) (flat r (behind_plan without (is_too_large r.stage1 i.value) i.value))
       (flat r (behind_plan with (is_too_large r.stage1 i.value) i.value)) ys (behind_cut (is_too_large r.stage1 i.value) i.value ys g)) xs h
   whole_cut true true xs e f h = absurd (both_ways true f refl)
   whole_cut false d xs e f h = absurd (both_ways false refl e)

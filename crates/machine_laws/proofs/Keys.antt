@@ -9,8 +9,8 @@ use Rattle.fault_codes.specs.declared.fault.Fault.{Fault}
 use Rattle.fault_codes.specs.declared.fault.Stage.TheVariants.{S1, S2}
 use Rattle.fault_codes.specs.declared.fault.Class.TheVariants.{Translation, AddressSize, Permission}
 use Rattle.trails.specs.declared.item.Item.{Item}
-use Rattle.table_reads.specs.declared.step.Step.{Step as Step1}
-use Rattle.table_reads.specs.declared.step.Step.TheVariants.{Down}
+use Rattle.table_reads.specs.declared.lead.Lead.{Lead}
+use Rattle.table_reads.specs.declared.lead.Lead.TheVariants.{Down}
 use Rattle.table_reads.specs.Places.{is_too_large}
 use Rattle.tlbi_ops.specs.Covers.{is_stage1}
 use Rattle.walk_spec.specs.declared.entry.Table1.{Table1}
@@ -18,7 +18,7 @@ use Rattle.walk_spec.specs.declared.entry.Entry1.{Entry1}
 use Rattle.walk_spec.specs.declared.leaf.Leaf1.{Leaf1}
 use Rattle.walk_spec.specs.declared.leaf.Leaf2.{Leaf2}
 use Rattle.walk_spec.specs.Ask.{Ask, done, ask, after, go_on, finer}
-use Rattle.walk_spec.specs.Needs.{Regime, Need, base1, base2, word, WordNeed, fits, mapping_of, class_by}
+use Rattle.walk_spec.specs.Needs.{Regime, Need, stage1_base, stage2_base, word, WordNeed, fits, mapping_of, class_by}
 use Rattle.walk_spec.specs.Steps.{End, stops, reaches, step_then}
 use Rattle.walk_spec.specs.Stage2.{fault2, leaf2_of, step2, walk2_from, is_refused2, walk2}
 use Rattle.walk_spec.specs.Stage1.{Asked, asked2, fault1, entry1, step1, walk1_from, leaf1_of, is_readable, read1, read1_by, word_of, stage1_from}
@@ -141,8 +141,8 @@ keys2_are r p x xs ys l m h k e = class2_same r xs ys l m (ends_chain r p x xs l
 -- WHAT FOLLOWS THE LAST ITEM OF STAGE 1
 
 fit_first : (r : Regime) (n : Need) (i : Item) → fits r n i ≡ true → is_stage1 i.stage ≡ is_need1 n
-fit_first r base1 i h = ap is_stage1 (fits_base1_parts r i h).1
-fit_first r (base2 x) i h = ap is_stage1 (fits_base2_parts r x i h).1
+fit_first r stage1_base i h = ap is_stage1 (fits_base1_parts r i h).1
+fit_first r (stage2_base x) i h = ap is_stage1 (fits_base2_parts r x i h).1
 fit_first r (word w) i h = ap is_stage1 (fits_word_parts r w i h).stage
 
 -- all items are of stage 2
@@ -289,29 +289,29 @@ module _ (r : Regime) (a : Access) where
     abbrev E : Entry1
     E = entry1 Q left t
 
-    abbrev Step : Item → Ask Need Item (End Leaf1)
-    Step i = Fine (step_then below (step1 Q E i.pa i.value))
+    abbrev Lead : Item → Ask Need Item (End Leaf1)
+    Lead i = Fine (step_then below (step1 Q E i.pa i.value))
 
     abbrev Go : Result Item Fault → Ask Need Item (End Leaf1)
-    Go = go_on stops Step
+    Go = go_on stops Lead
 
     abbrev Level : Ask Need Item (End Leaf1)
     Level = after (word_of r E) Go
 
     -- the word was the leaf, or others follow
-    step_end : (i : Item) (xs : List Item) (l : Leaf1) → Turn1 r left i → IsOn r (Step i) xs (done (reaches l))
-        → ((xs ≡ []) × (l.class ≡ class_at1 r left i.pa i.value)) ⊎ Ends1 r (Step i) xs l
+    step_end : (i : Item) (xs : List Item) (l : Leaf1) → Turn1 r left i → IsOn r (Lead i) xs (done (reaches l))
+        → ((xs ≡ []) × (l.class ≡ class_at1 r left i.pa i.value)) ⊎ Ends1 r (Lead i) xs l
     step_end i xs l (goes_down next bits al d) h =
         let n : Table1 = record { address = next; bits = joined_bits t.bits bits } in
         let s : step1 Q E i.pa i.value ≡ Down n = d false a t in
-        inr (subst (λ (z : Step1 Leaf1 Table1). Ends1 r (Fine (step_then below z)) xs l) (sym s)
-        (rec n xs l (subst (λ (z : Step1 Leaf1 Table1). IsOn r (Fine (step_then below z)) xs (done (reaches l))) s h)))
+        inr (subst (λ (z : Lead Leaf1 Table1). Ends1 r (Fine (step_then below z)) xs l) (sym s)
+        (rec n xs l (subst (λ (z : Lead Leaf1 Table1). IsOn r (Fine (step_then below z)) xs (done (reaches l))) s h)))
     step_end i xs l (maps f m d) h =
         let g = leaf1_end r (leaf1_of r E i.pa f) xs l
-        (subst (λ (z : Step1 Leaf1 Table1). IsOn r (Fine (step_then below z)) xs (done (reaches l))) (d false a t) h) in
+        (subst (λ (z : Lead Leaf1 Table1). IsOn r (Fine (step_then below z)) xs (done (reaches l))) (d false a t) h) in
         inl (g.0, ap (λ z. z.class) g.1 ∙ rw m refl)
     step_end i xs l (faults k d) h =
-        absurd (stop1_end r (fault1 k left) xs l (subst (λ (z : Step1 Leaf1 Table1). IsOn r (Fine (step_then below z)) xs (done (reaches l))) (d false a t) h))
+        absurd (stop1_end r (fault1 k left) xs l (subst (λ (z : Lead Leaf1 Table1). IsOn r (Fine (step_then below z)) xs (done (reaches l))) (d false a t) h))
 
     level_here : (front : List Item) (i : Item) (l : Leaf1) → IsOn r (word_of r E) front (done (Ok i)) → l.class ≡ class_at1 r left i.pa i.value
         → Ends1 r Level front l
@@ -331,11 +331,11 @@ module _ (r : Regime) (a : Access) where
           class_is = c;
         }
 
-    level_more : (front rest : List Item) (i : Item) (l : Leaf1) → IsOn r (word_of r E) front (done (Ok i)) → Ends1 r (Step i) rest l
+    level_more : (front rest : List Item) (i : Item) (l : Leaf1) → IsOn r (word_of r E) front (done (Ok i)) → Ends1 r (Lead i) rest l
         → Ends1 r Level (front ++ rest) l
     level_more front rest i l h d =
-        let m : marks r Level (front ++ rest) ≡ marks r Level front ++ marks r (Step i) rest =
-        marks_append r Level (Step i) front rest (on_after r (word_of r E) (done (Ok i)) Go front h) in
+        let m : marks r Level (front ++ rest) ≡ marks r Level front ++ marks r (Lead i) rest =
+        marks_append r Level (Lead i) front rest (on_after r (word_of r E) (done (Ok i)) Go front h) in
         record {
           item = d.item;
           left = d.left;
@@ -343,14 +343,14 @@ module _ (r : Regime) (a : Access) where
           last = last_app front rest d.item d.last;
           stage = d.stage;
           level = d.level;
-          mark_last = subst (λ ms. LastIs ms d.mark_of) (sym m) (last_app (marks r Level front) (marks r (Step i) rest) d.mark_of d.mark_last);
+          mark_last = subst (λ ms. LastIs ms d.mark_of) (sym m) (last_app (marks r Level front) (marks r (Lead i) rest) d.mark_of d.mark_last);
           first = d.first;
           part = d.part;
           class_is = d.class_is;
         }
 
     level_by : (front rest : List Item) (i : Item) (l : Leaf1) → IsOn r (word_of r E) front (done (Ok i))
-        → ((rest ≡ []) × (l.class ≡ class_at1 r left i.pa i.value)) ⊎ Ends1 r (Step i) rest l → Ends1 r Level (front ++ rest) l
+        → ((rest ≡ []) × (l.class ≡ class_at1 r left i.pa i.value)) ⊎ Ends1 r (Lead i) rest l → Ends1 r Level (front ++ rest) l
     level_by front rest i l h (inl g) =
         subst (λ (v : List Item). Ends1 r Level v l) (sym (ap (λ v. front ++ v) g.0 ∙ append-nil front)) (level_here front i l h g.1)
     level_by front rest i l h (inr g) = level_more front rest i l h g
@@ -374,7 +374,7 @@ module _ (r : Regime) (a : Access) where
   ends1_behind true base xs l h = absurd (stop1_end r (fault1 AddressSize most_left) xs l h)
   ends1_behind false base xs l h = ends1_from r.stage1.start (root_table base) xs l h
 
-  ends1_base : (xs : List Item) (l : Leaf1) → let t = ask base1 (λ i. stage1_behind Q i.value) in IsOn r t xs (done (reaches l)) → Ends1 r t xs l
+  ends1_base : (xs : List Item) (l : Leaf1) → let t = ask stage1_base (λ i. stage1_behind Q i.value) in IsOn r t xs (done (reaches l)) → Ends1 r t xs l
   ends1_base [] l h = absurd cc
   ends1_base (i ∷ xs) l h =
       let d = ends1_behind (is_too_large r.stage1 i.value) i.value xs l h.1 in
@@ -385,7 +385,7 @@ module _ (r : Regime) (a : Access) where
         last = last_cons i xs d.item d.last;
         stage = d.stage;
         level = d.level;
-        mark_last = last_cons (mark r base1 i) (marks r (stage1_behind Q i.value) xs) d.mark_of d.mark_last;
+        mark_last = last_cons (mark r stage1_base i) (marks r (stage1_behind Q i.value) xs) d.mark_of d.mark_last;
         first = d.first;
         part = d.part;
         class_is = d.class_is;
@@ -394,7 +394,7 @@ module _ (r : Regime) (a : Access) where
   -- stage 1 that is on and doesn't refuse the access
   ends1 : (xs : List Item) (l : Leaf1) → r.config.m ≡ true → is_refused1 r.config a ≡ false → IsOn r (stage1 Q) xs (done (reaches l)) → Ends1 r (stage1 Q) xs l
   ends1 xs l on ok h =
-      let e : stage1 Q ≡ ask base1 (λ i. stage1_behind Q i.value) = on_case r.config.m (is_refused1 r.config a) _ _ _ on ok in
+      let e : stage1 Q ≡ ask stage1_base (λ i. stage1_behind Q i.value) = on_case r.config.m (is_refused1 r.config a) _ _ _ on ok in
       subst (λ t. Ends1 r t xs l) (sym e) (ends1_base xs l (subst (λ t. IsOn r t xs (done (reaches l))) e h))
 
 -- BOTH STAGES

@@ -16,8 +16,8 @@ use Rattle.permissions.specs.Rights.{no_bits}
 use Rattle.descriptors.specs.declared.kinds.Kind1.{Kind1}
 use Rattle.descriptors.specs.declared.kinds.Kind1.TheVariants.{Invalid, Table, Leaf}
 use Rattle.descriptors.specs.Meaning.{means1_of}
-use Rattle.table_reads.specs.declared.step.Step.{Step as TableStep}
-use Rattle.table_reads.specs.declared.step.Step.TheVariants.{Down, Reached, Stopped}
+use Rattle.table_reads.specs.declared.lead.Lead.{Lead}
+use Rattle.table_reads.specs.declared.lead.Lead.TheVariants.{Down, Reached, Stopped}
 use Rattle.table_reads.specs.Places.{is_too_large}
 use Rattle.trails.specs.declared.item.Item.{Item}
 use Rattle.trails.specs.declared.outcome.Access.{Access}
@@ -30,7 +30,7 @@ use Rattle.walk_spec.specs.declared.entry.Entry1.{Entry1}
 use Rattle.walk_spec.specs.declared.leaf.Leaf1.{Leaf1}
 use Rattle.walk_spec.specs.declared.leaf.Leaf2.{Leaf2}
 use Rattle.walk_spec.specs.Ask.{Ask, done, ask, after, go_on, finer}
-use Rattle.walk_spec.specs.Needs.{Regime, Need, base1, base2, word, fits, sizes_of, mapping1, mapping_of, class_by, region_of}
+use Rattle.walk_spec.specs.Needs.{Regime, Need, stage1_base, stage2_base, word, fits, sizes_of, mapping1, mapping_of, class_by, region_of}
 use Rattle.walk_spec.specs.Steps.{End, stops, reaches, step_then}
 use Rattle.walk_spec.specs.Stage2.{is_refused2, walk2_behind, walk2}
 use Rattle.walk_spec.specs.Stage1.{Asked, asked2, untagged, fault1, step1, entry1, walk1_from, read1, is_readable, read1_by, word_of, stage1_from}
@@ -61,14 +61,14 @@ use Rattle.machine_laws.proofs.Longer.{regs_now, OfBoth, both_second, both_same,
 -- a table or a leaf is a word
 pub table_word : (r : Regime) (n : Need) (i : Item) (b : Bool) → (mark r n i).part ≡ table b → (mark r n i).base ≡ false
 unfolding mark
-table_word r base1 i b h = absurd cc
-table_word r (base2 x) i b h = absurd cc
+table_word r stage1_base i b h = absurd cc
+table_word r (stage2_base x) i b h = absurd cc
 table_word r (word w) i b h = refl
 
 leaf_word : (r : Regime) (n : Need) (i : Item) (b : Bool) → (mark r n i).part ≡ leaf_of_stage2 b → (mark r n i).base ≡ false
 unfolding mark
-leaf_word r base1 i b h = absurd cc
-leaf_word r (base2 x) i b h = absurd cc
+leaf_word r stage1_base i b h = absurd cc
+leaf_word r (stage2_base x) i b h = absurd cc
 leaf_word r (word w) i b h = refl
 
 second_asid : (m : Mark) → is_first m ≡ false → has_asid m ≡ true → {P : Type 0} → P
@@ -78,13 +78,13 @@ second_asid m f h = absurd (both_ways (has_asid m) (rw f refl) h)
 
 -- a question of stage 1 is for this address, with no more than so many levels left
 abbrev IsFor : ℕ → ℕ → Need → Type 0
-IsFor k x base1 = Unit {0}
-IsFor k x (base2 y) = Unit {0}
+IsFor k x stage1_base = Unit {0}
+IsFor k x (stage2_base y) = Unit {0}
 IsFor k x (word w) = is_stage1 w.stage ≡ true → (w.left ≤ k) × (w.address ≡ x)
 
 for_second : (k x : ℕ) (n : Need) → IsStage2 n → IsFor k x n
-for_second k x base1 h = absurd h
-for_second k x (base2 y) h = tt
+for_second k x stage1_base h = absurd h
+for_second k x (stage2_base y) h = tt
 for_second k x (word w) h = λ f. absurd (both_ways (is_stage1 w.stage) (ap is_stage1 h) f)
 
 module _ (P : Need → Type 0) where
@@ -129,7 +129,7 @@ module _ (q : Asked) where
       (asks_after For (walk2 (asked2 q.regime true e.place)) (read1_by q.regime.config e) (for_walk2 true e.place) (λ d. for_read_by left t d l))
       (for_read left t e.place l)
 
-  for_step : (below : Table1 → Ask Entry1 Item (End Leaf1)) (s : TableStep Leaf1 Table1)
+  for_step : (below : Table1 → Ask Entry1 Item (End Leaf1)) (s : Lead Leaf1 Table1)
       → ((t : Table1) → Asks For (finer stops (word_of q.regime) (below t))) → Asks For (finer stops (word_of q.regime) (step_then below s))
   for_step below (Down t) h = h t
   for_step below (Reached l) h = tt
@@ -158,7 +158,7 @@ module _ (q : Asked) where
   for_stage1 : Asks For (stage1 q)
   for_stage1 =
       asks_if For q.regime.config.m (stage1_on q) (stage1_off q)
-      (asks_if For (is_refused1 q.regime.config q.access) (done (stops (fault1 Translation most_left))) (ask base1 (λ i. stage1_behind q i.value)) tt
+      (asks_if For (is_refused1 q.regime.config q.access) (done (stops (fault1 Translation most_left))) (ask stage1_base (λ i. stage1_behind q i.value)) tt
       (tt, λ i. for_behind i.value)) tt
 
   for_output : (e : End Leaf1) → Asks For (stage2_behind q e)
@@ -188,8 +188,8 @@ near_word r S2 left value pa b f h l = absurd cc
 
 near_mark : (r : Regime) (x : ℕ) (n : Need) (i : Item) → IsFor r.stage1.start x n → IsNearTable r x (mark r n i)
 unfolding mark
-near_mark r x base1 i h = λ f b e. absurd cc
-near_mark r x (base2 y) i h = λ f b e. absurd cc
+near_mark r x stage1_base i h = λ f b e. absurd cc
+near_mark r x (stage2_base y) i h = λ f b e. absurd cc
 near_mark r x (word w) i h = λ f b e. (near_word r w.stage w.left i.value i.pa b f e (h f).0, ap (λ z. z / 2 ^ (region_of r w i).class) (h f).1)
 
 abbrev AllNear : Regime → ℕ → List Mark → Type 0
@@ -552,16 +552,16 @@ module _ (laws : Laws) (v : View) (s : Step) (none : (i : Inval) → issued_now 
         let more : (i : Item) → IsSound R (k i) = assumption sound in
         let go : End Leaf2 → Walk = λ e. joined (next e) (λ i. flat R (k i)) in
         let begun : Item → Ask Need Item (End Leaf2) = λ i. walk2_behind (asked2 R p x) i.value in
-        let m : Mark = mark R (base2 x) y in
+        let m : Mark = mark R (stage2_base x) y in
         let rest : List Mark = marks R (after (begun y) go) ys in
         let d = used_drop (Good v) None (marks R (here v a) whole) (m ∷ rest) u in
         let eq : marks R (chain R p x) (y ∷ []) ++ rest ≡ m ∷ rest = ap (λ z. m ∷ (z ++ rest)) (marks_nil R (begun y)) in
-        rows_more (base2 x) y false true whole part rest refl refl
-        (none_at (whole ++ y ∷ []) (y ∷ []) (base2 x) y refl)
+        rows_more (stage2_base x) y false true whole part rest refl refl
+        (none_at (whole ++ y ∷ []) (y ∷ []) (stage2_base x) y refl)
         (rows_chain p x sound.0 go w (λ e w2 p2 x2 on2 h2 u2. rows_rest (next e) k (λ n q. (okay e n q).0) (λ i. rows_plan (k i) (more i)) w2 p2 x2 w on2 h2 u2)
         (begun y) (whole ++ y ∷ []) (y ∷ []) ys d.0 (laws.behind_words R p x y.value) (h.0, refl)
         (on_append R (here v a) (flat R (via p x next k)) (after (begun y) go) whole (y ∷ []) on (h.0, refl)) h.1
-        (uses_on whole (base2 x) (λ i. after (begun i) go) y ys on u) (subst (AllUsed (Good v) d.0) (sym eq) d.1))
+        (uses_on whole (stage2_base x) (λ i. after (begun i) go) y ys on u) (subst (AllUsed (Good v) d.0) (sym eq) d.1))
 
     -- the rows of all words of a walk
     pub rows_of_words : (trail : List Item) (u : Walk) → IsOn R (here v a) trail u → AllUsed (Good v) None (marks R (here v a) trail) → (r : Row)

@@ -10,7 +10,7 @@ use Rattle.trails.specs.declared.item.Item.{Item}
 use Rattle.trails.specs.declared.item.What.{What}
 use Rattle.trails.specs.declared.item.What.TheVariants.{Base, Word}
 use Rattle.walk_spec.specs.Ask.{Ask, done, ask, on}
-use Rattle.walk_spec.specs.Needs.{Regime, Need, base1, base2, word, WordNeed, fits, is_word, is_base, stage_eq, level_eq, is_run_mate, Region, region_of, sizes_of}
+use Rattle.walk_spec.specs.Needs.{Regime, Need, stage1_base, stage2_base, word, WordNeed, fits, is_word, is_base, stage_eq, level_eq, is_run_mate, Region, region_of, sizes_of}
 use Rattle.walk_laws.proofs.Stepping.{Takes, InStep}
 use Rattle.walk_laws.proofs.Places.{SameRegion, first_of_and, second_of_and}
 use Rattle.walk_laws.proofs.Tables2.{level_of_one}
@@ -57,13 +57,13 @@ fits_word_parts r w i h =
       level = level_is i.level (level_of w.left) (second_of_and (is_word i.what && stage_eq i.stage w.stage) (level_eq i.level (level_of w.left)) a);
     }
 
-pub fits_base1_parts : (r : Regime) (i : Item) → fits r base1 i ≡ true → (i.what ≡ Base) × (i.stage ≡ S1)
+pub fits_base1_parts : (r : Regime) (i : Item) → fits r stage1_base i ≡ true → (i.what ≡ Base) × (i.stage ≡ S1)
 unfolding fits
 fits_base1_parts r i h =
     let d = first_of_and _ _ (first_of_and _ _ (first_of_and _ _ (first_of_and _ _ h))) in
     (is_base_of i.what (first_of_and (is_base i.what) (stage_eq i.stage S1) d), stage_is i.stage S1 (second_of_and (is_base i.what) (stage_eq i.stage S1) d))
 
-pub fits_base2_parts : (r : Regime) (x : ℕ) (i : Item) → fits r (base2 x) i ≡ true → (i.what ≡ Base) × (i.stage ≡ S2)
+pub fits_base2_parts : (r : Regime) (x : ℕ) (i : Item) → fits r (stage2_base x) i ≡ true → (i.what ≡ Base) × (i.stage ≡ S2)
 unfolding fits
 fits_base2_parts r x i h =
     let d = first_of_and _ _ (first_of_and _ _ (first_of_and _ _ (first_of_and _ _ h))) in
@@ -91,14 +91,14 @@ mark_words r w v i e g =
 -- an item of one region for two needs that it fits has one mark
 pub same_mark : (r : Regime) (m n : Need) (i : Item) → fits r m i ≡ true → fits r n i ≡ true → SameRegion r m n i → mark r m i ≡ mark r n i
 unfolding mark
-same_mark r base1 base1 i f g s = refl
-same_mark r base1 (base2 y) i f g s = (let q : S1 ≡ S2 = sym (fits_base1_parts r i f).1 ∙ (fits_base2_parts r y i g).1 in absurd cc)
-same_mark r base1 (word v) i f g s = absurd cc
-same_mark r (base2 x) base1 i f g s = (let q : S1 ≡ S2 = sym (fits_base1_parts r i g).1 ∙ (fits_base2_parts r x i f).1 in absurd cc)
-same_mark r (base2 x) (base2 y) i f g s = refl
-same_mark r (base2 x) (word v) i f g s = absurd cc
-same_mark r (word w) base1 i f g s = absurd cc
-same_mark r (word w) (base2 y) i f g s = absurd cc
+same_mark r stage1_base stage1_base i f g s = refl
+same_mark r stage1_base (stage2_base y) i f g s = (let q : S1 ≡ S2 = sym (fits_base1_parts r i f).1 ∙ (fits_base2_parts r y i g).1 in absurd cc)
+same_mark r stage1_base (word v) i f g s = absurd cc
+same_mark r (stage2_base x) stage1_base i f g s = (let q : S1 ≡ S2 = sym (fits_base1_parts r i g).1 ∙ (fits_base2_parts r x i f).1 in absurd cc)
+same_mark r (stage2_base x) (stage2_base y) i f g s = refl
+same_mark r (stage2_base x) (word v) i f g s = absurd cc
+same_mark r (word w) stage1_base i f g s = absurd cc
+same_mark r (word w) (stage2_base y) i f g s = absurd cc
 same_mark r (word w) (word v) i f g s = mark_words r w v i (same_word w v i (fits_word_parts r w i f) (fits_word_parts r v i g)) (same_Some _ _ s)
 
 module _ {A : Type 0} (r : Regime) where

@@ -21,7 +21,7 @@ use Rattle.trace_lang.specs.declared.header.Size.TheVariants.{NoRows}
 use Rattle.tlbi_ops.specs.declared.inval.Inval.{Inval}
 use Rattle.tlbi_ops.specs.Operands.{reaches_core}
 use Rattle.walk_spec.specs.Ask.{Ask, done, ask, lacks, fed_items, fed_end, with_answer}
-use Rattle.walk_spec.specs.Needs.{Need, base1, base2, word, WordNeed, needed_item}
+use Rattle.walk_spec.specs.Needs.{Need, stage1_base, stage2_base, word, WordNeed, needed_item}
 use Rattle.walk_spec.specs.Steps.{End}
 use Rattle.walk_spec.specs.BothStages.{Landing, is_refused1, walk}
 use Rattle.walk_spec.specs.Fresh.{start_base1, start_base2, given, fresh_items, fresh_outcome}
@@ -77,8 +77,8 @@ fed_at p a = fed_reply (given_at p a) (walk (config_of p.regs) true a)
 
 -- no row supplies anything
 supply_bare : (regs : Regs) (m : Memory) (k : ℕ) (a : Access) (n : Need) → supply (bare regs m k) a n ≡ supplied_by n (given_at (bare regs m k) a n)
-supply_bare regs m k a base1 = refl
-supply_bare regs m k a (base2 x) = refl
+supply_bare regs m k a stage1_base = refl
+supply_bare regs m k a (stage2_base x) = refl
 supply_bare regs m k a (word w) = refl
 
 either_way : {X : Type 0} (b : Bool) (x y : X) → x ≡ y → cond b x x ≡ y
@@ -115,8 +115,8 @@ not_below k = elim (cases_Bool (nat_lt k k)) [ inl t ↦ (let lt = ltb-true k k 
 module _ (regs : Regs) (s : Side) (m : Memory) (k : ℕ) where
   -- what is given has this moment
   given_now : (n : Need) (i : Item) → given regs s m k n ≡ Some i → is_earlier k i ≡ false
-  given_now base1 i h = subst (λ (j : Item). is_earlier k j ≡ false) (same_Some _ i h) (not_below k)
-  given_now (base2 x) i h = subst (λ (j : Item). is_earlier k j ≡ false) (same_Some _ i h) (not_below k)
+  given_now stage1_base i h = subst (λ (j : Item). is_earlier k j ≡ false) (same_Some _ i h) (not_below k)
+  given_now (stage2_base x) i h = subst (λ (j : Item). is_earlier k j ≡ false) (same_Some _ i h) (not_below k)
   given_now (word w) i h = let g = mapped_from (needed_item k w) (m w.place) i h in subst (λ (j : Item). is_earlier k j ≡ false) g.2 (not_below k)
 
   word_same : (w : WordNeed) (v : ℕ) → m w.place ≡ Some v → is_changed regs s m (needed_item k w v) ≡ false
@@ -124,8 +124,10 @@ module _ (regs : Regs) (s : Side) (m : Memory) (k : ℕ) where
 
   -- and differs from now in nothing
   given_same : (n : Need) (i : Item) → given regs s m k n ≡ Some i → is_changed regs s m i ≡ false
-  given_same base1 i h = subst (λ (j : Item). is_changed regs s m j ≡ false) (same_Some _ i h) (ap not (eq-eqb (start_base1 regs s) (start_base1 regs s) refl))
-  given_same (base2 x) i h = subst (λ (j : Item). is_changed regs s m j ≡ false) (same_Some _ i h) (ap not (eq-eqb (start_base2 regs) (start_base2 regs) refl))
+  given_same stage1_base i h = subst (λ (j : Item). is_changed regs s m j ≡ false) (same_Some _ i h)
+      (ap not (eq-eqb (start_base1 regs s) (start_base1 regs s) refl))
+  given_same (stage2_base x) i h = subst (λ (j : Item). is_changed regs s m j ≡ false) (same_Some _ i h)
+      (ap not (eq-eqb (start_base2 regs) (start_base2 regs) refl))
   given_same (word w) i h =
       let g = mapped_from (needed_item k w) (m w.place) i h in
       subst (λ (j : Item). is_changed regs s m j ≡ false) g.2 (word_same w g.0 g.1)

@@ -11,7 +11,7 @@ use Rattle.trails.specs.declared.item.Item.{Item}
 use Rattle.trails.specs.declared.outcome.Access.{Access}
 use Rattle.tagged_tlb.specs.declared.row.Key.{Key}
 use Rattle.walk_spec.specs.Ask.{Ask}
-use Rattle.walk_spec.specs.Needs.{Need, base1, base2, word}
+use Rattle.walk_spec.specs.Needs.{Need, stage1_base, stage2_base, word}
 use Rattle.walk_spec.specs.Steps.{End}
 use Rattle.walk_spec.specs.Stage1.{untagged}
 use Rattle.walk_spec.specs.BothStages.{Landing, is_refused1, walk}
@@ -88,9 +88,9 @@ module _ (p : Place) (a : Access) where
   fresh_named n = supplied_none own_rows n (given p.regs (side_of a.va) p.memory p.step n)
 
   supply_named : (n : Need) → NamesLive own_rows (supply p a n)
-  supply_named base1 = fresh_named base1
-  supply_named (base2 x) =
-      chain_of_named own_rows (fresh_of p a (base2 x)) (fresh_named (base2 x)) (matching (matches leaf2 (key_of p.regs) x) p.rows)
+  supply_named stage1_base = fresh_named stage1_base
+  supply_named (stage2_base x) =
+      chain_of_named own_rows (fresh_of p a (stage2_base x)) (fresh_named (stage2_base x)) (matching (matches leaf2 (key_of p.regs) x) p.rows)
       (deepest (matches table2 (key_of p.regs) x) p.rows) (matched_own leaf2 x) (deepest_own table2 x)
   supply_named (word w) = fresh_named (word w)
 

@@ -16,7 +16,7 @@ use Rattle.walk_spec.specs.declared.entry.Entry1.{Entry1}
 use Rattle.walk_spec.specs.declared.leaf.Leaf1.{Leaf1}
 use Rattle.walk_spec.specs.declared.leaf.Leaf2.{Leaf2}
 use Rattle.walk_spec.specs.Ask.{Ask, done, ask, after, go_on, finer}
-use Rattle.walk_spec.specs.Needs.{Regime, Need, base1, word}
+use Rattle.walk_spec.specs.Needs.{Regime, Need, stage1_base, word}
 use Rattle.walk_spec.specs.Steps.{End, stops, reaches}
 use Rattle.walk_spec.specs.Stage2.{fault2, is_refused2}
 use Rattle.walk_spec.specs.Stage1.{Asked, asked2, fault1, walk1_from, is_readable, read1, read1_by, word_of}
@@ -79,7 +79,8 @@ abbrev pub off_end : Asked → End Leaf1
 off_end q = cond (is_refused_off q.regime.config q.access) (stops (fault1 AddressSize most_left)) (reaches (off_leaf q.regime.config q.access))
 
 abbrev pub on_plan : Asked → Bool → Plan
-on_plan q refused = cond refused (fin (stops (fault1 Translation most_left))) (own base1 (λ i. behind_plan q (is_too_large q.regime.stage1 i.value) i.value))
+on_plan q refused = cond refused (fin (stops (fault1 Translation most_left)))
+    (own stage1_base (λ i. behind_plan q (is_too_large q.regime.stage1 i.value) i.value))
 
 abbrev pub whole_plan : Asked → (on refused : Bool) → Plan
 whole_plan q on refused = cond on (on_plan q refused) (out_of q (off_end q))
@@ -154,9 +155,10 @@ module _ (q : Asked) where
   behind_is false base = from_is q.regime.stage1.start (root_table base)
 
   whole_is : (b d : Bool) → flat q.regime (whole_plan q b d)
-      ≡ after (cond b (cond d (done (stops (fault1 Translation most_left))) (ask base1 (λ i. stage1_behind q i.value))) (done (off_end q))) (stage2_behind q)
+      ≡ after (cond b (cond d (done (stops (fault1 Translation most_left))) (ask stage1_base (λ i. stage1_behind q i.value))) (done (off_end q)))
+      (stage2_behind q)
   whole_is true true = refl
-  whole_is true false = ap (ask base1) (fun_ext (λ i. behind_is (is_too_large q.regime.stage1 i.value) i.value))
+  whole_is true false = ap (ask stage1_base) (fun_ext (λ i. behind_is (is_too_large q.regime.stage1 i.value) i.value))
   whole_is false d = out_is (off_end q)
 
   pub plan_by_is : flat q.regime (plan_by q) ≡ walk_by q

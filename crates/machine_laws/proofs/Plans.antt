@@ -12,7 +12,7 @@ use Rattle.trails.specs.declared.item.Item.{Item}
 use Rattle.trails.specs.declared.outcome.Access.{Access}
 use Rattle.walk_spec.specs.declared.leaf.Leaf2.{Leaf2}
 use Rattle.walk_spec.specs.Ask.{Ask, done, ask, after, lacks}
-use Rattle.walk_spec.specs.Needs.{Regime, Need, base1, base2, word, WordNeed, fits, needed_item}
+use Rattle.walk_spec.specs.Needs.{Regime, Need, stage1_base, stage2_base, word, WordNeed, fits, needed_item}
 use Rattle.walk_spec.specs.Steps.{End, stops, reaches}
 use Rattle.walk_spec.specs.Stage2.{walk2_behind}
 use Rattle.walk_spec.specs.Stage1.{asked2}
@@ -46,7 +46,7 @@ fresh_word v r w value h = record { now_is = refl; base = λ b. absurd (both_way
 abbrev first_base : View → Access → Item
 first_base v a = base_item (now v) S1 (sizes1 (config_at v) (side_of a.va)) (start_base1 (regs_after v.core v.log) (side_of a.va))
 
-fresh_base1 : (v : View) (r : Regime) (a : Access) → v.side ≡ side_of a.va → IsFresh v (mark r base1 (first_base v a))
+fresh_base1 : (v : View) (r : Regime) (a : Access) → v.side ≡ side_of a.va → IsFresh v (mark r stage1_base (first_base v a))
 unfolding mark
 fresh_base1 v r a side = record { now_is = refl; base = λ b. ap (start_base1 (regs_after v.core v.log)) side; word = λ b. absurd (both_ways true b refl) }
 
@@ -100,8 +100,8 @@ module _ (laws : Laws) (v : View) (rows : List Row) (a : Access) where
 
   ran : (t : Ask Need Item (End Leaf2)) (f : End Leaf2 → Ask Need Item (End Landing)) → IsWords t → Ran t f (serve sup [] (after t f))
   ran (done e) f h = record { items = []; left = done e; on = refl; fresh = tt; how = inl (e, refl, refl) }
-  ran (ask base1 k) f h = absurd (both_ways true h.1 refl)
-  ran (ask (base2 x) k) f h = absurd (both_ways true h.1 refl)
+  ran (ask stage1_base k) f h = absurd (both_ways true h.1 refl)
+  ran (ask (stage2_base x) k) f h = absurd (both_ways true h.1 refl)
   ran (ask (word w) k) f h = ran_word w k f (λ i. ran (k i) f (h.2 i)) (memory_after v.header v.log w.place) refl
 
   -- A WHOLE CHAIN
@@ -128,8 +128,8 @@ module _ (laws : Laws) (v : View) (rows : List Row) (a : Access) where
   base_alone : (s : Stage) (p : Bool) (x : ℕ) (i : Item) (q : List Item) → q ≡ [] → i.moment ≡ now v →
       LastIs (IsNowOf s (now v)) (marks rg (chain rg p x) (i ∷ q))
   base_alone s p x i q e h =
-      let m : Mark = mark rg (base2 x) i in
-      let at : m.item.moment ≡ now v = ap (λ (i : Item). i.moment) (mark_item rg (base2 x) i) ∙ h in
+      let m : Mark = mark rg (stage2_base x) i in
+      let at : m.item.moment ≡ now v = ap (λ (i : Item). i.moment) (mark_item rg (stage2_base x) i) ∙ h in
       subst (λ q. LastIs (IsNowOf s (now v)) (marks rg (chain rg p x) (i ∷ q))) (sym e)
       (subst (λ ms. LastIs (IsNowOf s (now v)) (m ∷ ms)) (sym (marks_nil rg (walk2_behind (asked2 rg p x) i.value))) (λ w. at))
 
@@ -259,7 +259,7 @@ module _ (laws : Laws) (v : View) (rows : List Row) (a : Access) where
 
   -- THE WHOLE PLAN
 
-  module _ (side : v.side ≡ side_of a.va) (begins : (p : Bool) (x : ℕ) → Begins v rg p x (sup (base2 x))) where
+  module _ (side : v.side ≡ side_of a.va) (begins : (p : Bool) (x : ℕ) → Begins v rg p x (sup (stage2_base x))) where
     -- what a plan is served is fine, below what was read now
     abbrev IsFine : Plan → Type 0
     IsFine p = (above : Option ℕ) → IsNow (now v) above → Fine above (flat rg p) (serve sup [] (flat rg p))
@@ -288,10 +288,10 @@ module _ (laws : Laws) (v : View) (rows : List Row) (a : Access) where
         fine_item above (word w) k i sound (fits_needed rg w (now v) value) (fresh_word v rg w value is) (rec i)
 
     fine_own : (n : Need) (k : Item → Plan) → IsSound rg (own n k) → ((i : Item) → IsFine (k i)) → IsFine (own n k)
-    fine_own base1 k sound rec above up =
+    fine_own stage1_base k sound rec above up =
         let i : Item = first_base v a in
-        fine_item above base1 k i sound (fits_base1 (regs_after v.core v.log) (side_of a.va) (now v)) (fresh_base1 v rg a side) (rec i)
-    fine_own (base2 x) k sound rec above up = absurd (both_ways false refl sound.0)
+        fine_item above stage1_base k i sound (fits_base1 (regs_after v.core v.log) (side_of a.va) (now v)) (fresh_base1 v rg a side) (rec i)
+    fine_own (stage2_base x) k sound rec above up = absurd (both_ways false refl sound.0)
     fine_own (word w) k sound rec above up = fine_word above w k sound rec (memory_after v.header v.log w.place) refl
 
     -- what follows a chain is no base
@@ -309,7 +309,7 @@ module _ (laws : Laws) (v : View) (rows : List Row) (a : Access) where
     fine_plan (via p x next k) sound = λ above up.
         by_start p x next k above up sound
         (λ e. fine_rest (next e) k (λ n eq. sound.2 e n eq) sound.3 (λ i. fine_plan (k i) (sound.3 i)) above up)
-        (sup (base2 x)) (begins p x)
+        (sup (stage2_base x)) (begins p x)
 
 -- every plan that is served is fine, where every chain begins well
 pub plans_are_fine : Laws → PlansAreFine

@@ -11,14 +11,14 @@ use Rattle.fault_codes.specs.declared.fault.Stage.TheVariants.{S2}
 use Rattle.fault_codes.specs.declared.fault.Class.TheVariants.{Translation, AddressSize, Permission}
 use Rattle.trails.specs.declared.item.Item.{Item}
 use Rattle.trails.specs.declared.outcome.Access.{Access}
-use Rattle.table_reads.specs.declared.step.Step.TheVariants.{Reached, Stopped}
+use Rattle.table_reads.specs.declared.lead.Lead.TheVariants.{Reached, Stopped}
 use Rattle.table_reads.specs.Places.{is_too_large}
 use Rattle.walk_spec.specs.declared.entry.Table1.{Table1}
 use Rattle.walk_spec.specs.declared.entry.Entry1.{Entry1}
 use Rattle.walk_spec.specs.declared.leaf.Leaf1.{Leaf1}
 use Rattle.walk_spec.specs.declared.leaf.Leaf2.{Leaf2}
 use Rattle.walk_spec.specs.Ask.{Ask, done, ask, after, go_on, finer}
-use Rattle.walk_spec.specs.Needs.{Regime, regime_of, Need, base1, fits}
+use Rattle.walk_spec.specs.Needs.{Regime, regime_of, Need, stage1_base, fits}
 use Rattle.walk_spec.specs.Steps.{End, stops, reaches, step_then}
 use Rattle.walk_spec.specs.Stage2.{walk2}
 use Rattle.walk_spec.specs.Stage1.{Asked, untagged, fault1, entry1, step1, walk1_from, word_of, asked2, leaf1_of, stage1_from}
@@ -116,7 +116,7 @@ module _ (r : Regime) (a : Access) where
       (relax_from r.stage1.start (root_table base))
 
   relax_stage1 : (b d : Bool) → let v =
-      λ (q : Asked). cond b (cond d (done (stops (fault1 Translation most_left))) (ask base1 (λ i. stage1_behind q i.value))) (stage1_off q) in
+      λ (q : Asked). cond b (cond d (done (stops (fault1 Translation most_left))) (ask stage1_base (λ i. stage1_behind q i.value))) (stage1_off q) in
       Relax (v With) (v Without)
   relax_stage1 true true = tt
   relax_stage1 true false = (refl, λ i. relax_root (is_too_large r.stage1 i.value) i.value)

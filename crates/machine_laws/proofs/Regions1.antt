@@ -17,8 +17,8 @@ use Rattle.descriptors.specs.declared.kinds.Kind1.TheVariants.{Invalid, Table as
 use Rattle.descriptors.specs.Meaning.{means1_of, kind1_of}
 use Rattle.trails.specs.declared.item.Item.{Item}
 use Rattle.trails.specs.declared.outcome.Access.{Access}
-use Rattle.table_reads.specs.declared.step.Step.{Step}
-use Rattle.table_reads.specs.declared.step.Step.TheVariants.{Down, Reached, Stopped}
+use Rattle.table_reads.specs.declared.lead.Lead.{Lead}
+use Rattle.table_reads.specs.declared.lead.Lead.TheVariants.{Down, Reached, Stopped}
 use Rattle.table_reads.specs.Places.{is_too_large}
 use Rattle.tlbi_ops.specs.Covers.{is_stage1}
 use Rattle.walk_spec.specs.declared.entry.Table1.{Table1}
@@ -26,7 +26,7 @@ use Rattle.walk_spec.specs.declared.entry.Entry1.{Entry1}
 use Rattle.walk_spec.specs.declared.leaf.Leaf1.{Leaf1}
 use Rattle.walk_spec.specs.declared.leaf.Leaf2.{Leaf2}
 use Rattle.walk_spec.specs.Ask.{Ask, done, ask, after, on}
-use Rattle.walk_spec.specs.Needs.{Regime, regime_of, Need, base1, base2, word, WordNeed, fits, Region}
+use Rattle.walk_spec.specs.Needs.{Regime, regime_of, Need, stage1_base, stage2_base, word, WordNeed, fits, Region}
 use Rattle.walk_spec.specs.Steps.{End, stops, reaches, step_then}
 use Rattle.walk_spec.specs.Stage2.{is_refused2}
 use Rattle.walk_spec.specs.Stage1.{Asked, untagged, entry1, step1, walk1_from, is_readable}
@@ -96,32 +96,32 @@ module _ (r : Regime) (left value : ℕ) where
 module _ (r : Regime) (x : ℕ) where
   -- a word of stage 1 is for the address x, and behind a table the walk is open
   abbrev pub Tells : Need → (Item → Plan) → Type 0
-  Tells base1 k = Unit {0}
-  Tells (base2 y) k = Unit {0}
+  Tells stage1_base k = Unit {0}
+  Tells (stage2_base y) k = Unit {0}
   Tells (word w) k = (w.stage ≡ S1) × (w.address ≡ x) × ((i : Item) → part_of r S1 w.left i.value ≡ table true → Opens (flat r (k i)))
 
   abbrev pub TellsNext : Result Need (End Landing) → (Item → Plan) → Type 0
   TellsNext (Ok n) k = Tells n k
   TellsNext (Err e) k = Unit {0}
 
-  abbrev pub IsTold : Plan → Type 0
-  IsTold (fin e) = Unit {0}
-  IsTold (own n k) = Tells n k × ((i : Item) → IsTold (k i))
-  IsTold (via p y next k) = ((e : End Leaf2) → TellsNext (next e) k) × ((i : Item) → IsTold (k i))
+  abbrev pub TellsThroughout : Plan → Type 0
+  TellsThroughout (fin e) = Unit {0}
+  TellsThroughout (own n k) = Tells n k × ((i : Item) → TellsThroughout (k i))
+  TellsThroughout (via p y next k) = ((e : End Leaf2) → TellsNext (next e) k) × ((i : Item) → TellsThroughout (k i))
 
-  told_read : (b : Bool) (e : Entry1) (l : Leaf2) (k : Item → Plan) → ((p : ℕ) → Tells (word_need e p) k) → TellsNext (read_next b e l) k
-  told_read true e l k h = h l.pa
-  told_read false e l k h = tt
+  tells_read : (b : Bool) (e : Entry1) (l : Leaf2) (k : Item → Plan) → ((p : ℕ) → Tells (word_need e p) k) → TellsNext (read_next b e l) k
+  tells_read true e l k h = h l.pa
+  tells_read false e l k h = tt
 
-  told_next : (e : Entry1) (d : End Leaf2) (k : Item → Plan) → ((p : ℕ) → Tells (word_need e p) k) → TellsNext (word_behind r.config e d) k
-  told_next e (stops f) k h = tt
-  told_next e (reaches l) k h = told_read (is_readable r.config l) e l k h
+  tells_next : (e : Entry1) (d : End Leaf2) (k : Item → Plan) → ((p : ℕ) → Tells (word_need e p) k) → TellsNext (word_behind r.config e d) k
+  tells_next e (stops f) k h = tt
+  tells_next e (reaches l) k h = tells_read (is_readable r.config l) e l k h
 
-  told_entry : (b d : Bool) (e : Entry1) (k : Item → Plan) → ((p : ℕ) → Tells (word_need e p) k) → ((i : Item) → IsTold (k i))
-      → IsTold (entry_plan r b d e (λ f. fin (stops f)) k)
-  told_entry true true e k h s = tt
-  told_entry true false e k h s = ((λ d. told_next e d k h), s)
-  told_entry false d e k h s = (h e.place, s)
+  tells_entry : (b d : Bool) (e : Entry1) (k : Item → Plan) → ((p : ℕ) → Tells (word_need e p) k) → ((i : Item) → TellsThroughout (k i))
+      → TellsThroughout (entry_plan r b d e (λ f. fin (stops f)) k)
+  tells_entry true true e k h s = tt
+  tells_entry true false e k h s = ((λ d. tells_next e d k h), s)
+  tells_entry false d e k h s = (h e.place, s)
 
 opens_entry : (r : Regime) (b d : Bool) (e : Entry1) (k : Item → Plan) → Opens (flat r (entry_plan r b d e (λ f. fin (stops f)) k))
 opens_entry r true true e k = (refl, refl)
@@ -132,14 +132,14 @@ module _ (r : Regime) (j : Bool) (a : Access) where
   abbrev Q : Asked
   Q = under r j a
 
-  told_output : (b d : Bool) (l : Leaf1) → IsTold r (untagged a.va) (output_plan Q b d l)
-  told_output true true l = tt
-  told_output true false l = ((λ e. tt), (λ i. tt))
-  told_output false d l = tt
+  tells_output : (b d : Bool) (l : Leaf1) → TellsThroughout r (untagged a.va) (output_plan Q b d l)
+  tells_output true true l = tt
+  tells_output true false l = ((λ e. tt), (λ i. tt))
+  tells_output false d l = tt
 
-  told_out : (e : End Leaf1) → IsTold r (untagged a.va) (out_of Q e)
-  told_out (stops f) = tt
-  told_out (reaches l) = told_output r.config.vm (is_refused2 r.config l.out) l
+  tells_out : (e : End Leaf1) → TellsThroughout r (untagged a.va) (out_of Q e)
+  tells_out (stops f) = tt
+  tells_out (reaches l) = tells_output r.config.vm (is_refused2 r.config l.out) l
 
   opens_from : (left : ℕ) (t : Table1) → Opens (flat r (from_plan Q left t))
   opens_from zero t = opens_entry r r.config.vm (is_refused2 r.config (entry1 Q 0 t).place) (entry1 Q 0 t) _
@@ -148,11 +148,11 @@ module _ (r : Regime) (j : Bool) (a : Access) where
   abbrev Onward : (Table1 → Ask Entry1 Item (End Leaf1)) → ℕ → Table1 → Item → Plan
   Onward below left t i = plan_of r (out_of Q) (step_then below (step1 Q (entry1 Q left t) i.pa i.value))
 
-  told_step : (below : Table1 → Ask Entry1 Item (End Leaf1)) → ((t : Table1) → IsTold r (untagged a.va) (plan_of r (out_of Q) (below t)))
-      → (s : Step Leaf1 Table1) → IsTold r (untagged a.va) (plan_of r (out_of Q) (step_then below s))
-  told_step below h (Down t) = h t
-  told_step below h (Reached l) = told_out (reaches l)
-  told_step below h (Stopped f) = tt
+  tells_step : (below : Table1 → Ask Entry1 Item (End Leaf1)) → ((t : Table1) → TellsThroughout r (untagged a.va) (plan_of r (out_of Q) (below t)))
+      → (s : Lead Leaf1 Table1) → TellsThroughout r (untagged a.va) (plan_of r (out_of Q) (step_then below s))
+  tells_step below h (Down t) = h t
+  tells_step below h (Reached l) = tells_out (reaches l)
+  tells_step below h (Stopped f) = tt
 
   opens_zero : (t : Table1) (i : Item) (below : Table1 → Ask Entry1 Item (End Leaf1)) → part_of r S1 0 i.value ≡ table true
       → Opens (flat r (Onward below 0 t i))
@@ -163,27 +163,27 @@ module _ (r : Regime) (j : Bool) (a : Access) where
       let d = table_leads1 r (suc left) i.value h in
       rw (d.3 j a t i.pa) (opens_from left record { address = d.0; bits = joined_bits t.bits d.1 })
 
-  told_from : (left : ℕ) (t : Table1) → IsTold r (untagged a.va) (from_plan Q left t)
-  told_from zero t =
-      told_entry r (untagged a.va) r.config.vm (is_refused2 r.config (entry1 Q 0 t).place) (entry1 Q 0 t) (Onward _ 0 t)
+  tells_from : (left : ℕ) (t : Table1) → TellsThroughout r (untagged a.va) (from_plan Q left t)
+  tells_from zero t =
+      tells_entry r (untagged a.va) r.config.vm (is_refused2 r.config (entry1 Q 0 t).place) (entry1 Q 0 t) (Onward _ 0 t)
       (λ p. (refl, refl, λ i h. opens_zero t i _ h))
-      (λ i. told_step _ (λ t. tt) (step1 Q (entry1 Q 0 t) i.pa i.value))
-  told_from (suc left) t =
-      told_entry r (untagged a.va) r.config.vm (is_refused2 r.config (entry1 Q (suc left) t).place) (entry1 Q (suc left) t)
+      (λ i. tells_step _ (λ t. tt) (step1 Q (entry1 Q 0 t) i.pa i.value))
+  tells_from (suc left) t =
+      tells_entry r (untagged a.va) r.config.vm (is_refused2 r.config (entry1 Q (suc left) t).place) (entry1 Q (suc left) t)
       (Onward (walk1_from Q left) (suc left) t) (λ p. (refl, refl, λ i h. opens_suc left t i h))
-      (λ i. told_step (walk1_from Q left) (told_from left) (step1 Q (entry1 Q (suc left) t) i.pa i.value))
+      (λ i. tells_step (walk1_from Q left) (tells_from left) (step1 Q (entry1 Q (suc left) t) i.pa i.value))
 
-  told_behind : (b : Bool) (base : ℕ) → IsTold r (untagged a.va) (behind_plan Q b base)
-  told_behind true base = tt
-  told_behind false base = told_from r.stage1.start (root_table base)
+  tells_behind : (b : Bool) (base : ℕ) → TellsThroughout r (untagged a.va) (behind_plan Q b base)
+  tells_behind true base = tt
+  tells_behind false base = tells_from r.stage1.start (root_table base)
 
-  told_whole : (b d : Bool) → IsTold r (untagged a.va) (whole_plan Q b d)
-  told_whole true true = tt
-  told_whole true false = (tt, λ i. told_behind (is_too_large r.stage1 i.value) i.value)
-  told_whole false d = told_out (off_end Q)
+  tells_whole : (b d : Bool) → TellsThroughout r (untagged a.va) (whole_plan Q b d)
+  tells_whole true true = tt
+  tells_whole true false = (tt, λ i. tells_behind (is_too_large r.stage1 i.value) i.value)
+  tells_whole false d = tells_out (off_end Q)
 
-pub told_plan : (c : Config) (j : Bool) (a : Access) → IsTold (regime_for c a) (untagged a.va) (plan_for c j a)
-told_plan c j a = told_whole (regime_for c a) j a c.m (is_refused1 c a)
+pub tells_plan : (c : Config) (j : Bool) (a : Access) → TellsThroughout (regime_for c a) (untagged a.va) (plan_for c j a)
+tells_plan c j a = tells_whole (regime_for c a) j a c.m (is_refused1 c a)
 
 -- THE LAST MARK IS OF STAGE 1
 
@@ -281,7 +281,7 @@ module _ (r : Regime) (x : ℕ) (u : Ask Need Item (End Landing)) (m : Mark) (fi
       ]
 
   -- what is left behind a last item of stage 1 is a plan
-  pub first_last : (p : Plan) → IsSound r p → IsTold r x p → Finds p
+  pub first_last : (p : Plan) → IsSound r p → TellsThroughout r x p → Finds p
   first_last (fin e) s t [] h l = absurd l
   first_last (fin e) s t (y ∷ ys) h l = absurd h
   first_last (own n k) s t items h l = own_last n k t.0 s.2 (λ i. first_last (k i) (s.2 i) (t.1 i)) items h l
@@ -294,7 +294,7 @@ pub walk_last : (c : Config) (j : Bool) (a : Access) (trail : List Item) (u : As
 walk_last c j a trail u m h l first =
     let r : Regime = regime_for c a in
     let e : walk c j a ≡ flat r (plan_for c j a) = sym (plan_is_walk c j a) in
-    first_last r (untagged a.va) u m first (plan_for c j a) (sound_plan c j a) (told_plan c j a) trail (subst (λ t. IsOn r t trail u) e h)
+    first_last r (untagged a.va) u m first (plan_for c j a) (sound_plan c j a) (tells_plan c j a) trail (subst (λ t. IsOn r t trail u) e h)
     (subst (λ t. LastIs (marks r t trail) m) e l)
 
 -- A TABLE OF STAGE 1
@@ -314,8 +314,8 @@ record TableLast (r : Regime) (x : ℕ) (u : Ask Need Item (End Landing)) (trail
 table_last_by : (r : Regime) (x : ℕ) (u : Ask Need Item (End Landing)) (trail : List Item) (m : Mark) (n : Need) (k : Item → Plan) (i : Item)
     → m.part ≡ table true → LastIs trail i → fits r n i ≡ true → m ≡ mark r n i → u ≡ flat r (k i)
     → Tells r x n k → TableLast r x u trail m
-table_last_by r x u trail m base1 k i part l f e d t = absurd (table_real m.part part (ap (λ n. n.part) e ∙ mark_base1_part r i))
-table_last_by r x u trail m (base2 y) k i part l f e d t = absurd (table_real m.part part (ap (λ n. n.part) e ∙ mark_base2_part r y i))
+table_last_by r x u trail m stage1_base k i part l f e d t = absurd (table_real m.part part (ap (λ n. n.part) e ∙ mark_base1_part r i))
+table_last_by r x u trail m (stage2_base y) k i part l f e d t = absurd (table_real m.part part (ap (λ n. n.part) e ∙ mark_base2_part r y i))
 table_last_by r x u trail m (word w) k i part l f e d t =
     let full : m ≡ mark_full r S1 w.left x i = e ∙ mark_at_full r w i i S1 w.left x t.0 refl t.1 refl in
     let p : part_of r S1 w.left i.value ≡ table true = sym (ap (λ (z : Mark). z.part) full) ∙ part in

@@ -13,12 +13,12 @@ use Rattle.descriptors.specs.declared.kinds.Kind2.{Kind2}
 use Rattle.descriptors.specs.declared.kinds.Kind2.TheVariants.{Invalid as Invalid2, Table as Table2, Leaf as LeafOf2}
 use Rattle.descriptors.specs.Meaning.{means2_of, kind2_of}
 use Rattle.trails.specs.declared.item.Item.{Item}
-use Rattle.table_reads.specs.declared.step.Step.{Step}
-use Rattle.table_reads.specs.declared.step.Step.TheVariants.{Down, Reached, Stopped}
+use Rattle.table_reads.specs.declared.lead.Lead.{Lead}
+use Rattle.table_reads.specs.declared.lead.Lead.TheVariants.{Down, Reached, Stopped}
 use Rattle.table_reads.specs.Places.{is_too_large}
 use Rattle.walk_spec.specs.declared.leaf.Leaf2.{Leaf2}
 use Rattle.walk_spec.specs.Ask.{Ask, done, ask}
-use Rattle.walk_spec.specs.Needs.{Regime, regime_of, Need, base1, base2, word, WordNeed, fits, mapping_of, mapping2, class_by, sizes_of, Region}
+use Rattle.walk_spec.specs.Needs.{Regime, regime_of, Need, stage1_base, stage2_base, word, WordNeed, fits, mapping_of, mapping2, class_by, sizes_of, Region}
 use Rattle.walk_spec.specs.Steps.{End, stops, reaches, step_then}
 use Rattle.walk_spec.specs.Stage2.{Asked2, fault2, leaf2_of, step2, walk2_from, walk2_behind, is_refused2, walk2}
 use Rattle.walk_spec.specs.Stage1.{asked2}
@@ -90,22 +90,22 @@ mark_at_full r w i j s left x e l a h =
     mark_is_full r w i ∙ ap (λ z. mark_full r z w.left w.address i) e ∙ ap (λ z. mark_full r s z w.address i) l ∙ ap (λ z. mark_full r s left z i) a
     ∙ ap (mark_full r s left x) h
 
-pub mark_base1_part : (r : Regime) (i : Item) → (mark r base1 i).part ≡ nothing
+pub mark_base1_part : (r : Regime) (i : Item) → (mark r stage1_base i).part ≡ nothing
 unfolding mark
 mark_base1_part r i = refl
 
-pub mark_base2_part : (r : Regime) (x : ℕ) (i : Item) → (mark r (base2 x) i).part ≡ nothing
+pub mark_base2_part : (r : Regime) (x : ℕ) (i : Item) → (mark r (stage2_base x) i).part ≡ nothing
 unfolding mark
 mark_base2_part r x i = refl
 
 -- WHAT A CHAIN ASKS
 
 abbrev pub IsAt : ℕ → Need → Type 0
-IsAt x base1 = ⊥
-IsAt x (base2 y) = Unit {0}
+IsAt x stage1_base = ⊥
+IsAt x (stage2_base y) = Unit {0}
 IsAt x (word w) = (w.stage ≡ S2) × (w.address ≡ x)
 
-asks_step : (x : ℕ) (s : Step Leaf2 ℕ) (below : ℕ → Ask Need Item (End Leaf2)) → ((t : ℕ) → Asks (IsAt x) (below t)) → Asks (IsAt x) (step_then below s)
+asks_step : (x : ℕ) (s : Lead Leaf2 ℕ) (below : ℕ → Ask Need Item (End Leaf2)) → ((t : ℕ) → Asks (IsAt x) (below t)) → Asks (IsAt x) (step_then below s)
 asks_step x (Down t) below h = h t
 asks_step x (Reached l) below h = tt
 asks_step x (Stopped f) below h = tt
@@ -211,8 +211,8 @@ module _ (c : Config) (s : Side) (p : Bool) (x y : ℕ) (ok : is_refused2 c x �
 
   module _ (trail : List Item) (u : Ask Need Item (End Leaf2)) (m : Mark) (h : IsOn R (chain R p x) trail u) (real : m.part ≡ nothing → ⊥) where
     word_last_by : (n : Need) (i : Item) → LastIs trail i → fits R n i ≡ true → m ≡ mark R n i → IsAt x n → WordLast R p x y trail u m
-    word_last_by base1 i l f e t = absurd t
-    word_last_by (base2 z) i l f e t = absurd (real (ap (λ n. n.part) e ∙ mark_base2_part R z i))
+    word_last_by stage1_base i l f e t = absurd t
+    word_last_by (stage2_base z) i l f e t = absurd (real (ap (λ n. n.part) e ∙ mark_base2_part R z i))
     word_last_by (word w) i l f e t =
         let fw = fits_word_parts R w i f in
         let st = stepped2 R p x y (of_fields c s) trail u (chain_takes trail u h) (inr (i, l, (tt, fw.what))) in

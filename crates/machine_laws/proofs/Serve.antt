@@ -18,7 +18,7 @@ use Rattle.table_reads.specs.Places.{aligned_base}
 use Rattle.table_reads.specs.Items.{base_item}
 use Rattle.trails.specs.declared.item.Item.{Item}
 use Rattle.walk_spec.specs.Ask.{Ask, done, ask}
-use Rattle.walk_spec.specs.Needs.{Regime, regime_of, Need, base1, base2, word, WordNeed, stage_eq, level_eq, fits, fits_base as fits_base_by, needed_item}
+use Rattle.walk_spec.specs.Needs.{Regime, regime_of, Need, stage1_base, stage2_base, word, WordNeed, stage_eq, level_eq, fits, fits_base as fits_base_by, needed_item}
 use Rattle.walk_spec.specs.Fresh.{start_base1, start_base2}
 use Rattle.machine_spec.specs.Moments.{regs_after, memory_after}
 use Rattle.machine_spec.specs.Marks.{Mark, mark}
@@ -74,12 +74,12 @@ ttbr_below regs Low = base_below (granule_of (config_of regs).tg0) (config_of re
 ttbr_below regs High = base_below (granule_of (config_of regs).tg1) (config_of regs).ips regs.ttbr1_el1
 
 pub fits_base1 : (regs : Regs) (s : Side) (k : ℕ)
-    → fits (regime_of (config_of regs) s) base1 (base_item k S1 (sizes1 (config_of regs) s) (start_base1 regs s)) ≡ true
+    → fits (regime_of (config_of regs) s) stage1_base (base_item k S1 (sizes1 (config_of regs) s) (start_base1 regs s)) ≡ true
 unfolding fits
 fits_base1 regs s k = fits_aligned (sizes1 (config_of regs) s) S1 k (ttbr_base regs s) (ttbr_below regs s)
 
 pub fits_base2 : (regs : Regs) (s : Side) (x k : ℕ)
-    → fits (regime_of (config_of regs) s) (base2 x) (base_item k S2 (sizes2 (config_of regs)) (start_base2 regs)) ≡ true
+    → fits (regime_of (config_of regs) s) (stage2_base x) (base_item k S2 (sizes2 (config_of regs)) (start_base2 regs)) ≡ true
 unfolding fits
 fits_base2 regs s x k =
     fits_aligned (sizes2 (config_of regs)) S2 k (vttbr_base regs) (base_below (granule_of (config_of regs).tg2) (config_of regs).ps regs.vttbr_el2)
@@ -193,7 +193,7 @@ module _ (v : View) (r : Regime) where
   fine_after K L t u pre items (clash one two) p f = (
     f.0,
     f.1,
-    on_append r t u (ask (base2 f.0) f.1) pre items p.on f.2,
+    on_append r t u (ask (stage2_base f.0) f.1) pre items p.on f.2,
     f.3,
     f.4,
     f.5,

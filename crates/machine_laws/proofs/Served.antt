@@ -14,7 +14,7 @@ use Rattle.trails.specs.declared.outcome.Access.{Access}
 use Rattle.tlbi_ops.specs.Covers.{is_stage1}
 use Rattle.walk_spec.specs.declared.leaf.Leaf2.{Leaf2}
 use Rattle.walk_spec.specs.Ask.{Ask, done, ask, ended, lacks, ends, needs, on}
-use Rattle.walk_spec.specs.Needs.{Regime, regime_of, Need, base1, base2, word, WordNeed, fits}
+use Rattle.walk_spec.specs.Needs.{Regime, regime_of, Need, stage1_base, stage2_base, word, WordNeed, fits}
 use Rattle.walk_spec.specs.Steps.{End, stops, reaches}
 use Rattle.walk_spec.specs.Stage2.{is_refused2, fault2, Asked2}
 use Rattle.walk_spec.specs.Stage1.{asked2, stands2, untagged}
@@ -221,7 +221,8 @@ module _ (laws : Laws) (plans : PlansAreFine) (v : View) (w : Core) (a : Access)
         first_is = refl;
         second_is = refl;
         walk_needs =
-            at_now (λ c. on (fits (regime_of c (side_of a.va))) (walk c true a) items ≡ needs (base2 h.0)) (on_needs rg (here v a) (base2 h.0) h.1 items h.2);
+            at_now (λ c. on (fits (regime_of c (side_of a.va))) (walk c true a) items ≡ needs (stage2_base h.0))
+            (on_needs rg (here v a) (stage2_base h.0) h.1 items h.2);
         reaches_one = reaches_of h.3.0 h.0 one h.3.1 h.8 h.3.2;
         reaches_two = reaches_of h.4.0 h.0 two h.4.1 h.8 h.4.2;
         differ = h.5;
@@ -234,14 +235,15 @@ module _ (laws : Laws) (plans : PlansAreFine) (v : View) (w : Core) (a : Access)
 
   -- THE REGISTER'S BASE OF STAGE 2
 
-  fresh2 : (x : ℕ) → (fits rg (base2 x) (base_now v w f laws a side) ≡ true) × Good v (mark rg (base2 x) (base_now v w f laws a side)) None
+  fresh2 : (x : ℕ) → (fits rg (stage2_base x) (base_now v w f laws a side) ≡ true) × Good v (mark rg (stage2_base x) (base_now v w f laws a side)) None
   unfolding mark
   fresh2 x = (
     fits_base2 (regs_after v.core v.log) (side_of a.va) x (now v),
-    fresh_good v (mark rg (base2 x) (base_now v w f laws a side)) (record { now_is = refl; base = λ b. refl; word = λ b. absurd (both_ways true b refl) }),
+    fresh_good v (mark rg (stage2_base x) (base_now v w f laws a side))
+        (record { now_is = refl; base = λ b. refl; word = λ b. absurd (both_ways true b refl) }),
   )
 
-  chains : (p : Bool) (x : ℕ) → Begins v rg p x (supply (place_of v w.cache.rows) a (base2 x))
+  chains : (p : Bool) (x : ℕ) → Begins v rg p x (supply (place_of v w.cache.rows) a (stage2_base x))
   chains p x = begins v w f laws a side fresh2 p x
 
   abbrev sup : Need → Supplied

@@ -9,7 +9,7 @@ use Rattle.trails.specs.declared.item.Item.{Item}
 use Rattle.table_reads.specs.Places.{place_of, is_too_large}
 use Rattle.walk_spec.specs.declared.leaf.Leaf2.{Leaf2}
 use Rattle.walk_spec.specs.Ask.{Ask, done, ask}
-use Rattle.walk_spec.specs.Needs.{Regime, regime_of, Need, base2, fits}
+use Rattle.walk_spec.specs.Needs.{Regime, regime_of, Need, stage2_base, fits}
 use Rattle.walk_spec.specs.Steps.{End, stops, reaches, step_then}
 use Rattle.walk_spec.specs.Stage2.{fault2, step2, walk2_from}
 use Rattle.walk_spec.specs.Stage1.{asked2}
@@ -52,11 +52,11 @@ module _ (c : Config) (s t : Side) (p q : Bool) (x : ℕ) where
   abbrev R' : Regime
   R' = regime_of c t
 
-  same_base_fits : (i : Item) → fits R' (base2 x) i ≡ fits R (base2 x) i
+  same_base_fits : (i : Item) → fits R' (stage2_base x) i ≡ fits R (stage2_base x) i
   unfolding fits
   same_base_fits i = refl
 
-  same_base_mark : (i : Item) → mark R' (base2 x) i ≡ mark R (base2 x) i
+  same_base_mark : (i : Item) → mark R' (stage2_base x) i ≡ mark R (stage2_base x) i
   unfolding mark
   same_base_mark i = refl
 

@@ -9,15 +9,15 @@ use Rattle.fault_codes.specs.declared.fault.Class.TheVariants.{Translation, Addr
 use Rattle.fault_codes.specs.declared.fault.Fault.{Fault}
 use Rattle.trails.specs.declared.item.Item.{Item}
 use Rattle.trails.specs.declared.outcome.Access.{Access}
-use Rattle.table_reads.specs.declared.step.Step.{Step}
-use Rattle.table_reads.specs.declared.step.Step.TheVariants.{Down, Reached, Stopped}
+use Rattle.table_reads.specs.declared.lead.Lead.{Lead}
+use Rattle.table_reads.specs.declared.lead.Lead.TheVariants.{Down, Reached, Stopped}
 use Rattle.table_reads.specs.Places.{is_too_large}
 use Rattle.walk_spec.specs.declared.entry.Table1.{Table1}
 use Rattle.walk_spec.specs.declared.entry.Entry1.{Entry1}
 use Rattle.walk_spec.specs.declared.leaf.Leaf1.{Leaf1}
 use Rattle.walk_spec.specs.declared.leaf.Leaf2.{Leaf2}
 use Rattle.walk_spec.specs.Ask.{Ask, done, ask, after}
-use Rattle.walk_spec.specs.Needs.{Regime, Need, base2}
+use Rattle.walk_spec.specs.Needs.{Regime, Need, stage2_base}
 use Rattle.walk_spec.specs.Steps.{End, stops, reaches, step_then}
 use Rattle.walk_spec.specs.Stage2.{Asked2, fault2, step2, walk2_from, walk2_behind, is_refused2}
 use Rattle.walk_spec.specs.Stage1.{Asked, asked2, fault1, entry1, walk1_from, is_readable}
@@ -182,7 +182,7 @@ tight_plan c j a = tight_whole (asked c j a) c.m (is_refused1 c a)
 
 -- CHAINS
 
-words_step : (s : Step Leaf2 ℕ) (below : ℕ → Ask Need Item (End Leaf2)) → ((t : ℕ) → IsWords (below t)) → IsWords (step_then below s)
+words_step : (s : Lead Leaf2 ℕ) (below : ℕ → Ask Need Item (End Leaf2)) → ((t : ℕ) → IsWords (below t)) → IsWords (step_then below s)
 words_step (Down t) below h = h t
 words_step (Reached l) below h = tt
 words_step (Stopped f) below h = tt
@@ -231,7 +231,7 @@ pub chain_last : (r : Regime) (p : Bool) (x : ℕ) (i : Item) (is : List Item) (
     → LastIs IsWord (marks r (chain r p x) (i ∷ is))
 chain_last r p x i [] l h = absurd (behind_asks (asked2 r p x) i.value l (sym h.1))
 chain_last r p x i (y ∷ is) l h =
-    words_last r (mark r (base2 x) i ∷ []) (walk2_behind (asked2 r p x) i.value) (done (reaches l)) y is (words_behind (asked2 r p x) i.value) h.1
+    words_last r (mark r (stage2_base x) i ∷ []) (walk2_behind (asked2 r p x) i.value) (done (reaches l)) y is (words_behind (asked2 r p x) i.value) h.1
 
 pub chain_second : (r : Regime) (p : Bool) (x : ℕ) → IsSecond (chain r p x)
 chain_second r p x = (refl, λ i. words_second (walk2_behind (asked2 r p x) i.value) (words_behind (asked2 r p x) i.value))

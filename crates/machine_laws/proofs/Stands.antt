@@ -4,7 +4,7 @@ use Rattle.std.specs.Prelude.{Result, Ok, Err}
 use Rattle.trails.specs.declared.item.Item.{Item}
 use Rattle.walk_spec.specs.declared.leaf.Leaf2.{Leaf2}
 use Rattle.walk_spec.specs.Ask.{Ask, done, ask, after, needs, ends, on}
-use Rattle.walk_spec.specs.Needs.{Regime, Need, base1, base2, word, fits}
+use Rattle.walk_spec.specs.Needs.{Regime, Need, stage1_base, stage2_base, word, fits}
 use Rattle.walk_spec.specs.Steps.{End}
 use Rattle.walk_spec.specs.BothStages.{Landing}
 use Rattle.machine_spec.specs.Marks.{Mark, mark, marks, is_first}
@@ -92,20 +92,20 @@ flat_fin r (via p x next k) e h = absurd cc
 
 pub mark_first : (r : Regime) (n : Need) (i : Item) → is_first (mark r n i) ≡ is_need1 n
 unfolding mark
-mark_first r base1 i = refl
-mark_first r (base2 x) i = refl
+mark_first r stage1_base i = refl
+mark_first r (stage2_base x) i = refl
 mark_first r (word w) i = refl
 
 pub mark_base : (r : Regime) (n : Need) (i : Item) → (mark r n i).base ≡ needs_base n
 unfolding mark
-mark_base r base1 i = refl
-mark_base r (base2 x) i = refl
+mark_base r stage1_base i = refl
+mark_base r (stage2_base x) i = refl
 mark_base r (word w) i = refl
 
 pub mark_item : (r : Regime) (n : Need) (i : Item) → (mark r n i).item ≡ i
 unfolding mark
-mark_item r base1 i = refl
-mark_item r (base2 x) i = refl
+mark_item r stage1_base i = refl
+mark_item r (stage2_base x) i = refl
 mark_item r (word w) i = refl
 
 pub words_second : {A : Type 0} (t : Ask Need Item A) → IsWords t → IsSecond t

@@ -14,7 +14,7 @@ use Rattle.trails.specs.declared.event.Event.{Event}
 use Rattle.trails.specs.declared.event.Event.TheVariants.{Store, Msr, Settle, Isb, Tlbi, Dsb, Deliver, Access as AccessOf, Prefetch}
 use Rattle.trails.specs.declared.step.Step.{Step}
 use Rattle.walk_spec.specs.Ask.{Fed, ended, lacks}
-use Rattle.walk_spec.specs.Needs.{Need, base1, base2, word}
+use Rattle.walk_spec.specs.Needs.{Need, stage1_base, stage2_base, word}
 use Rattle.walk_spec.specs.Steps.{End, stops, reaches}
 use Rattle.walk_spec.specs.BothStages.{Landing}
 use Rattle.walk_spec.specs.Fresh.{fed_outcome}
@@ -40,8 +40,8 @@ one_trail : (q : Case) (items : List Item) (end : Fed Need (End Landing)) → Is
 one_trail q items (ended (stops f)) h = refl
 one_trail q items (ended (reaches l)) h = refl
 one_trail q items (lacks (word w)) h = refl
-one_trail q items (lacks base1) h = none_some h.other h.both
-one_trail q items (lacks (base2 x)) h = none_some h.other h.both
+one_trail q items (lacks stage1_base) h = none_some h.other h.both
+one_trail q items (lacks (stage2_base x)) h = none_some h.other h.both
 
 regs_now : (v : View) → regs_after v.core v.log ≡ regs_when v (now v)
 regs_now v = ap (regs_after v.core) (sym (take_all (length v.log) v.log (omega arith)))

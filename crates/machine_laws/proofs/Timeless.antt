@@ -8,15 +8,15 @@ use Rattle.fault_codes.specs.declared.fault.Class.TheVariants.{Translation, Addr
 use Rattle.fault_codes.specs.declared.fault.Stage.TheVariants.{S2}
 use Rattle.trails.specs.declared.item.Item.{Item}
 use Rattle.trails.specs.declared.outcome.Access.{Access}
-use Rattle.table_reads.specs.declared.step.Step.{Step}
-use Rattle.table_reads.specs.declared.step.Step.TheVariants.{Down, Reached, Stopped}
+use Rattle.table_reads.specs.declared.lead.Lead.{Lead}
+use Rattle.table_reads.specs.declared.lead.Lead.TheVariants.{Down, Reached, Stopped}
 use Rattle.table_reads.specs.Places.{is_too_large}
 use Rattle.walk_spec.specs.declared.entry.Table1.{Table1}
 use Rattle.walk_spec.specs.declared.entry.Entry1.{Entry1}
 use Rattle.walk_spec.specs.declared.leaf.Leaf1.{Leaf1}
 use Rattle.walk_spec.specs.declared.leaf.Leaf2.{Leaf2}
 use Rattle.walk_spec.specs.Ask.{Ask, done, ask, after, go_on, finer}
-use Rattle.walk_spec.specs.Needs.{Regime, Need, base1, base2}
+use Rattle.walk_spec.specs.Needs.{Regime, Need, stage1_base, stage2_base}
 use Rattle.walk_spec.specs.Steps.{End, stops, reaches, step_then}
 use Rattle.walk_spec.specs.Stage2.{Asked2, fault2, step2, walk2_from, is_refused2, walk2_behind, walk2}
 use Rattle.walk_spec.specs.Stage1.{Asked, asked2, fault1, step1, entry1, walk1_from, read1, is_readable, read1_by, word_of, stage1_from}
@@ -94,7 +94,7 @@ alike_if : {N A : Type 0} (R : A → A → Type 0) (b : Bool) (t u : Ask N Item 
 alike_if R true t u h k = h
 alike_if R false t u h k = k
 
-timeless_step : {N L T : Type 0} (below : T → Ask N Item (End L)) → ((next : T) → IsTimeless (below next)) → (s : Step L T) → IsTimeless (step_then below s)
+timeless_step : {N L T : Type 0} (below : T → Ask N Item (End L)) → ((next : T) → IsTimeless (below next)) → (s : Lead L T) → IsTimeless (step_then below s)
 timeless_step below h (Down next) = h next
 timeless_step below h (Reached l) = refl
 timeless_step below h (Stopped f) = refl
@@ -116,7 +116,7 @@ timeless2_behind q base =
 
 pub timeless2 : (q : Asked2) → IsTimeless (walk2 q)
 timeless2 q =
-    alike_if Equal (is_refused2 q.config q.ipa) (done (stops (fault2 q Translation most_left))) (ask (base2 q.ipa) (λ i. walk2_behind q i.value)) refl
+    alike_if Equal (is_refused2 q.config q.ipa) (done (stops (fault2 q Translation most_left))) (ask (stage2_base q.ipa) (λ i. walk2_behind q i.value)) refl
     (refl, by_value Equal (λ p v. walk2_behind q v) (λ p v. timeless2_behind q v))
 
 -- STAGE 1
@@ -158,7 +158,7 @@ timeless1_behind q base =
 timeless1 : (q : Asked) → IsTimeless (stage1 q)
 timeless1 q =
     alike_if Equal q.regime.config.m (stage1_on q) (stage1_off q)
-    (alike_if Equal (is_refused1 q.regime.config q.access) (done (stops (fault1 Translation most_left))) (ask base1 (λ i. stage1_behind q i.value)) refl
+    (alike_if Equal (is_refused1 q.regime.config q.access) (done (stops (fault1 Translation most_left))) (ask stage1_base (λ i. stage1_behind q i.value)) refl
     (refl, by_value Equal (λ p v. stage1_behind q v) (λ p v. timeless1_behind q v)))
     refl
 

@@ -6,7 +6,7 @@ use Rattle.trails.specs.declared.item.Item.{Item}
 use Rattle.walk_spec.specs.declared.leaf.Leaf2.{Leaf2}
 use Rattle.tlbi_ops.specs.Covers.{is_stage1}
 use Rattle.walk_spec.specs.Ask.{Ask, done, ask, after}
-use Rattle.walk_spec.specs.Needs.{Regime, Need, base1, base2, word, fits}
+use Rattle.walk_spec.specs.Needs.{Regime, Need, stage1_base, stage2_base, word, fits}
 use Rattle.walk_spec.specs.Steps.{End, stops, reaches}
 use Rattle.walk_spec.specs.Stage2.{is_refused2, walk2_behind}
 use Rattle.walk_spec.specs.Stage1.{asked2}
@@ -22,19 +22,19 @@ IsOn r (ask n k) (i ∷ items) u = (fits r n i ≡ true) × IsOn r (k i) items u
 
 -- a need of stage 1
 abbrev pub is_need1 : Need → Bool
-is_need1 base1 = true
-is_need1 (base2 x) = false
+is_need1 stage1_base = true
+is_need1 (stage2_base x) = false
 is_need1 (word w) = is_stage1 w.stage
 
 -- a base is needed
 abbrev pub needs_base : Need → Bool
-needs_base base1 = true
-needs_base (base2 x) = true
+needs_base stage1_base = true
+needs_base (stage2_base x) = true
 needs_base (word w) = false
 
 -- stage 2 for an IPA that it doesn't refuse
 abbrev pub chain : Regime → Bool → ℕ → Ask Need Item (End Leaf2)
-chain r p x = ask (base2 x) (λ i. walk2_behind (asked2 r p x) i.value)
+chain r p x = ask (stage2_base x) (λ i. walk2_behind (asked2 r p x) i.value)
 
 -- a walk: an end, a question of stage 1, or a whole chain of stage 2 (with its mark s1ptw and its IPA), behind which comes a
 -- question of stage 1 or the end

@@ -20,7 +20,7 @@ use Rattle.table_reads.specs.Numbers.{sizes1, sizes2}
 use Rattle.table_reads.specs.Items.{base_item}
 use Rattle.table_reads.specs.Memory.{Memory}
 use Rattle.walk_spec.specs.Ask.{Ask, done, ask, Stands, needs, bad, ends, on, Fed, ended, lacks, Took}
-use Rattle.walk_spec.specs.Needs.{Regime, regime_of, Need, base1, base2, word, fits, fits_base, needed_item}
+use Rattle.walk_spec.specs.Needs.{Regime, regime_of, Need, stage1_base, stage2_base, word, fits, fits_base, needed_item}
 use Rattle.walk_spec.specs.Steps.{End}
 use Rattle.walk_spec.specs.BothStages.{Landing, walk}
 use Rattle.walk_spec.specs.Fresh.{start_base1, start_base2, given, fed_outcome, fresh_items, fresh_outcome}
@@ -45,11 +45,11 @@ base_parts n s i h =
     let at = first_of_and _ _ (first_of_and _ _ h) in
     (level_is i.level (level_of n.start) (second_of_and _ _ (first_of_and _ _ at)), eqb-true i.pa i.value (second_of_and _ _ at))
 
-base1_parts : (r : Regime) (i : Item) → fits r base1 i ≡ true → (i.level ≡ level_of r.stage1.start) × (i.pa ≡ i.value)
+base1_parts : (r : Regime) (i : Item) → fits r stage1_base i ≡ true → (i.level ≡ level_of r.stage1.start) × (i.pa ≡ i.value)
 unfolding fits
 base1_parts r i h = base_parts r.stage1 S1 i h
 
-base2_parts : (r : Regime) (x : ℕ) (i : Item) → fits r (base2 x) i ≡ true → (i.level ≡ level_of r.stage2.start) × (i.pa ≡ i.value)
+base2_parts : (r : Regime) (x : ℕ) (i : Item) → fits r (stage2_base x) i ≡ true → (i.level ≡ level_of r.stage2.start) × (i.pa ≡ i.value)
 unfolding fits
 base2_parts r x i h = base_parts r.stage2 S2 i h
 
@@ -73,12 +73,12 @@ module _ (regs : Regs) (s : Side) (m : Memory) (k : ℕ) where
 
   -- an item that fits a need and is as now is given for it
   given_read : (n : Need) (i : Item) → fits rg n i ≡ true → IsAsNow regs s m n i → given regs s m k n ≡ Some (read_now k i)
-  given_read base1 i f h =
+  given_read stage1_base i f h =
       let p = fits_base1_parts rg i f in
       let q = base1_parts rg i f in
       ap (λ (j : Item). Some j) (same_item k (base_item k S1 (sizes1 (config_of regs) s) (start_base1 regs s)) i
       record { stage_is = sym p.1; level_is = sym q.0; what_is = sym p.0; pa_is = sym (q.1 ∙ h); value_is = sym h })
-  given_read (base2 x) i f h =
+  given_read (stage2_base x) i f h =
       let p = fits_base2_parts rg x i f in
       let q = base2_parts rg x i f in
       ap (λ (j : Item). Some j) (same_item k (base_item k S2 (sizes2 (config_of regs)) (start_base2 regs)) i

@@ -15,7 +15,7 @@ use Rattle.trails.specs.declared.outcome.Outcome.TheVariants.{Mapped, Faulted, A
 use Rattle.trails.specs.declared.step.Answer.{Answer}
 use Rattle.trails.specs.declared.step.Step.{Step}
 use Rattle.walk_spec.specs.Ask.{lacks, Ask, done, ask, Stands, needs, ends, on}
-use Rattle.walk_spec.specs.Needs.{WordNeed, Regime, Need, base1, base2, word, fits, regime_of}
+use Rattle.walk_spec.specs.Needs.{WordNeed, Regime, Need, stage1_base, stage2_base, word, fits, regime_of}
 use Rattle.walk_spec.specs.Steps.{End}
 use Rattle.walk_spec.specs.BothStages.{Landing, walk, outcome_of}
 use Rattle.walk_spec.specs.Fresh.{fed_outcome}
@@ -43,10 +43,10 @@ pub record IsOf (m : Mark) (i : Item) : Type 0 where
 
 mark_of : (r : Regime) (n : Need) (i : Item) → fits r n i ≡ true → IsOf (mark r n i) i
 unfolding mark
-mark_of r base1 i h =
+mark_of r stage1_base i h =
     let p = fits_base1_parts r i h in
     record { item = refl; stage = sym p.1; base = λ e. refl; word = λ e. let w : Base ≡ Word = sym p.0 ∙ e in absurd cc }
-mark_of r (base2 x) i h =
+mark_of r (stage2_base x) i h =
     let p = fits_base2_parts r x i h in
     record { item = refl; stage = sym p.1; base = λ e. refl; word = λ e. let w : Base ≡ Word = sym p.0 ∙ e in absurd cc }
 mark_of r (word w) i h =

@@ -23,7 +23,7 @@ use Rattle.trails.specs.declared.step.Answer.{Answer}
 use Rattle.walk_spec.proofs.Worked.{on_worked_walks}
 use Rattle.walk_laws.proofs.Places.{first_of_and, second_of_and}
 use Rattle.walk_spec.specs.Ask.{Stands, needs, bad, ends}
-use Rattle.walk_spec.specs.Needs.{Need, base1, base2, word}
+use Rattle.walk_spec.specs.Needs.{Need, stage1_base, stage2_base, word}
 use Rattle.walk_spec.specs.Steps.{End, stops, reaches}
 use Rattle.walk_spec.specs.BothStages.{Landing}
 use Rattle.walk_laws.specs.Shift.{stands}
@@ -81,8 +81,8 @@ has_ended bad = false
 has_ended (ends e items) = true
 
 abbrev needs_stage2 : Stands Need Item (End Landing) → Bool
-needs_stage2 (needs base1) = false
-needs_stage2 (needs (base2 x)) = true
+needs_stage2 (needs stage1_base) = false
+needs_stage2 (needs (stage2_base x)) = true
 needs_stage2 (needs (word w)) = false
 needs_stage2 bad = false
 needs_stage2 (ends e items) = false
@@ -90,7 +90,7 @@ needs_stage2 (ends e items) = false
 not_ended : (s : Stands Need Item (End Landing)) (e : End Landing) → has_ended s ≡ false → s ≡ ends e [] → ⊥
 not_ended s e not h = let is : has_ended s ≡ true = ap has_ended h in absurd cc
 
-not_stage2 : (s : Stands Need Item (End Landing)) (x : ℕ) → needs_stage2 s ≡ false → s ≡ needs (base2 x) → ⊥
+not_stage2 : (s : Stands Need Item (End Landing)) (x : ℕ) → needs_stage2 s ≡ false → s ≡ needs (stage2_base x) → ⊥
 not_stage2 s x not h = let is : needs_stage2 s ≡ true = ap needs_stage2 h in absurd cc
 
 front_of : {X : Type 0} (front rest xs : List X) → xs ≡ front ++ rest → front ≡ take (length front) xs
@@ -172,16 +172,16 @@ unfolding on_worked_walks on_worked_runs
 not_landed items is l h =
     not_ended (walked false (front 7 7)) (reaches l) refl (subst (λ xs. walked false xs ≡ ends (reaches l) []) is h)
 
-no_front : (n x : ℕ) → walked true (take n (front 7 7)) ≡ needs (base2 x) → ⊥
+no_front : (n x : ℕ) → walked true (take n (front 7 7)) ≡ needs (stage2_base x) → ⊥
 unfolding on_worked_walks on_worked_runs
 no_front zero x h = not_stage2 _ x refl h
 no_front (suc zero) x h = not_stage2 _ x refl h
 no_front (suc (suc zero)) x h = not_stage2 _ x refl h
 no_front (suc (suc (suc n))) x h = not_stage2 _ x refl h
 
-not_forked : (items pre rest : List Item) → items ≡ front 7 7 → items ≡ pre ++ rest → (x : ℕ) → walked true pre ≡ needs (base2 x) → ⊥
+not_forked : (items pre rest : List Item) → items ≡ front 7 7 → items ≡ pre ++ rest → (x : ℕ) → walked true pre ≡ needs (stage2_base x) → ⊥
 not_forked items pre rest is cut x h =
-    no_front (length pre) x (subst (λ xs. walked true xs ≡ needs (base2 x)) (front_of pre rest (front 7 7) (sym is ∙ cut)) h)
+    no_front (length pre) x (subst (λ xs. walked true xs ≡ needs (stage2_base x)) (front_of pre rest (front 7 7) (sym is ∙ cut)) h)
 
 as_first : IsConflict here (front 7 7) (Some (trail 7 7 7 0 asid_page)) → ⊥
 as_first r = elim r.how [

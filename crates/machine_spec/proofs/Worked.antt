@@ -37,11 +37,11 @@ abbrev pub header : ℕ → List (ℕ × ℕ) → Size → Policy → Header
 header cores ranges size policy = record { cores = cores; ranges = ranges; size = size; policy = policy }
 
 -- the items that a report shows: level, place, value and moment
-abbrev pub base1 : ℕ → ℕ → ℕ → Item
-base1 level p k = record { stage = S1; level = pos level; what = Base; pa = p; value = p; moment = k }
+abbrev pub start1 : ℕ → ℕ → ℕ → Item
+start1 level p k = record { stage = S1; level = pos level; what = Base; pa = p; value = p; moment = k }
 
-abbrev pub base2 : ℕ → ℕ → ℕ → Item
-base2 level p k = record { stage = S2; level = pos level; what = Base; pa = p; value = p; moment = k }
+abbrev pub start2 : ℕ → ℕ → ℕ → Item
+start2 level p k = record { stage = S2; level = pos level; what = Base; pa = p; value = p; moment = k }
 
 abbrev pub word1 : ℕ → ℕ → ℕ → ℕ → Item
 word1 level p v k = record { stage = S1; level = pos level; what = Word; pa = p; value = v; moment = k }

@@ -17,7 +17,7 @@ use Rattle.trails.specs.declared.event.Event.TheVariants.{Store, Msr, Settle, Is
 use Rattle.trace_lang.specs.declared.header.Size.TheVariants.{NoRows}
 use Rattle.trace_lang.specs.declared.header.Policy.TheVariants.{Fifo}
 use Rattle.walk_spec.proofs.Worked.{on_worked_walks, access, wb}
-use Rattle.machine_spec.proofs.Worked.{header, on_worked_runs, Comes, told, mapped, fault, fault2, base1, base2, word1, word2}
+use Rattle.machine_spec.proofs.Worked.{header, on_worked_runs, Comes, told, mapped, fault, fault2, word1, word2}
 
 -- the 65th queued register write lets the oldest one take effect, and no other
 register_queue_of_64 : Comes (header 1 ((0x0, 0x20000) ∷ []) NoRows Fifo)

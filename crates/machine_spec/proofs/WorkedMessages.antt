@@ -14,7 +14,7 @@ use Rattle.trails.specs.declared.event.Event.TheVariants.{Store, Msr, Isb, Tlbi,
 use Rattle.trace_lang.specs.declared.header.Size.TheVariants.{Small}
 use Rattle.trace_lang.specs.declared.header.Policy.TheVariants.{Fifo}
 use Rattle.walk_spec.proofs.Worked.{on_worked_walks, access}
-use Rattle.machine_spec.proofs.Worked.{header, on_worked_runs, Comes, told, mapped, base1, base2, word1, word2}
+use Rattle.machine_spec.proofs.Worked.{header, on_worked_runs, Comes, told, mapped, word1, word2}
 
 -- dsb nsh doesn't complete a broadcast invalidation, not even at its issuer; it completes a local one behind it
 dsb_nsh_spares_broadcast : Comes (header 1 ((0x0, 0x20000) ∷ []) Small Fifo)

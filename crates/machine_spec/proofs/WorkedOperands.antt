@@ -16,7 +16,7 @@ use Rattle.trails.specs.declared.event.Event.TheVariants.{Store, Msr, Isb, Tlbi,
 use Rattle.trace_lang.specs.declared.header.Size.TheVariants.{Small}
 use Rattle.trace_lang.specs.declared.header.Policy.TheVariants.{Fifo}
 use Rattle.walk_spec.proofs.Worked.{on_worked_walks, access}
-use Rattle.machine_spec.proofs.Worked.{header, on_worked_runs, Comes, told, mapped, fault, base1, base2, word1, word2}
+use Rattle.machine_spec.proofs.Worked.{header, on_worked_runs, Comes, told, mapped, fault, word1, word2}
 
 -- VAE1 and VALE1 take non-global leaves of the named ASID and global ones of every ASID; VAAE1 and VAALE1 name none
 va_forms_and_the_asid : Comes (header 2 ((0x0, 0x20000) ∷ []) Small Fifo)

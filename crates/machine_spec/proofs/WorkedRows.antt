@@ -16,7 +16,7 @@ use Rattle.trails.specs.declared.event.Event.TheVariants.{Store, Msr, Settle, Is
 use Rattle.trace_lang.specs.declared.header.Size.TheVariants.{Medium, NoRows, Small}
 use Rattle.trace_lang.specs.declared.header.Policy.TheVariants.{Lru, Fifo, Random}
 use Rattle.walk_spec.proofs.Worked.{on_worked_walks, access}
-use Rattle.machine_spec.proofs.Worked.{header, on_worked_runs, Comes, told, conflict_told, mapped, fault, fault2, base1, base2, word1, word2}
+use Rattle.machine_spec.proofs.Worked.{header, on_worked_runs, Comes, told, conflict_told, mapped, fault, fault2, word1, word2}
 
 -- a range removes the row
 a_range_removes_the_row : Comes (header 2 ((0x0, 0x10000) ∷ []) Small Fifo)

@@ -16,7 +16,7 @@ use Rattle.trails.specs.declared.event.Event.TheVariants.{Store, Msr, Isb, Tlbi,
 use Rattle.trace_lang.specs.declared.header.Size.TheVariants.{Small}
 use Rattle.trace_lang.specs.declared.header.Policy.TheVariants.{Fifo}
 use Rattle.walk_spec.proofs.Worked.{on_worked_walks, access, wb}
-use Rattle.machine_spec.proofs.Worked.{header, on_worked_runs, Comes, told, conflict_told, mapped, fault, fault2, base1, base2, word1, word2}
+use Rattle.machine_spec.proofs.Worked.{header, on_worked_runs, Comes, told, conflict_told, mapped, fault, fault2, word1, word2}
 
 -- several matching rows are a conflict that shows the two made first; it adds and removes nothing, counts as old and
 -- never as stale

@@ -16,7 +16,7 @@ use Rattle.trails.specs.declared.event.Event.TheVariants.{Store, Msr, Isb, Tlbi,
 use Rattle.trace_lang.specs.declared.header.Size.TheVariants.{Large, Medium, Small}
 use Rattle.trace_lang.specs.declared.header.Policy.TheVariants.{Lru, Fifo, Random}
 use Rattle.walk_spec.proofs.Worked.{on_worked_walks, access}
-use Rattle.machine_spec.proofs.Worked.{header, on_worked_runs, Comes, told, conflict_told, mapped, fault, base1, base2, word1, word2}
+use Rattle.machine_spec.proofs.Worked.{header, on_worked_runs, Comes, told, conflict_told, mapped, fault, word1, word2}
 
 -- a full set loses its oldest row, a removal keeps the order of the others, and a service moves nothing
 first_in_first_out : Comes (header 1 ((0x0, 0x20000) ∷ []) Small Fifo)

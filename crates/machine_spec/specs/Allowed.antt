@@ -23,7 +23,7 @@ use Rattle.table_reads.specs.Memory.{Memory}
 use Rattle.tlbi_ops.specs.Covers.{is_stage1}
 use Rattle.walk_spec.specs.declared.leaf.Leaf2.{Leaf2}
 use Rattle.walk_spec.specs.Ask.{needs, ends, lacks}
-use Rattle.walk_spec.specs.Needs.{base2, word, WordNeed, is_base, stage_eq, regime_of}
+use Rattle.walk_spec.specs.Needs.{stage2_base, word, WordNeed, is_base, stage_eq, regime_of}
 use Rattle.walk_spec.specs.Steps.{End, reaches}
 use Rattle.walk_spec.specs.Stage1.{stands2}
 use Rattle.walk_spec.specs.BothStages.{Landing, walk, outcome_of}
@@ -148,7 +148,7 @@ pub record IsForked (q : Case) (first second : List Item) : Type 0 where
   pub two : List Item
   pub first_is : first ≡ front ++ one
   pub second_is : second ≡ front ++ two
-  pub walk_needs : stands (config_now q) true q.access front ≡ needs (base2 ipa)
+  pub walk_needs : stands (config_now q) true q.access front ≡ needs (stage2_base ipa)
   pub reaches_one : Reaches q ipa one
   pub reaches_two : Reaches q ipa two
   pub differ : last_entry one ≡ last_entry two → ⊥

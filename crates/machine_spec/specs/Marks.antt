@@ -14,7 +14,7 @@ use Rattle.table_reads.specs.Places.{is_too_large}
 use Rattle.tlbi_ops.specs.declared.inval.Tag.{Tag}
 use Rattle.tlbi_ops.specs.Covers.{is_stage1}
 use Rattle.walk_spec.specs.Ask.{Ask, done, ask}
-use Rattle.walk_spec.specs.Needs.{Regime, Need, base1, base2, word, sizes_of, Region, region_of}
+use Rattle.walk_spec.specs.Needs.{Regime, Need, stage1_base, stage2_base, word, sizes_of, Region, region_of}
 
 -- What a word is: invalid, a table, a block or page of stage 1, which may be global, or one of stage 2; and whether it may
 -- be cached, which a word that gives a translation, address size or access flag fault may not. Of a stage 1 leaf that
@@ -57,8 +57,8 @@ mark_base s i = record { stage = s; base = true; part = nothing; region = record
 
 -- the item that answered a need
 unfoldable pub mark : (regime : Regime) (need : Need) (item : Item) → Mark
-mark r base1 i = mark_base S1 i
-mark r (base2 x) i = mark_base S2 i
+mark r stage1_base i = mark_base S1 i
+mark r (stage2_base x) i = mark_base S2 i
 mark r (word w) i =
     record {
       stage = w.stage;

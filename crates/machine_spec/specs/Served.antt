@@ -7,7 +7,7 @@ use Rattle.trails.specs.declared.item.Item.{Item}
 use Rattle.trails.specs.declared.outcome.Access.{Access}
 use Rattle.table_reads.specs.Memory.{Memory}
 use Rattle.walk_spec.specs.Ask.{Ask, done, ask, Fed, ended, lacks}
-use Rattle.walk_spec.specs.Needs.{Need, base1, base2, word}
+use Rattle.walk_spec.specs.Needs.{Need, stage1_base, stage2_base, word}
 use Rattle.walk_spec.specs.Steps.{End}
 use Rattle.walk_spec.specs.Stage1.{untagged}
 use Rattle.walk_spec.specs.BothStages.{Landing, is_refused1, walk}
@@ -60,10 +60,10 @@ fresh_of p a n = supplied_by n (given p.regs (side_of a.va) p.memory p.step n)
 
 -- bases of stage 1 and words are those of now; where stage 2 begins, rows are asked first
 abbrev pub supply : (place : Place) (access : Access) (need : Need) → Supplied
-supply p a base1 = fresh_of p a base1
-supply p a (base2 x) =
+supply p a stage1_base = fresh_of p a stage1_base
+supply p a (stage2_base x) =
     let k = key_of p.regs in
-    chain_of (fresh_of p a (base2 x)) (matching (matches leaf2 k x) p.rows) (deepest (matches table2 k x) p.rows)
+    chain_of (fresh_of p a (stage2_base x)) (matching (matches leaf2 k x) p.rows) (deepest (matches table2 k x) p.rows)
 supply p a (word w) = fresh_of p a (word w)
 
 -- what was served: the items, how it halted, and the rows that served, in the order of the trail

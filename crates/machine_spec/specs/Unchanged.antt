@@ -8,14 +8,14 @@ use Rattle.trails.specs.declared.item.Item.{Item}
 use Rattle.trails.specs.declared.outcome.Access.{Access}
 use Rattle.table_reads.specs.Memory.{Memory}
 use Rattle.walk_spec.specs.Ask.{Ask, done, ask}
-use Rattle.walk_spec.specs.Needs.{Need, base1, base2, word}
+use Rattle.walk_spec.specs.Needs.{Need, stage1_base, stage2_base, word}
 use Rattle.walk_spec.specs.BothStages.{walk}
 use Rattle.walk_spec.specs.Fresh.{start_base1, start_base2}
 
 -- an item is as now: a word stands at the very place that is needed, and memory has it there; a base is the register's
 abbrev pub IsAsNow : (registers : Regs) (side : Side) (memory : Memory) (need : Need) (item : Item) → Type 0
-IsAsNow regs s m base1 i = i.value ≡ start_base1 regs s
-IsAsNow regs s m (base2 x) i = i.value ≡ start_base2 regs
+IsAsNow regs s m stage1_base i = i.value ≡ start_base1 regs s
+IsAsNow regs s m (stage2_base x) i = i.value ≡ start_base2 regs
 IsAsNow regs s m (word w) i = (i.pa ≡ w.place) × (m w.place ≡ Some i.value)
 
 -- each item that a walk meets is as now

@@ -5,7 +5,7 @@ use Rattle.std.proofs.lemmas.List.{take-append-le}
 use Rattle.std.proofs.lemmas.Grind.{common_steps}
 use Rattle.explain_text.specs.Written.{Appended, Wrote}
 use Rattle.explain_text.proofs.Sinks.{appended_then, goes_on}
-use Rattle.report_text.specs.Waits.{Handed, Started, Adds, Passes}
+use Rattle.report_text.specs.Waits.{Handed, Started, Adds, HandsOn}
 
 -- all that waits is handed on
 pub goes : {T E : Type 0} (a b : Option (List ℕ)) (r : Result T E) (s : List ℕ) → IsOk r → Wrote a b r s
@@ -15,7 +15,7 @@ goes a b (Err x) s e w before text h = cc
 
 -- a part of it is
 pub fails : {T U E F : Type 0} (a b : Option (List ℕ)) (r : Result T E) (q : Result U F) (s left : List ℕ) → IsErr r → IsErr q → Wrote a b r s
-    → Passes a b q s left
+    → HandsOn a b q s left
 fails a b (Ok x) q s left e f w = cc
 fails a b (Err x) (Ok y) s left e f w = cc
 fails a b (Err x) (Err y) s left e f w =
@@ -38,7 +38,7 @@ waits_more before now w v s text h p =
 
 -- it waits, and then what waits may be handed on
 pub adds : {T U E F : Type 0} (a b : Option (List ℕ)) (p : Result U F) (r : Result T E) (w v left s : List ℕ) → IsOk p
-    → Wrote (Some w) (Some v) p s → Passes a b r v left → Adds a b r w left s
+    → Wrote (Some w) (Some v) p s → HandsOn a b r v left → Adds a b r w left s
 adds a b (Err x) r w v left s e p q = cc
 adds a b (Ok y) (Ok x) w v left s e p q = λ before front h. q before (front ++ s) (waits_more before a w v s front h p)
 adds a b (Ok y) (Err x) w v left s e p q = λ before front h. q before (front ++ s) (waits_more before a w v s front h p)
@@ -54,7 +54,7 @@ still_waits (Err x) n w v s l e p =
 -- that is handed on, or a part of it
 pub stays_behind : {T U V E F G : Type 0} (a b : Option (List ℕ)) (p : Result T E) (q : Result U F) (r : Result V G) (n : ℕ) (w v left s : List ℕ)
     → n ≡ length w → IsErr p → IsErr q → IsErr r
-    → Wrote (Some w) (Some v) p s → Passes a b q (take n v) left → Adds a b r w left s
+    → Wrote (Some w) (Some v) p s → HandsOn a b q (take n v) left → Adds a b r w left s
 stays_behind a b p (Ok x) r n w v left s m e f g h k = cc
 stays_behind a b p (Err x) (Ok y) n w v left s m e f g h k = cc
 stays_behind a b p (Err x) (Err y) n w v left s m e f g h k =
@@ -69,7 +69,7 @@ then_written b c before r front s h k =
 -- what waited is handed on, and then the text is written
 pub goes_straight : {T U V E F G : Type 0} (a b c : Option (List ℕ)) (p : Result T E) (q : Result U F) (r : Result V G) (n : ℕ) (w v left s : List ℕ)
     → n ≡ length w → IsErr p → IsOk q
-    → Wrote (Some w) (Some v) p s → Passes a b q (take n v) left → left ≡ [] → Wrote b c r s → Adds a c r w left s
+    → Wrote (Some w) (Some v) p s → HandsOn a b q (take n v) left → left ≡ [] → Wrote b c r s → Adds a c r w left s
 goes_straight {T} {U} {V} {E} {F} {G} a b c p (Err x) r n w v left s m e f h k o l = cc
 goes_straight {T} {U} {V} {E} {F} {G} a b c p (Ok x) (Ok y) n w v left s m e f h k o l =
     λ before front i.

@@ -19,6 +19,6 @@ Adds old new (Err _) waits left text =
     (before : Option (List ℕ)) (front : List ℕ) → Handed before old waits front → Started before new (front ++ text)
 
 -- the same without a further text
-abbrev pub Passes : {T E : Type 0} (old new : Option (List ℕ)) (result : Result T E) (waits left : List ℕ) → Type 0
-Passes old new (Ok _) waits left = (before : Option (List ℕ)) (text : List ℕ) → Handed before old waits text → Handed before new left text
-Passes old new (Err _) waits left = (before : Option (List ℕ)) (text : List ℕ) → Handed before old waits text → Started before new text
+abbrev pub HandsOn : {T E : Type 0} (old new : Option (List ℕ)) (result : Result T E) (waits left : List ℕ) → Type 0
+HandsOn old new (Ok _) waits left = (before : Option (List ℕ)) (text : List ℕ) → Handed before old waits text → Handed before new left text
+HandsOn old new (Err _) waits left = (before : Option (List ℕ)) (text : List ℕ) → Handed before old waits text → Started before new text

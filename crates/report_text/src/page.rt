@@ -3,7 +3,7 @@ ghost use Rattle.bitwords.specs.Causes.{HasCause};
 ghost use Rattle.explain_text.specs.Written.{Wrote};
 ghost use Rattle.report_text.specs.Report.{step_text, summary_text};
 ghost use Rattle.trails.specs.Printed.{HasTextInRun};
-ghost use Rattle.report_text.specs.Waits.{Adds, Passes};
+ghost use Rattle.report_text.specs.Waits.{Adds, HandsOn};
 
 use crate::counts::Counts;
 use crate::lines::{step_lines, summary_line};
@@ -50,7 +50,7 @@ impl Sink for Page {
 
 /// Hands on what waits where that is at least so many bytes.
 fn pass_on<O: Sink>(page: &mut Page, out: &mut O, least: usize) -> Result<(), WriteFailed>
-    ensures text { Passes (O.written out.old) (O.written out.new) result page.old.bytes.items page.new.bytes.items }
+    ensures text { HandsOn (O.written out.old) (O.written out.new) result page.old.bytes.items page.new.bytes.items }
     ensures empty { least ≡ 0 → OnOk result (page.new.bytes.items ≡ []) }
     ensures cause { HasCause (O.faults out.old) (O.faults out.new) result }
 {
@@ -64,7 +64,7 @@ fn pass_on<O: Sink>(page: &mut Page, out: &mut O, least: usize) -> Result<(), Wr
 
 /// Hands on the first so many bytes that wait, and leaves out the others.
 fn pass_first<O: Sink>(page: &mut Page, out: &mut O, count: usize) -> Result<(), WriteFailed>
-    ensures text { Passes (O.written out.old) (O.written out.new) result (take count page.old.bytes.items) page.new.bytes.items }
+    ensures text { HandsOn (O.written out.old) (O.written out.new) result (take count page.old.bytes.items) page.new.bytes.items }
     ensures empty { OnOk result (page.new.bytes.items ≡ []) }
     ensures cause { HasCause (O.faults out.old) (O.faults out.new) result }
 {

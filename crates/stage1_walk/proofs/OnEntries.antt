@@ -7,8 +7,8 @@ use Rattle.fault_codes.specs.declared.fault.Class.TheVariants.{Translation}
 use Rattle.trails.specs.declared.item.Item.{Item}
 use Rattle.trails.specs.declared.outcome.Stop.{Stop}
 use Rattle.trails.specs.declared.outcome.Stop.TheVariants.{Fault as FaultStop}
-use Rattle.table_reads.specs.declared.step.Step.{Step}
-use Rattle.table_reads.specs.declared.step.Step.TheVariants.{Down, Reached, Stopped}
+use Rattle.table_reads.specs.declared.lead.Lead.{Lead}
+use Rattle.table_reads.specs.declared.lead.Lead.TheVariants.{Down, Reached, Stopped}
 use Rattle.table_reads.specs.Places.{place_of}
 use Rattle.walk_spec.specs.declared.entry.Table1.{Table1}
 use Rattle.walk_spec.specs.declared.entry.Entry1.{Entry1}
@@ -16,7 +16,7 @@ use Rattle.walk_spec.specs.declared.leaf.Leaf1.{Leaf1}
 use Rattle.walk_spec.specs.Ask.{Ask, done, ask, Ran}
 use Rattle.walk_spec.specs.Steps.{End, stops, reaches, step_then}
 use Rattle.walk_spec.specs.Stage1.{Asked, untagged, fault1, step1, entry1, walk1_from}
-use Rattle.stage1_walk.specs.declared.step.Under.{Under}
+use Rattle.stage1_walk.specs.declared.step.Under1.{Under1}
 use Rattle.stage1_walk.specs.Under.{IsUnder, asked_under}
 use Rattle.stage1_walk.specs.Gave.{Gave, IsLastPlace, by_entry, Walked1, answer_of}
 
@@ -26,11 +26,11 @@ walk1_below q zero table = done (stops (fault1 Translation 0))
 walk1_below q (suc left) table = walk1_from q left table
 
 -- what follows a step
-abbrev pub walk1_then : (q : Asked) (left : ℕ) (step : Step Leaf1 Table1) → Ask Entry1 Item (End Leaf1)
+abbrev pub walk1_then : (q : Asked) (left : ℕ) (step : Lead Leaf1 Table1) → Ask Entry1 Item (End Leaf1)
 walk1_then q left step = step_then (walk1_below q left) step
 
 -- the entry that the code makes is the one that the address selects
-pub entry_here : (u : Under) (left : ℕ) (t : Table1) (p : ℕ) → IsUnder u → p ≡ place_of u.sizes left t.address u.address
+pub entry_here : (u : Under1) (left : ℕ) (t : Table1) (p : ℕ) → IsUnder u → p ≡ place_of u.sizes left t.address u.address
     → record { table = t; place = p; address = u.address; left = left } ≡ entry1 (asked_under u) left t
 entry_here u left t p h e =
     let here : p ≡ place_of u.sizes left t.address (untagged u.access.now.va) = e ∙ ap (place_of u.sizes left t.address) h.address in

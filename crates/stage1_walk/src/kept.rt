@@ -13,26 +13,26 @@ ghost use Rattle.stage1_walk.specs.SoundSteps.{IsSoundStep};
 ghost use Rattle.stage1_walk.specs.Kept.{needed1};
 
 use crate::sizes::sizes1;
-use crate::step::{Under, meaning, step_by};
+use crate::step::{Under1, meaning, step_by};
 use crate::walk::untagged;
 use descriptors::Kind1;
 use fault_codes::Stage;
 use geometry::serves_run;
 use kept_items::is_word;
 use sysregs::Config;
-use table_reads::{Step, place};
+use table_reads::{Lead, place};
 use trails::{Access, Item};
 use walk_spec::{Entry1, Leaf1, Table1};
 
 /// What a walk of an access that is not refused is done under.
-fn under<'a>(config: &'a Config, access: &'a Access) -> Under<'a>
+fn under<'a>(config: &'a Config, access: &'a Access) -> Under1<'a>
     requires config { InRange config.now }
     requires accepted { IsFalse (is_refused1 config.now access.now) }
     ensures under { IsUnder result }
     ensures value { IsUnderFor config.now access.now result }
 {
     let side = sysregs::side(access.va);
-    Under {
+    Under1 {
         config,
         access,
         address: untagged(access.va),
@@ -60,7 +60,7 @@ pub fn entry1<const G: u32>(config: &Config, access: &Access, left: u32, table: 
 }
 
 /// Whether an item's word is a block or page of a run that serves another place of the run.
-fn is_run_mate<const G: u32>(under: &Under, left: u32, place: u64, item: &Item) -> bool
+fn is_run_mate<const G: u32>(under: &Under1, left: u32, place: u64, item: &Item) -> bool
     requires granule { G ≡ granule_of (tg_of under.now.config.now under.now.side) }
     requires under { IsUnder under.now }
     requires left { left ≤ most_left }
@@ -78,7 +78,7 @@ fn is_run_mate<const G: u32>(under: &Under, left: u32, place: u64, item: &Item) 
 
 /// Whether an item is the word of an entry that is needed at a physical place.
 #[tactic(auto, unfolding(walk_spec::specs::Needs::fits))]
-fn fits_under<const G: u32>(under: &Under, entry: &Entry1, place: u64, item: &Item) -> bool
+fn fits_under<const G: u32>(under: &Under1, entry: &Entry1, place: u64, item: &Item) -> bool
     requires granule { G ≡ granule_of (tg_of under.now.config.now under.now.side) }
     requires under { IsUnder under.now }
     requires left { entry.now.left ≤ most_left }
@@ -111,7 +111,7 @@ pub fn step_kept<const G: u32>(
     access: &Access,
     entry: &Entry1,
     item: &Item,
-) -> Step<Leaf1, Table1>
+) -> Lead<Leaf1, Table1>
     requires config { InRange config.now }
     requires granule { G ≡ granule_of (tg_of config.now (side_of access.now.va)) }
     requires accepted { IsFalse (is_refused1 config.now access.now) }

@@ -18,13 +18,13 @@ use fault_codes::{Class, Fault, Stage};
 use geometry::{case_table, goes_to, leaf_class};
 use permissions::{TableBits, allows1, perms1};
 use sysregs::{Config, Side};
-use table_reads::{Sizes, Step, Walker, is_too_large, level};
+use table_reads::{Lead, Sizes, Walker, is_too_large, level};
 use trails::Access;
 use walk_spec::{Entry1, Fields1, Leaf1, Table1};
 
 /// What a walk through stage 1 is done under. `address` is the access's without its tag.
 #[derive(Clone, Copy)]
-pub(crate) struct Under<'a> {
+pub(crate) struct Under1<'a> {
     pub config: &'a Config,
     pub access: &'a Access,
     pub address: u64,
@@ -85,7 +85,7 @@ fn joined(bits: TableBits, more: TableBits) -> TableBits
 }
 
 /// What a block or page gives whose word stands at a physical place.
-fn leaf<const G: u32>(under: &Under, entry: &Entry1, place: u64, fields: &Fields1) -> Leaf1
+fn leaf<const G: u32>(under: &Under1, entry: &Entry1, place: u64, fields: &Fields1) -> Leaf1
     requires granule { G ≡ granule_of (tg_of under.now.config.now under.now.side) }
     requires under { IsUnder under.now }
     requires left { entry.now.left ≤ most_left }
@@ -123,7 +123,7 @@ fn permit(
     left: u32,
     uxn: bool,
     leaf: Leaf1,
-) -> Step<Leaf1, Table1>
+) -> Lead<Leaf1, Table1>
     requires { left ≤ most_left }
     ensures value { result ≡ judged1 config.now true access.now left uxn leaf }
     ensures sound { IsSoundStep left result }
@@ -136,19 +136,19 @@ fn permit(
         access.pan,
         config.epan,
     ) {
-        Step::Reached { leaf }
+        Lead::Reached { leaf }
     } else {
         stop(Class::Permission, left)
     }
 }
 
 /// A step that ends in a fault.
-fn stop(class: Class, left: u32) -> Step<Leaf1, Table1>
+fn stop(class: Class, left: u32) -> Lead<Leaf1, Table1>
     requires { left ≤ most_left }
-    ensures value { result ≡ Step.Stopped (fault1 class left) }
+    ensures value { result ≡ Lead.Stopped (fault1 class left) }
     ensures sound { IsSoundStep left result }
 {
-    Step::Stopped {
+    Lead::Stopped {
         fault: fault(class, left),
     }
 }
@@ -156,11 +156,11 @@ fn stop(class: Class, left: u32) -> Step<Leaf1, Table1>
 /// What a word leads to that stands at a physical place, for an access that is judged.
 #[tactic(auto, unfolding(walk_spec::specs::Stage1::step1))]
 pub(crate) fn step_by<const G: u32>(
-    under: &Under,
+    under: &Under1,
     entry: &Entry1,
     place: u64,
     word: u64,
-) -> Step<Leaf1, Table1>
+) -> Lead<Leaf1, Table1>
     requires granule { G ≡ granule_of (tg_of under.now.config.now under.now.side) }
     requires under { IsUnder under.now }
     requires left { entry.now.left ≤ most_left }
@@ -172,7 +172,7 @@ pub(crate) fn step_by<const G: u32>(
         Kind1::Invalid => stop(Class::Translation, left),
         Kind1::Table { next, .. } | Kind1::Leaf { out: next, .. }
             if is_too_large(&under.sizes, next) => stop(Class::AddressSize, left),
-        Kind1::Table { next, bits } => Step::Down {
+        Kind1::Table { next, bits } => Lead::Down {
             table: Table1 {
                 address: next,
                 bits: joined(entry.table.bits, bits),

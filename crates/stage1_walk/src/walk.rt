@@ -11,11 +11,11 @@ ghost use Rattle.stage1_walk.specs.Clauses.{IsTableOf, table_from};
 ghost use Rattle.stage1_walk.specs.Gave.{Gave, IsLastPlace, Walked1};
 
 use crate::sizes::sizes1;
-use crate::step::{Under, step_by};
+use crate::step::{Under1, step_by};
 use crate::supply::Supply1;
 use permissions::TableBits;
 use sysregs::Config;
-use table_reads::{Step, left_below, level, place};
+use table_reads::{Lead, left_below, level, place};
 use trails::{Access, Stop, Trail};
 use walk_spec::{Entry1, Leaf1, Table1};
 
@@ -51,7 +51,7 @@ fn word_of<S: Supply1>(entry: &Entry1, supply: &mut S, trail: &mut Trail) -> Res
 
 /// The walk from a table with so many levels left.
 fn walk_left<const G: u32, S: Supply1>(
-    under: &Under,
+    under: &Under1,
     mut left: u32,
     mut table: Table1,
     supply: &mut S,
@@ -75,12 +75,12 @@ fn walk_left<const G: u32, S: Supply1>(
         };
         let word = word_of(&entry, supply, trail)?;
         match step_by::<G>(under, &entry, last_place(trail), word) {
-            Step::Down { table: next } => {
+            Lead::Down { table: next } => {
                 table = next;
                 left -= 1;
             }
-            Step::Reached { leaf } => return Ok(leaf),
-            Step::Stopped { fault } => return Err(Stop::Fault { fault }),
+            Lead::Reached { leaf } => return Ok(leaf),
+            Lead::Stopped { fault } => return Err(Stop::Fault { fault }),
         }
     }
 }
@@ -111,7 +111,7 @@ pub fn walk1<const G: u32, S: Supply1>(
         supply.old trail.old trail.new result supply.new }
 {
     let side = sysregs::side(access.va);
-    let under = Under {
+    let under = Under1 {
         config,
         access,
         address: untagged(access.va),

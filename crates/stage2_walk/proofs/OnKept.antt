@@ -6,11 +6,11 @@ use Rattle.geometry.specs.Tables.{most_left}
 use Rattle.fault_codes.specs.declared.fault.Class.TheVariants.{Translation}
 use Rattle.fault_codes.specs.declared.fault.Fault.{Fault}
 use Rattle.trails.specs.declared.item.Item.{Item}
-use Rattle.table_reads.specs.declared.step.Step.TheVariants.{Down, Reached, Stopped}
+use Rattle.table_reads.specs.declared.lead.Lead.TheVariants.{Down, Reached, Stopped}
 use Rattle.table_reads.specs.Places.{place_of}
 use Rattle.walk_spec.specs.declared.leaf.Leaf2.{Leaf2}
 use Rattle.walk_spec.specs.Ask.{done, ask, Stands, needs, bad, ends, on}
-use Rattle.walk_spec.specs.Needs.{Need, Regime, base2, word, fits}
+use Rattle.walk_spec.specs.Needs.{Need, Regime, stage2_base, word, fits}
 use Rattle.walk_spec.specs.Steps.{End, stops, reaches}
 use Rattle.walk_spec.specs.Stage2.{Asked2, fault2, step2, walk2_from, walk2_behind, walk2, is_refused2}
 use Rattle.walk_spec.proofs.Kept.{asks_none, asks_off, asks_by}
@@ -27,13 +27,14 @@ on_with true h t u = refl
 on_with false h t u = absurd cc
 
 -- an IPA that is not refused asks for the base
-pub asks_base : (q : Asked2) → is_refused2 q.config q.ipa ≡ false → walk2 q ≡ ask (base2 q.ipa) (λ i. walk2_behind q i.value)
-asks_base q h = sym (off_with (is_refused2 q.config q.ipa) h (done (stops (fault2 q Translation most_left))) (ask (base2 q.ipa) (λ i. walk2_behind q i.value)))
+pub asks_base : (q : Asked2) → is_refused2 q.config q.ipa ≡ false → walk2 q ≡ ask (stage2_base q.ipa) (λ i. walk2_behind q i.value)
+asks_base q h = sym (off_with (is_refused2 q.config q.ipa) h (done (stops (fault2 q Translation most_left)))
+    (ask (stage2_base q.ipa) (λ i. walk2_behind q i.value)))
 
 -- an IPA that is refused asks for nothing
 pub asks_nothing : (q : Asked2) → is_refused2 q.config q.ipa ≡ true → walk2 q ≡ done (stops (fault2 q Translation most_left))
 asks_nothing q h =
-    sym (on_with (is_refused2 q.config q.ipa) h (done (stops (fault2 q Translation most_left))) (ask (base2 q.ipa) (λ i. walk2_behind q i.value)))
+    sym (on_with (is_refused2 q.config q.ipa) h (done (stops (fault2 q Translation most_left))) (ask (stage2_base q.ipa) (λ i. walk2_behind q i.value)))
 
 module _ (r : Regime) (q : Asked2) (left table p : ℕ) (here : p ≡ place_of q.sizes left table q.ipa) (items : List Item) (at : ℕ) where
   abbrev pub Here : Stands Need Item (End Leaf2) → Type 0

@@ -7,8 +7,8 @@ use Rattle.fault_codes.specs.declared.fault.Class.TheVariants.{Translation}
 use Rattle.trails.specs.declared.item.Item.{Item}
 use Rattle.trails.specs.declared.outcome.Stop.{Stop}
 use Rattle.trails.specs.declared.outcome.Stop.TheVariants.{Fault as FaultStop}
-use Rattle.table_reads.specs.declared.step.Step.{Step}
-use Rattle.table_reads.specs.declared.step.Step.TheVariants.{Down, Reached, Stopped}
+use Rattle.table_reads.specs.declared.lead.Lead.{Lead}
+use Rattle.table_reads.specs.declared.lead.Lead.TheVariants.{Down, Reached, Stopped}
 use Rattle.table_reads.specs.Places.{place_of}
 use Rattle.table_reads.specs.Items.{word_item}
 use Rattle.table_reads.specs.Memory.{Told, Holds, Misses}
@@ -30,7 +30,7 @@ abbrev pub word_at : (q : Asked2) (left table place : ℕ) → WordNeed
 word_at q left table place = record { stage = S2; left = left; place = place; s1ptw = q.s1ptw; address = q.ipa; table = table }
 
 -- what follows a step
-abbrev pub walk2_then : (q : Asked2) (left : ℕ) (step : Step Leaf2 ℕ) → Ask Need Item (End Leaf2)
+abbrev pub walk2_then : (q : Asked2) (left : ℕ) (step : Lead Leaf2 ℕ) → Ask Need Item (End Leaf2)
 walk2_then q left step = step_then (walk2_below q left) step
 
 walk2_from_asks : (q : Asked2) (left table : ℕ)

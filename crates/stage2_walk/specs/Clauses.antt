@@ -9,7 +9,7 @@ use Rattle.table_reads.specs.Memory.{Told}
 use Rattle.walk_spec.specs.declared.leaf.Leaf2.{Leaf2}
 use Rattle.walk_spec.specs.Stage2.{Asked2, walk2_from}
 use Rattle.walk_spec.specs.Walked.{Walked, ReadsWord}
-use Rattle.stage2_walk.specs.declared.step.Under.{Under}
+use Rattle.stage2_walk.specs.declared.step.Under2.{Under2}
 use Rattle.stage2_walk.specs.declared.walk.From2.{From2}
 use Rattle.stage2_walk.specs.Under.{asked_under}
 
@@ -24,7 +24,7 @@ pub record IsTableOf (c : Config) (from : From2) : Type 0 where
 -- Stage 2 was walked from a table with so many levels left: the words that it needs were read at the moment and
 -- appended, and the answer is how it ended. (More than six parameters: what the supply tells, the walk, and the trail
 -- before and after.)
-abbrev pub WalkedLeft : (told : Told) (failed : Type 0) (under : Under) (left table : ℕ) (old new : List Item) (result : Result Leaf2 Stop) → Type 0
+abbrev pub WalkedLeft : (told : Told) (failed : Type 0) (under : Under2) (left table : ℕ) (old new : List Item) (result : Result Leaf2 Stop) → Type 0
 WalkedLeft told failed u left table old new r = Walked (ReadsWord u.moment told) told failed (walk2_from (asked_under u) left table) old new r
 
 -- what a walk from a given table is asked: where an IPA goes under register fields, with which mark, at which moment

@@ -2,8 +2,8 @@
 use Rattle.std.specs.Prelude.{ℕ, ◌<◌, ◌^◌, ◌%◌, ◌≡◌}
 use Rattle.fault_codes.specs.Status.{HasStatus, HasLevel}
 use Rattle.fault_codes.specs.declared.fault.Class.TheVariants.{Permission}
-use Rattle.table_reads.specs.declared.step.Step.{Step}
-use Rattle.table_reads.specs.declared.step.Step.TheVariants.{Down, Reached, Stopped}
+use Rattle.table_reads.specs.declared.lead.Lead.{Lead}
+use Rattle.table_reads.specs.declared.lead.Lead.TheVariants.{Down, Reached, Stopped}
 use Rattle.walk_spec.specs.declared.leaf.Leaf2.{Leaf2}
 
 -- a leaf keeps the IPA's place among eight bytes, and a permission fault has its level
@@ -11,7 +11,7 @@ abbrev pub IsSoundLeaf : (ipa : ℕ) (leaf : Leaf2) → Type 0
 IsSoundLeaf ipa l = (l.pa % 8 ≡ ipa % 8) × HasLevel Permission l.level
 
 -- the next table has a level below, and can be read; a leaf is sound; a fault has a status code
-abbrev pub IsSoundStep : (left ipa : ℕ) (step : Step Leaf2 ℕ) → Type 0
+abbrev pub IsSoundStep : (left ipa : ℕ) (step : Lead Leaf2 ℕ) → Type 0
 IsSoundStep left ipa (Down table) = (0 < left) × (table < 2 ^ 52) × (table % 8 ≡ 0)
 IsSoundStep left ipa (Reached l) = IsSoundLeaf ipa l
 IsSoundStep left ipa (Stopped f) = HasStatus f

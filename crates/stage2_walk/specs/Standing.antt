@@ -7,7 +7,7 @@ use Rattle.trails.specs.declared.item.Item.{Item}
 use Rattle.table_reads.specs.Numbers.{sizes2}
 use Rattle.walk_spec.specs.declared.leaf.Leaf2.{Leaf2}
 use Rattle.walk_spec.specs.Ask.{Stands, needs, bad, ends}
-use Rattle.walk_spec.specs.Needs.{Need, base2, word, WordNeed}
+use Rattle.walk_spec.specs.Needs.{Need, stage2_base, word, WordNeed}
 use Rattle.walk_spec.specs.Steps.{End, stops, reaches}
 use Rattle.walk_spec.specs.Stage2.{Asked2}
 use Rattle.stage2_walk.specs.declared.walk.From2.{From2}
@@ -36,5 +36,5 @@ abbrev pub IsStood2 : (config : Config) (items : List Item) (stood : Stood2) (st
 IsStood2 c items (Found l at) s = (at ≤ length items) × (s ≡ ends (reaches l) (drop at items))
 IsStood2 c items (Refused f at) s = (at ≤ length items) × (s ≡ ends (stops f) (drop at items))
 IsStood2 c items (Within from) s = IsTableOf c from × NeedsOf from s
-IsStood2 c items Before s = (ipa : ℕ) × (s ≡ needs (base2 ipa))
+IsStood2 c items Before s = (ipa : ℕ) × (s ≡ needs (stage2_base ipa))
 IsStood2 c items Unfit s = s ≡ bad

@@ -8,7 +8,7 @@ ghost use Rattle.descriptors.specs.Meaning.{means2_of};
 ghost use Rattle.walk_spec.specs.Ask.{on};
 ghost use Rattle.table_reads.specs.Numbers;
 ghost use Rattle.table_reads.specs.Items.{fault_at};
-ghost use Rattle.walk_spec.specs.Needs.{fits, base2, word, mapping2, serves_run, regime_of};
+ghost use Rattle.walk_spec.specs.Needs.{fits, stage2_base, word, mapping2, serves_run, regime_of};
 ghost use Rattle.walk_spec.specs.Stage2;
 ghost use Rattle.walk_spec.specs.Stage2.{walk2_from, walk2_behind};
 ghost use Rattle.stage2_walk.specs.Under.{IsUnder, asked_under, regime_under};
@@ -16,14 +16,14 @@ ghost use Rattle.stage2_walk.specs.Standing.{IsStood2, needed, table_at, asked2_
 
 use crate::refusals::is_refused2;
 use crate::sizes::sizes2;
-use crate::step::{Under, meaning, step_by};
+use crate::step::{Under2, meaning, step_by};
 use crate::walk::From2;
 use descriptors::Kind2;
 use fault_codes::{Class, Fault, Stage};
 use geometry::{case_table, serves_run};
 use kept_items::{fits_base, is_word, item_at};
 use sysregs::{Config, Tg};
-use table_reads::{MOST_LEFT, Step, Walker, fault, is_too_large, level, place};
+use table_reads::{Lead, MOST_LEFT, Walker, fault, is_too_large, level, place};
 use trails::Item;
 use walk_spec::Leaf2;
 
@@ -51,7 +51,7 @@ fn table_at(left: u32, base: u64) -> From2
 }
 
 /// Whether an item's word is a block or page of a run that serves another place of the run.
-fn is_run_mate<const G: u32>(under: &Under, left: u32, place: u64, item: &Item) -> bool
+fn is_run_mate<const G: u32>(under: &Under2, left: u32, place: u64, item: &Item) -> bool
     requires granule { G ≡ granule_of under.now.config.now.tg2 }
     requires under { IsUnder under.now }
     requires left { left ≤ most_left }
@@ -69,7 +69,7 @@ fn is_run_mate<const G: u32>(under: &Under, left: u32, place: u64, item: &Item) 
 
 /// Whether an item is the word that is needed at a place.
 #[tactic(auto, unfolding(walk_spec::specs::Needs::fits))]
-fn fits_word<const G: u32>(under: &Under, left: u32, place: u64, item: &Item) -> bool
+fn fits_word<const G: u32>(under: &Under2, left: u32, place: u64, item: &Item) -> bool
     requires granule { G ≡ granule_of under.now.config.now.tg2 }
     requires under { IsUnder under.now }
     requires left { left ≤ most_left }
@@ -81,7 +81,7 @@ fn fits_word<const G: u32>(under: &Under, left: u32, place: u64, item: &Item) ->
 
 /// How the walk from a table stands on the items from a place on.
 fn stand_left<const G: u32>(
-    under: &Under,
+    under: &Under2,
     left: u32,
     table: u64,
     items: &[Item],
@@ -107,17 +107,17 @@ fn stand_left<const G: u32>(
         return Stood2::Unfit;
     }
     match step_by::<G>(under, left, item.pa, item.value) {
-        Step::Down { table } => stand_left::<G>(under, left - 1, table, items, at + 1),
-        Step::Reached { leaf } => Stood2::Found { leaf, at: at + 1 },
-        Step::Stopped { fault } => Stood2::Refused { fault, at: at + 1 },
+        Lead::Down { table } => stand_left::<G>(under, left - 1, table, items, at + 1),
+        Lead::Reached { leaf } => Stood2::Found { leaf, at: at + 1 },
+        Lead::Stopped { fault } => Stood2::Refused { fault, at: at + 1 },
     }
 }
 
 /// Whether an item is the base of stage 2.
 #[tactic(auto, unfolding(walk_spec::specs::Needs::fits))]
-fn fits_start(under: &Under, item: &Item) -> bool
+fn fits_start(under: &Under2, item: &Item) -> bool
     requires under { IsUnder under.now }
-    ensures { (s : Side) → (ipa : ℕ) → result ≡ fits (regime_under under.now s) (base2 ipa) item.now }
+    ensures { (s : Side) → (ipa : ℕ) → result ≡ fits (regime_under under.now s) (stage2_base ipa) item.now }
 {
     fits_base(&under.sizes, Stage::S2, item)
 }
@@ -135,7 +135,7 @@ fn refusal(s1ptw: bool, class: Class) -> Fault
 }
 
 /// How the walk from a base that fits stands on the items behind it, by the granule of stage 2.
-fn stand_behind(under: &Under, base: u64, items: &[Item], at: usize) -> Stood2
+fn stand_behind(under: &Under2, base: u64, items: &[Item], at: usize) -> Stood2
     requires under { IsUnder under.now }
     requires sizes { under.now.sizes ≡ Numbers.sizes2 under.now.config.now }
     requires base { base < 2 ^ 52 × base % 8 ≡ 0 }
@@ -153,7 +153,7 @@ fn stand_behind(under: &Under, base: u64, items: &[Item], at: usize) -> Stood2
 }
 
 /// How the walk from its base stands on the items from a place on, for an IPA that is not refused.
-fn stand_on(under: &Under, items: &[Item], at: usize) -> Stood2
+fn stand_on(under: &Under2, items: &[Item], at: usize) -> Stood2
     requires under { IsUnder under.now }
     requires sizes { under.now.sizes ≡ Numbers.sizes2 under.now.config.now }
     requires accepted { IsFalse (Stage2.is_refused2 under.now.config.now under.now.ipa) }
@@ -185,7 +185,7 @@ pub fn stand2(config: &Config, ipa: u64, ptw: bool, items: &[Item], at: usize) -
             at,
         };
     }
-    let under = Under {
+    let under = Under2 {
         config,
         ipa,
         sizes: sizes2(config),

@@ -15,12 +15,12 @@ use fault_codes::{Class, Stage};
 use geometry::{case_table, goes_to, leaf_class};
 use permissions::perms2;
 use sysregs::Config;
-use table_reads::{Sizes, Step, Walker, fault, is_too_large, level};
+use table_reads::{Lead, Sizes, Walker, fault, is_too_large, level};
 use walk_spec::{Fields2, Leaf2};
 
 /// What a walk through stage 2 is done under: `s1ptw` marks the place of a stage 1 descriptor.
 #[derive(Clone, Copy)]
-pub(crate) struct Under<'a> {
+pub(crate) struct Under2<'a> {
     pub config: &'a Config,
     pub ipa: u64,
     pub sizes: Sizes,
@@ -28,7 +28,7 @@ pub(crate) struct Under<'a> {
     pub s1ptw: bool,
 }
 
-impl<'a> Under<'a> {
+impl<'a> Under2<'a> {
     /// Stage 2 with this mark at this moment.
     pub fn walker(&self) -> Walker
         ensures { result ≡ walker_under self.now }
@@ -62,7 +62,7 @@ pub(crate) fn meaning<const G: u32>(left: u32, word: u64, config: &Config) -> Ki
 
 /// What a block or page gives whose word stands at a place.
 #[tactic(auto, using(geometry::proofs::Leaves::leaf_class_least, geometry::proofs::Leaves::goes_to_eights))]
-fn leaf<const G: u32>(under: &Under, left: u32, place: u64, fields: &Fields2) -> Leaf2
+fn leaf<const G: u32>(under: &Under2, left: u32, place: u64, fields: &Fields2) -> Leaf2
     requires granule { G ≡ granule_of under.now.config.now.tg2 }
     requires under { IsUnder under.now }
     requires left { left ≤ most_left }
@@ -90,12 +90,12 @@ fn leaf<const G: u32>(under: &Under, left: u32, place: u64, fields: &Fields2) ->
 }
 
 /// A step that ends in a fault.
-fn stop(under: &Under, class: Class, left: u32) -> Step<Leaf2, u64>
+fn stop(under: &Under2, class: Class, left: u32) -> Lead<Leaf2, u64>
     requires { left ≤ most_left }
-    ensures value { result ≡ Step.Stopped (fault2 (asked_under under.now) class left) }
+    ensures value { result ≡ Lead.Stopped (fault2 (asked_under under.now) class left) }
     ensures sound { IsSoundStep left under.now.ipa result }
 {
-    Step::Stopped {
+    Lead::Stopped {
         fault: fault(&under.walker(), class, left),
     }
 }
@@ -103,11 +103,11 @@ fn stop(under: &Under, class: Class, left: u32) -> Step<Leaf2, u64>
 /// What a word leads to that stands at a place.
 #[tactic(auto, unfolding(walk_spec::specs::Stage2::step2))]
 pub(crate) fn step_by<const G: u32>(
-    under: &Under,
+    under: &Under2,
     left: u32,
     place: u64,
     word: u64,
-) -> Step<Leaf2, u64>
+) -> Lead<Leaf2, u64>
     requires granule { G ≡ granule_of under.now.config.now.tg2 }
     requires under { IsUnder under.now }
     requires left { left ≤ most_left }
@@ -118,7 +118,7 @@ pub(crate) fn step_by<const G: u32>(
         Kind2::Invalid => stop(under, Class::Translation, left),
         Kind2::Table { next } | Kind2::Leaf { out: next, .. } if is_too_large(&under.sizes, next) =>
             stop(under, Class::AddressSize, left),
-        Kind2::Table { next } => Step::Down { table: next },
+        Kind2::Table { next } => Lead::Down { table: next },
         Kind2::Leaf { af, .. } if !(af | under.config.ha2) => stop(under, Class::AccessFlag, left),
         Kind2::Leaf {
             out,
@@ -141,7 +141,7 @@ pub(crate) fn step_by<const G: u32>(
                 dbm,
                 contiguous,
             };
-            Step::Reached {
+            Lead::Reached {
                 leaf: leaf::<G>(under, left, place, &fields),
             }
         }

@@ -11,9 +11,9 @@ ghost use Rattle.stage2_walk.specs.SoundSteps.{IsSoundLeaf};
 ghost use Rattle.stage2_walk.specs.Clauses.{IsTableOf, WalkedLeft, WalkedFrom};
 
 use crate::sizes::sizes2;
-use crate::step::{Under, step_by};
+use crate::step::{Under2, step_by};
 use sysregs::Config;
-use table_reads::{Step, Supply, left_below, level, place, read};
+use table_reads::{Lead, Supply, left_below, level, place, read};
 use trails::{Stop, Trail};
 use walk_spec::Leaf2;
 
@@ -26,7 +26,7 @@ pub struct From2 {
 
 /// Reads the word at a place with so many levels left, and appends its item.
 fn read_word<S: Supply>(
-    under: &Under,
+    under: &Under2,
     left: u32,
     place: u64,
     supply: &mut S,
@@ -46,7 +46,7 @@ fn read_word<S: Supply>(
 
 /// The walk from a table with so many levels left.
 fn walk_left<const G: u32, S: Supply>(
-    under: &Under,
+    under: &Under2,
     mut left: u32,
     mut table: u64,
     supply: &mut S,
@@ -69,12 +69,12 @@ fn walk_left<const G: u32, S: Supply>(
         let place = place::<G>(&under.sizes, left, table, under.ipa);
         let word = read_word(under, left, place, supply, trail)?;
         match step_by::<G>(under, left, place, word) {
-            Step::Down { table: next } => {
+            Lead::Down { table: next } => {
                 table = next;
                 left -= 1;
             }
-            Step::Reached { leaf } => return Ok(leaf),
-            Step::Stopped { fault } => return Err(Stop::Fault { fault }),
+            Lead::Reached { leaf } => return Ok(leaf),
+            Lead::Stopped { fault } => return Err(Stop::Fault { fault }),
         }
     }
 }
@@ -104,7 +104,7 @@ pub fn walk2<const G: u32, S: Supply>(
     ensures walked { WalkedFrom (S.memory supply.old) (Rose (S.faults supply.old) (S.faults supply.new))
         (record { config = config.now; ipa = ipa; s1ptw = ptw; moment = moment; from = from.now }) trail.old trail.new result }
 {
-    let under = Under {
+    let under = Under2 {
         config,
         ipa,
         sizes: sizes2(config),

@@ -2,15 +2,15 @@
 #![tactic(auto)]
 
 mod bases;
+mod lead;
 mod levels;
 mod reads;
 mod sizes;
-mod step;
 mod supply;
 
 pub use bases::{is_too_large, keep_base, start_base};
+pub use lead::Lead;
 pub use levels::{MOST_LEFT, Walker, fault, left_below, level};
 pub use reads::{place, read};
 pub use sizes::{Sizes, is_sized};
-pub use step::Step;
 pub use supply::Supply;

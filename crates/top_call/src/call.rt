@@ -5,7 +5,7 @@ ghost use Rattle.commands.specs.Command.{command_of};
 ghost use Rattle.answers.specs.Answers.{IsDue};
 ghost use Rattle.top_call.specs.Clauses.{Tells};
 ghost use Rattle.top_call.specs.Clauses.{UsageWhere, RefusedWhere, NoFileWhere, ReadFaultWhere, WriteFaultWhere, DoneWhere, IsQuiet, IsComplete};
-ghost use Rattle.answers.specs.Due.{due_of, IsPrintable};
+ghost use Rattle.answers.specs.Due.{due_of, HasAnswerText};
 
 use answers::explain::explain;
 use answers::raw::raw;
@@ -19,7 +19,7 @@ use std::alloc::Global;
 
 /// What is due, before anything is written: an answer, or a refusal.
 fn due<F: Files>(alloc: Global, words: &[String], files: &mut F) -> Result<Answer, Status>
-    ensures outcome { IfOk result IsPrintable }
+    ensures outcome { IfOk result HasAnswerText }
     ensures due { IsDue (reading_of F.holds F.faults F.missing files.old files.new) (command_of (map string_bytes words.now)) (due_of result) }
 {
     match read_command(alloc, words) {
@@ -38,7 +38,7 @@ fn tell<O: Sink, E: Sink>(
     err: &mut E,
     due: Result<Answer, Status>,
 ) -> Status
-    requires { IfOk due IsPrintable }
+    requires { IfOk due HasAnswerText }
     ensures { Tells (writing_of O.written O.faults out.old out.new) (writing_of E.written E.faults err.old err.new) (due_of due) result }
 {
     match due {

@@ -15,7 +15,7 @@ use Rattle.table_reads.specs.Numbers.{sizes1}
 use Rattle.table_reads.specs.Places.{is_too_large}
 use Rattle.walk_spec.specs.declared.entry.Table1.{Table1}
 use Rattle.walk_spec.specs.Ask.{Ask, done, ask, ends, on}
-use Rattle.walk_spec.specs.Needs.{Regime, base1, fits, regime_of, is_base, stage_eq}
+use Rattle.walk_spec.specs.Needs.{Regime, stage1_base, fits, regime_of, is_base, stage_eq}
 use Rattle.walk_spec.specs.Steps.{stops, reaches}
 use Rattle.walk_spec.specs.Stage1.{Asked, fault1, stage1_from}
 use Rattle.walk_spec.specs.BothStages.{asked, stage1, stage1_on, stage1_off, stage1_behind, is_refused1, is_refused_off, off_leaf}
@@ -39,7 +39,7 @@ both_top false true d h = absurd cc
 both_top false false d h = absurd cc
 
 -- a base of stage 1 is one
-base_top : (c : Config) (s : Side) (i : Item) → fits (regime_of c s) base1 i ≡ true → is_top c s i ≡ true
+base_top : (c : Config) (s : Side) (i : Item) → fits (regime_of c s) stage1_base i ≡ true → is_top c s i ≡ true
 unfolding fits
 base_top c s i h = both_top (stage_eq i.stage S1) (is_base i.what) _ (first_true _ _ (first_true _ _ (first_true _ _ (first_true _ _ h))))
 
@@ -58,21 +58,22 @@ module _ (c : Config) (a : Access) (items : List Item) (m : c.m ≡ true) (ok : 
   abbrev pub q : Asked
   q = asked c true a
 
-  asks : stage1 q ≡ ask base1 (λ i. stage1_behind q i.value)
+  asks : stage1 q ≡ ask stage1_base (λ i. stage1_behind q i.value)
   asks = on_with c.m m (stage1_on q) (stage1_off q)
-      ∙ off_with (is_refused1 c a) ok (done (stops (fault1 Translation most_left))) (ask base1 (λ i. stage1_behind q i.value))
+      ∙ off_with (is_refused1 c a) ok (done (stops (fault1 Translation most_left))) (ask stage1_base (λ i. stage1_behind q i.value))
 
   -- the list is empty
   pub start_none : length items ≡ 0 → IsStoodOn c a items Within
-  start_none e = ((base1, asks_none (fits r) (stage1 q) base1 (λ i. stage1_behind q i.value) asks items 0 (sym e)), none_top c (side_of a.va) items e)
+  start_none e =
+      ((stage1_base, asks_none (fits r) (stage1 q) stage1_base (λ i. stage1_behind q i.value) asks items 0 (sym e)), none_top c (side_of a.va) items e)
 
   module _ (i : Item) (l : 0 < length items) (e : i ≡ get_or items 0 i) where
-    pub start_off : false ≡ fits r base1 i → IsStoodOn c a items Unfit
-    start_off f = asks_off (fits r) (stage1 q) base1 (λ i. stage1_behind q i.value) asks items 0 i l e (sym f)
+    pub start_off : false ≡ fits r stage1_base i → IsStoodOn c a items Unfit
+    start_off f = asks_off (fits r) (stage1 q) stage1_base (λ i. stage1_behind q i.value) asks items 0 i l e (sym f)
 
-    module _ (f : true ≡ fits r base1 i) where
+    module _ (f : true ≡ fits r stage1_base i) where
       by_base : stands_stage1 c a items ≡ on (fits r) (stage1_behind q i.value) (drop 1 items)
-      by_base = asks_by (fits r) (stage1 q) base1 (λ i. stage1_behind q i.value) asks items 0 i l e (sym f)
+      by_base = asks_by (fits r) (stage1 q) stage1_base (λ i. stage1_behind q i.value) asks items 0 i l e (sym f)
 
       -- the base is too large
       pub start_large : true ≡ is_too_large (sizes1 c (side_of a.va)) i.value → (d : Fault) → d ≡ fault1 AddressSize most_left
@@ -100,7 +101,7 @@ module _ (c : Config) (a : Access) (items : List Item) (m : c.m ≡ true) (ok : 
         more_here : (more : List Item) → stands_stage1 c a (items ++ more) ≡ stands1 c a (sizes1 c (side_of a.va)).start t (drop 1 items ++ more)
         more_here more =
             ap (λ z. stands_stage1 c a (z ++ more)) (rest_some 0 items i l e)
-            ∙ by_first (fits r) (stage1 q) base1 (λ i. stage1_behind q i.value) i (drop 1 items ++ more) asks (sym f)
+            ∙ by_first (fits r) (stage1 q) stage1_base (λ i. stage1_behind q i.value) i (drop 1 items ++ more) asks (sym f)
             ∙ behind (drop 1 items ++ more)
 
         -- the last item is the base
@@ -128,7 +129,7 @@ refused_at : (m : Bool) (c : Config) (a : Access) (f : Fault) (items : List Item
 refused_at true c a f items h =
     let k = err_by (is_refused1 c a) (refusal S1 false Translation) f _ h in
     ap (λ w. on (fits (regime_of c (side_of a.va))) w items)
-    (on_with (is_refused1 c a) k.0 (done (stops (fault1 Translation most_left))) (ask base1 (λ i. stage1_behind (asked c true a) i.value)))
+    (on_with (is_refused1 c a) k.0 (done (stops (fault1 Translation most_left))) (ask stage1_base (λ i. stage1_behind (asked c true a) i.value)))
     ∙ ap (λ z. ends (stops z) items) (sym k.1)
 refused_at false c a f items h =
     let k = err_by (is_refused_off c a) (refusal S1 false AddressSize) f _ h in

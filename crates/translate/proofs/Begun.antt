@@ -17,7 +17,7 @@ use Rattle.table_reads.specs.Items.{base_item}
 use Rattle.table_reads.specs.Memory.{Told}
 use Rattle.walk_spec.specs.declared.leaf.Leaf2.{Leaf2}
 use Rattle.walk_spec.specs.Ask.{done, ask}
-use Rattle.walk_spec.specs.Needs.{Need, base1, base2, word}
+use Rattle.walk_spec.specs.Needs.{Need, stage1_base, stage2_base, word}
 use Rattle.walk_spec.specs.Steps.{stops}
 use Rattle.walk_spec.specs.Stage2.{Asked2, fault2, is_refused2, walk2_from, walk2_behind, walk2}
 use Rattle.walk_spec.specs.Fresh.{start_base2}
@@ -57,8 +57,8 @@ module _ (under : RegsAt) (m : Told) (p : Bool) (ipa : ℕ) where
   base = base_item under.moment S2 (sizes2 (config_of under.regs)) (start_base2 under.regs)
 
   word_reads : (n : Need) (i : Item) → ReadsWord under.moment m n i → Reads2 under m n i
-  word_reads base1 i h = absurd h
-  word_reads (base2 _) i h = absurd h
+  word_reads stage1_base i h = absurd h
+  word_reads (stage2_base _) i h = absurd h
   word_reads (word w) i h = h
 
   -- the IPA is refused
@@ -67,22 +67,23 @@ module _ (under : RegsAt) (m : Told) (p : Bool) (ipa : ℕ) where
   walked_refused2 F old new s h n e =
       subst (λ t. Walked (Reads2 under m) m F t old new s)
       (sym (on_with (is_refused2 (config_of under.regs) ipa) h (done (stops (fault2 q Translation most_left)))
-      (ask (base2 ipa) (λ i. walk2_behind q i.value)))) (walked_done (Reads2 under m) m F (stops (fault2 q Translation most_left)) old new s n e)
+      (ask (stage2_base ipa) (λ i. walk2_behind q i.value)))) (walked_done (Reads2 under m) m F (stops (fault2 q Translation most_left)) old new s n e)
 
   module _ (ok : is_refused2 (config_of under.regs) ipa ≡ false) (old mid : List Item) (kept : mid ≡ old ++ base ∷ []) where
-    asks : walk2 q ≡ ask (base2 ipa) (λ i. walk2_behind q i.value)
-    asks = off_with (is_refused2 (config_of under.regs) ipa) ok (done (stops (fault2 q Translation most_left))) (ask (base2 ipa) (λ i. walk2_behind q i.value))
+    asks : walk2 q ≡ ask (stage2_base ipa) (λ i. walk2_behind q i.value)
+    asks = off_with (is_refused2 (config_of under.regs) ipa) ok (done (stops (fault2 q Translation most_left)))
+        (ask (stage2_base ipa) (λ i. walk2_behind q i.value))
 
     -- the base is too large
     pub walked_large2 : (F : Type 0) (s : Result Leaf2 Stop) → is_too_large (sizes2 (config_of under.regs)) (start_base2 under.regs) ≡ true
         → s ≡ Err (FaultStop (refusal S2 p AddressSize)) → Walked2 m F under p ipa old mid s
     walked_large2 F s h e =
-        walked_ends (Reads2 under m) m F _ (base2 ipa) _ base (stops (fault2 q AddressSize most_left)) old mid s asks kept refl (on_with _ h _ _) e
+        walked_ends (Reads2 under m) m F _ (stage2_base ipa) _ base (stops (fault2 q AddressSize most_left)) old mid s asks kept refl (on_with _ h _ _) e
 
     -- the walk goes on from the base
     pub walked_from2 : (F : Type 0) (new : List Item) (s : Result Leaf2 Stop) → is_too_large (sizes2 (config_of under.regs)) (start_base2 under.regs) ≡ false
         → Walked (ReadsWord under.moment m) m F (walk2_from q (sizes2 (config_of under.regs)).start (start_base2 under.regs)) mid new s
         → Walked2 m F under p ipa old new s
     walked_from2 F new s h w =
-        walked_goes (Reads2 under m) m F F _ (base2 ipa) _ base _ old mid new s asks kept refl (off_with _ h _ _) (λ f. f)
+        walked_goes (Reads2 under m) m F F _ (stage2_base ipa) _ base _ old mid new s asks kept refl (off_with _ h _ _) (λ f. f)
         (walked_weaker (ReadsWord under.moment m) (Reads2 under m) m F word_reads _ mid new s w)

@@ -17,7 +17,7 @@ use Rattle.table_reads.specs.Memory.{Told}
 use Rattle.walk_spec.specs.declared.leaf.Leaf1.{Leaf1}
 use Rattle.walk_spec.specs.declared.leaf.Leaf2.{Leaf2}
 use Rattle.walk_spec.specs.Ask.{Ask, done, after, Fed, ended, lacks, Took}
-use Rattle.walk_spec.specs.Needs.{Need, base1, base2, word, WordNeed}
+use Rattle.walk_spec.specs.Needs.{Need, stage1_base, stage2_base, word, WordNeed}
 use Rattle.walk_spec.specs.Steps.{End, stops, reaches}
 use Rattle.walk_spec.specs.Stage2.{walk2}
 use Rattle.walk_spec.specs.BothStages.{Landing, landed, piece, judged2, outcome_of, stage2_behind, stage1, walk}
@@ -65,8 +65,8 @@ module _ (under : RegsAt) (a : Access) (m : Told) where
         answer = ap (λ s. outcome_by (Err s)) e;
       }
   whole_stops F items x (ended (reaches l)) h c r = absurd cc
-  whole_stops F items x (lacks base1) h c r = absurd c
-  whole_stops F items x (lacks (base2 y)) h c r = absurd c
+  whole_stops F items x (lacks stage1_base) h c r = absurd c
+  whole_stops F items x (lacks (stage2_base y)) h c r = absurd c
   whole_stops F items x (lacks (word w)) h c r =
       record {
         end = lacks (word w);
@@ -135,8 +135,8 @@ module _ (under : RegsAt) (a : Access) (m : Told) where
           let e : x ≡ FaultStop f = cc in
           record { end = ended (stops f); took = ends2 ys (stops f) h; cause = tt; answer = ap (λ s. outcome_by (Err s)) e }
       stops2 ys x (ended (reaches k)) h c r = absurd cc
-      stops2 ys x (lacks base1) h c r = absurd c
-      stops2 ys x (lacks (base2 y)) h c r = absurd c
+      stops2 ys x (lacks stage1_base) h c r = absurd c
+      stops2 ys x (lacks (stage2_base y)) h c r = absurd c
       stops2 ys x (lacks (word w)) h c r = record {
         end = lacks (word w);
         took = on_both ys (lacks (word w))

@@ -17,7 +17,7 @@ use Rattle.walk_spec.specs.declared.entry.Entry1.{Entry1}
 use Rattle.walk_spec.specs.declared.entry.Table1.{Table1}
 use Rattle.walk_spec.specs.declared.leaf.Leaf1.{Leaf1}
 use Rattle.walk_spec.specs.Ask.{Ask, Fed, ended, lacks, Took}
-use Rattle.walk_spec.specs.Needs.{Need, base1, base2, word, regime_of}
+use Rattle.walk_spec.specs.Needs.{Need, stage1_base, stage2_base, word, regime_of}
 use Rattle.walk_spec.specs.Steps.{End, stops, reaches}
 use Rattle.walk_spec.specs.Stage1.{word_of}
 use Rattle.walk_spec.specs.BothStages.{asked}
@@ -77,8 +77,8 @@ module _ {S : Type 0} (memory : S → Told) (faults : S → ℕ) (keeps : S → 
         → LacksFor m (Rose f (faults s'.supply.now)) e → StopTells x e → StopsBy stops (Tells s') x e
     stop_tells s' x f a b (ended (Ok i)) h t = t
     stop_tells s' x f a b (ended (Err d)) h t = (ap Err t, tt)
-    stop_tells s' x f a b (lacks base1) h t = absurd t
-    stop_tells s' x f a b (lacks (base2 _)) h t = absurd t
+    stop_tells s' x f a b (lacks stage1_base) h t = absurd t
+    stop_tells s' x f a b (lacks (stage2_base _)) h t = absurd t
     stop_tells s' x f a b (lacks (word w)) h t =
         (ap Err t, misses_weaker m w.place _ _ (rose_weaker f0 f (faults s'.supply.now) (faults s'.supply.now) a (omega arith)) h)
 
@@ -130,8 +130,8 @@ line_stop m F e (FaultStop f) h a c = c
 line_stop m F e (Absent s l p q) h a c = tt
 line_stop m F (ended (stops f)) Conflict h a c = absurd cc
 line_stop m F (ended (reaches l)) Conflict h a c = absurd cc
-line_stop m F (lacks base1) Conflict h a c = h
-line_stop m F (lacks (base2 x)) Conflict h a c = h
+line_stop m F (lacks stage1_base) Conflict h a c = h
+line_stop m F (lacks (stage2_base x)) Conflict h a c = h
 line_stop m F (lacks (word w)) Conflict h a c = absurd cc
 
 pub line_of : {L : Type 0} (m : Told) (F : Type 0) (e : Fed Need (End L)) (r : Result L Stop) → LacksFor m F e → r ≡ result_of e → IfErr r HasTextStop

@@ -9,12 +9,12 @@ use Rattle.fault_codes.specs.declared.fault.Stage.TheVariants.{S1, S2}
 use Rattle.sysregs.specs.declared.regs.Config.{Config}
 use Rattle.sysregs.specs.declared.regs.Side.{Side}
 use Rattle.trails.specs.declared.item.Item.{Item}
-use Rattle.table_reads.specs.declared.step.Step.{Step}
-use Rattle.table_reads.specs.declared.step.Step.TheVariants.{Down, Reached, Stopped}
+use Rattle.table_reads.specs.declared.lead.Lead.{Lead}
+use Rattle.table_reads.specs.declared.lead.Lead.TheVariants.{Down, Reached, Stopped}
 use Rattle.walk_spec.specs.declared.entry.Entry1.{Entry1}
 use Rattle.walk_spec.specs.declared.leaf.Leaf2.{Leaf2}
 use Rattle.walk_spec.specs.Ask.{Ask, done, ask, after, Stands, needs, bad, ends, on}
-use Rattle.walk_spec.specs.Needs.{Need, base2, word, WordNeed, Regime, fits, stage_eq, is_base}
+use Rattle.walk_spec.specs.Needs.{Need, stage2_base, word, WordNeed, Regime, fits, stage_eq, is_base}
 use Rattle.walk_spec.specs.Steps.{End, stops, reaches, step_then}
 use Rattle.walk_spec.specs.Stage2.{Asked2, step2, walk2_from, walk2, is_refused2}
 use Rattle.walk_spec.specs.Stage1.{asked2, is_readable, read1, read1_by, word_of}
@@ -34,7 +34,7 @@ is_second : (s : Stage) → stage_eq s S2 ≡ true → stage_eq s S1 ≡ false
 is_second S1 h = absurd cc
 is_second S2 h = refl
 
-base_deep : (r : Regime) (x : ℕ) (i : Item) → fits r (base2 x) i ≡ true → stage_eq i.stage S1 ≡ false
+base_deep : (r : Regime) (x : ℕ) (i : Item) → fits r (stage2_base x) i ≡ true → stage_eq i.stage S1 ≡ false
 unfolding fits
 base_deep r x i h = is_second i.stage (second_true _ _ (first_true _ _ (first_true _ _ (first_true _ _ (first_true _ _ h)))))
 
@@ -75,7 +75,7 @@ ends_deep r (ask m k) o (i ∷ items) a h =
     let d = ends_true (fits r m i) (on (fits r) (k i) items) a [] h in
     (o.0 i d.0, ends_deep r (k i) (o.1 i) items a d.1)
 
-then_only : (r : Regime) (below : ℕ → Ask Need Item (End Leaf2)) → ((t : ℕ) → Only2 r (below t)) → (step : Step Leaf2 ℕ) → Only2 r (step_then below step)
+then_only : (r : Regime) (below : ℕ → Ask Need Item (End Leaf2)) → ((t : ℕ) → Only2 r (below t)) → (step : Lead Leaf2 ℕ) → Only2 r (step_then below step)
 then_only r below h (Down t) = h t
 then_only r below h (Reached l) = tt
 then_only r below h (Stopped f) = tt

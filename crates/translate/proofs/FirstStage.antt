@@ -22,7 +22,7 @@ use Rattle.table_reads.specs.Items.{base_item}
 use Rattle.table_reads.specs.Memory.{Told}
 use Rattle.walk_spec.specs.declared.leaf.Leaf1.{Leaf1}
 use Rattle.walk_spec.specs.Ask.{done, ask}
-use Rattle.walk_spec.specs.Needs.{Need, base1, base2, word}
+use Rattle.walk_spec.specs.Needs.{Need, stage1_base, stage2_base, word}
 use Rattle.walk_spec.specs.Steps.{End, stops, reaches}
 use Rattle.walk_spec.specs.Stage1.{Asked, fault1}
 use Rattle.walk_spec.specs.BothStages.{is_refused1, is_refused_off, stage1_behind, stage1_on, stage1_off, off_leaf, asked}
@@ -96,19 +96,19 @@ module _ (under : RegsAt) (a : Access) (m : Told) where
 
   -- what is read behind the base of stage 1 is read now
   pub read_now : (n : Need) (i : Item) → Reads2 under m n i → reads n i
-  read_now base1 i h = absurd h
-  read_now (base2 _) i h = h
+  read_now stage1_base i h = absurd h
+  read_now (stage2_base _) i h = h
   read_now (word w) i h = h
 
   module _ (ok : is_refused1 (config_of under.regs) a ≡ false) (mid : List Item) (kept : mid ≡ first_item ∷ []) where
-    asks : stage1_on q ≡ ask base1 (λ i. stage1_behind q i.value)
-    asks = off_with (is_refused1 (config_of under.regs) a) ok (done (stops (fault1 Translation most_left))) (ask base1 (λ i. stage1_behind q i.value))
+    asks : stage1_on q ≡ ask stage1_base (λ i. stage1_behind q i.value)
+    asks = off_with (is_refused1 (config_of under.regs) a) ok (done (stops (fault1 Translation most_left))) (ask stage1_base (λ i. stage1_behind q i.value))
 
     -- the base is too large
     pub walked_large1 : (F : Type 0) (s : Result Leaf1 Stop)
         → is_too_large (sizes1 (config_of under.regs) (side_of a.va)) (start_base1 under.regs (side_of a.va)) ≡ true
         → s ≡ Err (FaultStop (refusal S1 false AddressSize)) → WalkedOn1 m F under a mid s
-    walked_large1 F s h e = walked_ends reads m F _ base1 _ first_item (stops (fault1 AddressSize most_left)) [] mid s asks kept refl (on_with _ h _ _) e
+    walked_large1 F s h e = walked_ends reads m F _ stage1_base _ first_item (stops (fault1 AddressSize most_left)) [] mid s asks kept refl (on_with _ h _ _) e
 
     -- the walk goes on from the base
     pub walked_from1 : (F : Type 0) (new : List Item) (s : Result Leaf1 Stop)
@@ -116,7 +116,7 @@ module _ (under : RegsAt) (a : Access) (m : Told) where
         → WalkedFrom1 m F under a (sizes1 (config_of under.regs) (side_of a.va)).start record
         { address = start_base1 under.regs (side_of a.va); bits = no_bits } mid new s → WalkedOn1 m F under a new s
     walked_from1 F new s h w =
-        walked_goes reads m F F _ base1 _ first_item _ [] mid new s asks kept refl (off_with _ h _ _) (λ f. f)
+        walked_goes reads m F F _ stage1_base _ first_item _ [] mid new s asks kept refl (off_with _ h _ _) (λ f. f)
         (walked_weaker (Reads2 under m) reads m F read_now _ mid new s w)
 
   -- stage 1 is refused
@@ -128,7 +128,7 @@ module _ (under : RegsAt) (a : Access) (m : Told) where
   refused_at F old new f true h n =
       let k = err_by (is_refused1 (config_of under.regs) a) (refusal S1 false Translation) f _ h in
       subst (λ t. Walked reads m F t old new (Err (FaultStop f)))
-      (sym (on_with (is_refused1 (config_of under.regs) a) k.0 (done (stops (fault1 Translation most_left))) (ask base1 (λ i. stage1_behind q i.value))))
+      (sym (on_with (is_refused1 (config_of under.regs) a) k.0 (done (stops (fault1 Translation most_left))) (ask stage1_base (λ i. stage1_behind q i.value))))
       (walked_done reads m F (stops (fault1 Translation most_left)) old new (Err (FaultStop f)) n (ap (λ x. Err (FaultStop x)) k.1))
   refused_at F old new f false h n =
       let k = err_by (is_refused_off (config_of under.regs) a) (refusal S1 false AddressSize) f _ h in

@@ -16,7 +16,7 @@ use Rattle.table_reads.specs.Memory.{Told, HasRead}
 use Rattle.walk_spec.specs.declared.entry.Entry1.{Entry1}
 use Rattle.walk_spec.specs.declared.leaf.Leaf2.{Leaf2}
 use Rattle.walk_spec.specs.Ask.{Ask, after, Fed, ended, lacks, Took}
-use Rattle.walk_spec.specs.Needs.{Need, base1, base2, word, WordNeed, regime_of}
+use Rattle.walk_spec.specs.Needs.{Need, stage1_base, stage2_base, word, WordNeed, regime_of}
 use Rattle.walk_spec.specs.Steps.{End, stops, reaches}
 use Rattle.walk_spec.specs.Stage2.{walk2}
 use Rattle.walk_spec.specs.Stage1.{is_readable, read1, read1_by, asked2, word_of}
@@ -34,8 +34,8 @@ use Rattle.translate.proofs.Choices.{on_with, off_with}
 pub ends_at : {L : Type 0} (l : L) (e : Fed Need (End L)) → Ok l ≡ result_of e → e ≡ ended (reaches l)
 ends_at l (ended (stops f)) h = absurd cc
 ends_at l (ended (reaches k)) h = cc
-ends_at l (lacks base1) h = absurd cc
-ends_at l (lacks (base2 x)) h = absurd cc
+ends_at l (lacks stage1_base) h = absurd cc
+ends_at l (lacks (stage2_base x)) h = absurd cc
 ends_at l (lacks (word w)) h = absurd cc
 
 -- what was appended for a level and a place, and the word that was had
@@ -125,8 +125,8 @@ module _ (under : RegsAt) (m : Told) where
       cc,
     )
     stop_end F e more x (ended (reaches l)) h c t = absurd cc
-    stop_end F e more x (lacks base1) h c t = absurd c
-    stop_end F e more x (lacks (base2 y)) h c t = absurd c
+    stop_end F e more x (lacks stage1_base) h c t = absurd c
+    stop_end F e more x (lacks (stage2_base y)) h c t = absurd c
     stop_end F e more x (lacks (word w)) h c t =
         (lacks (word w), took_after_lacks (Reads2 under m) (walk2 (asked2_of under.regs true p)) (read1_by (config_of under.regs) e) more (word w) t, c, cc)
 

@@ -13,7 +13,7 @@ use Rattle.descriptors.specs.Meaning.{means1_of}
 use Rattle.trails.specs.declared.item.Item.{Item}
 use Rattle.trails.specs.declared.item.What.{What}
 use Rattle.trails.specs.declared.item.What.TheVariants.{Base, Word}
-use Rattle.table_reads.specs.declared.step.Step.TheVariants.{Down, Reached, Stopped}
+use Rattle.table_reads.specs.declared.lead.Lead.TheVariants.{Down, Reached, Stopped}
 use Rattle.walk_spec.specs.declared.entry.Entry1.{Entry1}
 use Rattle.walk_spec.specs.declared.entry.Table1.{Table1}
 use Rattle.walk_spec.specs.declared.leaf.Leaf1.{Leaf1}

@@ -24,7 +24,7 @@ use Rattle.walk_spec.specs.declared.entry.Table1.{Table1}
 use Rattle.walk_spec.specs.declared.leaf.Leaf1.{Leaf1}
 use Rattle.walk_spec.specs.declared.leaf.Leaf2.{Leaf2}
 use Rattle.walk_spec.specs.Ask.{Ask, Fed, ended, lacks, Took}
-use Rattle.walk_spec.specs.Needs.{Need, base1, base2, word, regime_of}
+use Rattle.walk_spec.specs.Needs.{Need, stage1_base, stage2_base, word, regime_of}
 use Rattle.walk_spec.specs.Stage2.{Asked2, walk2}
 use Rattle.walk_spec.specs.Stage1.{word_of, stage1_from}
 use Rattle.walk_spec.specs.BothStages.{asked, stage1, stage1_on}
@@ -36,8 +36,8 @@ use Rattle.translate.specs.declared.deep.Deep.{Deep}
 
 -- an item behind the base of stage 1: the base of stage 2 of the registers, or a word, read at the moment
 abbrev pub Reads2 : (under : RegsAt) (told : Told) (need : Need) (item : Item) → Type 0
-Reads2 u m base1 i = ⊥
-Reads2 u m (base2 _) i = i ≡ base_item u.moment S2 (sizes2 (config_of u.regs)) (start_base2 u.regs)
+Reads2 u m stage1_base i = ⊥
+Reads2 u m (stage2_base _) i = i ≡ base_item u.moment S2 (sizes2 (config_of u.regs)) (start_base2 u.regs)
 Reads2 u m (word w) i = ReadsWord u.moment m (word w) i
 
 -- what stage 2 is asked under registers
@@ -58,8 +58,8 @@ walker1 k = record { moment = k; stage = S1; s1ptw = false }
 abbrev pub StopTells : (stop : Stop) (end : Fed Need (Result Item Fault)) → Type 0
 StopTells x (ended (Ok i)) = ⊥
 StopTells x (ended (Err f)) = x ≡ FaultStop f
-StopTells x (lacks base1) = ⊥
-StopTells x (lacks (base2 _)) = ⊥
+StopTells x (lacks stage1_base) = ⊥
+StopTells x (lacks (stage2_base _)) = ⊥
 StopTells x (lacks (word w)) = x ≡ Absent w.stage (level_of w.left) w.place w.s1ptw
 
 -- A word was had by a walk: the last item that was taken is the word's, or the walk stopped.

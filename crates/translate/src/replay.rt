@@ -6,7 +6,7 @@ ghost use Rattle.sysregs.specs.Sides.{side_of};
 ghost use Rattle.permissions.specs.Rights.{no_bits};
 ghost use Rattle.table_reads.specs.Numbers;
 ghost use Rattle.table_reads.specs.Numbers.{AreSound};
-ghost use Rattle.walk_spec.specs.Needs.{fits, regime_of, base1};
+ghost use Rattle.walk_spec.specs.Needs.{fits, regime_of, stage1_base};
 ghost use Rattle.walk_spec.specs.Steps.{reaches};
 ghost use Rattle.walk_spec.specs.Ask.{ends};
 ghost use Rattle.walk_spec.specs.BothStages.{is_refused1};
@@ -95,7 +95,7 @@ fn start_table(base: u64) -> Table1
 fn fits_start(config: &Config, access: &Access, sizes: &Sizes, item: &Item) -> bool
     requires sizes { sizes.now ≡ Numbers.sizes1 config.now (side_of access.now.va) }
     requires sound { AreSound sizes.now }
-    ensures { result ≡ fits (regime_of config.now (side_of access.now.va)) base1 item.now }
+    ensures { result ≡ fits (regime_of config.now (side_of access.now.va)) stage1_base item.now }
 {
     fits_base(sizes, Stage::S1, item)
 }

@@ -18,7 +18,7 @@ use kept_items::item_at;
 use stage1_walk::{From1, entry1, fits_entry, step_kept};
 use stage2_walk::{Stood2, stand2};
 use sysregs::{Config, Tg};
-use table_reads::{Step, level};
+use table_reads::{Lead, level};
 use trails::{Access, Item};
 use walk_spec::{Entry1, Leaf1, Table1};
 
@@ -136,9 +136,9 @@ pub(crate) fn stand1<const G: u32>(
     match stand_word::<G>(config, access, &entry, items, at) {
         StoodWord::Had { item, at: next } => {
             match step_kept::<G>(config, access, &entry, &item) {
-                Step::Down { table } => stand1::<G>(config, access, left - 1, table, items, next),
-                Step::Reached { leaf } => Stood1::Found { leaf, at: next },
-                Step::Stopped { fault } => Stood1::Refused { fault, at: next },
+                Lead::Down { table } => stand1::<G>(config, access, left - 1, table, items, next),
+                Lead::Reached { leaf } => Stood1::Found { leaf, at: next },
+                Lead::Stopped { fault } => Stood1::Refused { fault, at: next },
             }
         }
         StoodWord::Refused { fault, at: next } => Stood1::Refused { fault, at: next },

@@ -3,8 +3,8 @@ use Rattle.std.proofs.Common.{◌≡◌, ℕ, zero, suc, ◌<◌, ◌≤◌, Lis
 use Rattle.std.specs.Prelude.{◌⊎◌}
 use Rattle.fault_codes.specs.declared.fault.Fault.{Fault}
 use Rattle.trails.specs.declared.item.Item.{Item}
-use Rattle.table_reads.specs.declared.step.Step.{Step}
-use Rattle.table_reads.specs.declared.step.Step.TheVariants.{Down, Reached, Stopped}
+use Rattle.table_reads.specs.declared.lead.Lead.{Lead}
+use Rattle.table_reads.specs.declared.lead.Lead.TheVariants.{Down, Reached, Stopped}
 use Rattle.walk_spec.specs.Ask.{Ask, done, ask, after, go_on}
 use Rattle.walk_spec.specs.Needs.{Need}
 use Rattle.walk_spec.specs.Steps.{End, stops, reaches, step_then}
@@ -14,11 +14,11 @@ use Rattle.walk_laws.proofs.Stepping.{Takes, InStep, LastIs, last_back, takes_af
 -- the last level
 pub record Descent (L T : Type 0) : Type 0 where
   pub had : ℕ → T → Ask Need Item (Result Item Fault)
-  pub step : ℕ → T → Item → Step L T
+  pub step : ℕ → T → Item → Lead L T
   pub last : Fault
 
 -- what follows on a word
-abbrev pub onward : {L T : Type 0} → (below : T → Ask Need Item (End L)) (step : Item → Step L T) → Result Item Fault → Ask Need Item (End L)
+abbrev pub onward : {L T : Type 0} → (below : T → Ask Need Item (End L)) (step : Item → Lead L T) → Result Item Fault → Ask Need Item (End L)
 onward below step = go_on stops (λ i. step_then below (step i))
 
 -- a walk from a table down
@@ -144,7 +144,7 @@ module _ {L T : Type 0} (fits : Need → Item → Bool) (alike : Need → Need �
     closes_rest front r rest u (inr i) = inr (i.0, last_back front r rest i.0 i.1, i.2)
 
     -- a word with further items behind it was a table
-    by_step : (left : ℕ) (t : T) (front : List Item) (r : Item) (rest : List Item) (j : Item) (u : Ask Need Item (End L)) (s : Step L T) →
+    by_step : (left : ℕ) (t : T) (front : List Item) (r : Item) (rest : List Item) (j : Item) (u : Ask Need Item (End L)) (s : Lead L T) →
         d.step (suc left) t j ≡ s → Takes fits (d.had (suc left) t) front (done (Ok j)) →
         ((next : T) → Takes fits (levels d left next) (r ∷ rest) u → Way left next (r ∷ rest) u) → Takes fits (step_then (levels d left) s) (r ∷ rest) u →
         Way (suc left) t (front ++ r ∷ rest) u
@@ -154,7 +154,7 @@ module _ {L T : Type 0} (fits : Need → Item → Bool) (alike : Need → Need �
     by_step left t front r rest j u (Stopped f) e h deeper w = absurd w
 
     -- the last level has no tables
-    none_below : (t : T) (r : Item) (rest : List Item) (j : Item) (u : Ask Need Item (End L)) (s : Step L T) →
+    none_below : (t : T) (r : Item) (rest : List Item) (j : Item) (u : Ask Need Item (End L)) (s : Lead L T) →
         Takes {N = Need} fits (step_then (λ _. done (stops d.last)) s) (r ∷ rest) u → ⊥
     none_below t r rest j u (Down next) w = w
     none_below t r rest j u (Reached l) w = w

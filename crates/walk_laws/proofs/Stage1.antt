@@ -20,8 +20,8 @@ use Rattle.descriptors.specs.Meaning.{means1_of}
 use Rattle.trails.specs.declared.item.Item.{Item}
 use Rattle.trails.specs.declared.item.What.TheVariants.{Base, Word}
 use Rattle.trails.specs.declared.outcome.Access.{Access}
-use Rattle.table_reads.specs.declared.step.Step.{Step}
-use Rattle.table_reads.specs.declared.step.Step.TheVariants.{Down, Reached, Stopped}
+use Rattle.table_reads.specs.declared.lead.Lead.{Lead}
+use Rattle.table_reads.specs.declared.lead.Lead.TheVariants.{Down, Reached, Stopped}
 use Rattle.table_reads.specs.Numbers.{AreSound}
 use Rattle.table_reads.specs.Places.{place_of, is_too_large}
 use Rattle.walk_spec.specs.declared.entry.Table1.{Table1}
@@ -30,7 +30,7 @@ use Rattle.walk_spec.specs.declared.leaf.Leaf1.{Leaf1}
 use Rattle.walk_spec.specs.declared.leaf.Leaf2.{Leaf2}
 use Rattle.walk_spec.specs.declared.leaf.Fields1.{Fields1}
 use Rattle.walk_spec.specs.Ask.{Ask, done, ask, after, go_on, finer}
-use Rattle.walk_spec.specs.Needs.{Regime, Need, base1, base2, word, fits, is_word, is_base, stage_eq, mapping_of, class_by}
+use Rattle.walk_spec.specs.Needs.{Regime, Need, stage1_base, stage2_base, word, fits, is_word, is_base, stage_eq, mapping_of, class_by}
 use Rattle.walk_spec.specs.Steps.{End, stops, reaches, step_then}
 use Rattle.walk_spec.specs.Stage2.{walk2, walk2_from, walk2_behind, fault2, step2, is_refused2}
 use Rattle.walk_spec.specs.Stage1.{Asked, untagged, fault1, leaf1_of, judged1, step1, entry1, walk1_from, is_readable, read1_by, asked2, word_of, stage1_from}
@@ -102,8 +102,8 @@ leaf1_again r j a b left t pa f =
 
 -- a question of stage 2
 abbrev pub IsStage2 : Need → Type 0
-IsStage2 base1 = ⊥
-IsStage2 (base2 x) = Unit {0}
+IsStage2 stage1_base = ⊥
+IsStage2 (stage2_base x) = Unit {0}
 IsStage2 (word w) = w.stage ≡ S2
 
 stage_eq_true : (s t : Stage) → stage_eq s t ≡ true → s ≡ t
@@ -115,13 +115,13 @@ stage_eq_true S2 S2 h = refl
 -- what it takes is of stage 2
 pub fits_stage2 : (r : Regime) (n : Need) (i : Item) → IsStage2 n → fits r n i ≡ true → i.stage ≡ S2
 unfolding fits
-fits_stage2 r base1 i n h = absurd n
-fits_stage2 r (base2 x) i n h =
+fits_stage2 r stage1_base i n h = absurd n
+fits_stage2 r (stage2_base x) i n h =
     stage_eq_true i.stage S2 (second_of_and (is_base i.what) _ (first_of_and _ _ (first_of_and _ _ (first_of_and _ _ (first_of_and _ _ h)))))
 fits_stage2 r (word w) i n h = stage_eq_true i.stage w.stage (second_of_and (is_word i.what) _ (first_of_and _ _ (first_of_and _ _ h))) ∙ n
 
 module _ (r : Regime) (p : Bool) (x : ℕ) where
-  asks_step : {L T : Type 0} (s : Step L T) (below : T → Ask Need Item (End L)) → ((t : T) → Asks IsStage2 (below t)) → Asks IsStage2 (step_then below s)
+  asks_step : {L T : Type 0} (s : Lead L T) (below : T → Ask Need Item (End L)) → ((t : T) → Asks IsStage2 (below t)) → Asks IsStage2 (step_then below s)
   asks_step (Down t) below h = h t
   asks_step (Reached l) below h = tt
   asks_step (Stopped f) below h = tt
@@ -136,7 +136,7 @@ module _ (r : Regime) (p : Bool) (x : ℕ) where
   asks_behind false base = asks_from r.stage2.start base
 
   asks_by : (refused : Bool) → Asks IsStage2
-      (cond refused (done (stops (fault2 (asked2 r p x) Translation most_left))) (ask (base2 x) (λ i. walk2_behind (asked2 r p x) i.value)))
+      (cond refused (done (stops (fault2 (asked2 r p x) Translation most_left))) (ask (stage2_base x) (λ i. walk2_behind (asked2 r p x) i.value)))
   asks_by true = tt
   asks_by false = (tt, λ i. asks_behind (is_too_large r.stage2 i.value) i.value)
 
@@ -168,7 +168,7 @@ module _ (r : Regime) (e : Entry1) where
 
   no_word_deep : (refused : Bool) (i : Item) →
       after (cond refused (done (stops (fault2 (asked2 r true e.place) Translation most_left)))
-      (ask (base2 e.place) (λ i. walk2_behind (asked2 r true e.place) i.value))) (read1_by r.config e) ≡ done (Ok i) → ⊥
+      (ask (stage2_base e.place) (λ i. walk2_behind (asked2 r true e.place) i.value))) (read1_by r.config e) ≡ done (Ok i) → ⊥
   no_word_deep true i h = absurd cc
   no_word_deep false i h = absurd cc
 
@@ -248,7 +248,7 @@ module _ (r : Regime) (e : Entry1) where
   pub fit_word : (items : List Item) (i : Item) → Takes (fits r) (word_of r e) items (done (Ok i)) → (p : ℕ) × (fits r (entry_at p) i ≡ true)
   fit_word items i h = fit_by r.config.vm items i h
 
-abbrev judged_by : (left : ℕ) (l : Leaf1) (refused : Bool) → Step Leaf1 Table1
+abbrev judged_by : (left : ℕ) (l : Leaf1) (refused : Bool) → Lead Leaf1 Table1
 judged_by left l z = cond z (Stopped (fault1 Permission left)) (Reached l)
 
 -- a leaf is reached, or judged to be a permission fault
@@ -270,7 +270,7 @@ module _ (r : Regime) (j : Bool) where
   abbrev pub had1 : (access : Access) (left : ℕ) (table : Table1) → Ask Need Item (Result Item Fault)
   had1 a left t = word_of r (entry1 (under r j a) left t)
 
-  abbrev pub by1 : (access : Access) (left : ℕ) (table : Table1) (item : Item) → Step Leaf1 Table1
+  abbrev pub by1 : (access : Access) (left : ℕ) (table : Table1) (item : Item) → Lead Leaf1 Table1
   by1 a left t i = step1 (under r j a) (entry1 (under r j a) left t) i.pa i.value
 
   abbrev pub last1 : Fault
@@ -282,7 +282,7 @@ module _ (r : Regime) (j : Bool) where
   abbrev pub levels1 : (access : Access) (left : ℕ) (table : Table1) → Ask Need Item (End Leaf1)
   levels1 a = levels (down1 a)
 
-  finer_then : (below : Table1 → Ask Entry1 Item (End Leaf1)) (s : Step Leaf1 Table1) →
+  finer_then : (below : Table1 → Ask Entry1 Item (End Leaf1)) (s : Lead Leaf1 Table1) →
       finer stops (word_of r) (step_then below s) ≡ step_then (λ t. finer stops (word_of r) (below t)) s
   finer_then below (Down t) = refl
   finer_then below (Reached l) = refl
@@ -392,7 +392,7 @@ module _ (r : Regime) (j : Bool) where
     }
 
 -- a base of stage 1 is a multiple of its table's size
-base_fits : (r : Regime) (b : Item) → fits r base1 b ≡ true → (b.what ≡ Base) × (b.value % table_size r.stage1.granule r.stage1.input r.stage1.start ≡ 0)
+base_fits : (r : Regime) (b : Item) → fits r stage1_base b ≡ true → (b.what ≡ Base) × (b.value % table_size r.stage1.granule r.stage1.input r.stage1.start ≡ 0)
 unfolding fits
 base_fits r b h =
     let d = first_of_and _ _ h in
@@ -423,7 +423,7 @@ module _ (r : Regime) (j : Bool) (a b : Access) where
         InStep (fits r) (SameRegion r) (stage1_on (under r j a)) (stage1_on (under r j b)) items u (behind1 b left table item)
 
   abbrev start1 : Root
-  start1 = record { need = base1; is_large = is_too_large r.stage1; refusal = fault1 Translation most_left; excess = fault1 AddressSize most_left }
+  start1 = record { need = stage1_base; is_large = is_too_large r.stage1; refusal = fault1 Translation most_left; excess = fault1 AddressSize most_left }
 
   abbrev from1 : ℕ → Ask Need Item (End Leaf1)
   from1 base = stage1_from (under r j a) r.stage1.start (root1 base)

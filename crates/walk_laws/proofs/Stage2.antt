@@ -14,15 +14,15 @@ use Rattle.descriptors.specs.Meaning.{means2_of}
 use Rattle.trails.specs.declared.item.Item.{Item}
 use Rattle.trails.specs.declared.item.What.{What}
 use Rattle.trails.specs.declared.item.What.TheVariants.{Base, Word}
-use Rattle.table_reads.specs.declared.step.Step.{Step}
-use Rattle.table_reads.specs.declared.step.Step.TheVariants.{Down, Reached, Stopped}
+use Rattle.table_reads.specs.declared.lead.Lead.{Lead}
+use Rattle.table_reads.specs.declared.lead.Lead.TheVariants.{Down, Reached, Stopped}
 use Rattle.table_reads.specs.Numbers.{AreSound}
 use Rattle.table_reads.specs.Places.{place_of, is_too_large}
 use Rattle.table_reads.specs.Items.{fault_at}
 use Rattle.walk_spec.specs.declared.leaf.Leaf2.{Leaf2}
 use Rattle.walk_spec.specs.declared.leaf.Fields2.{Fields2}
 use Rattle.walk_spec.specs.Ask.{Ask, done, after}
-use Rattle.walk_spec.specs.Needs.{Regime, Need, base2, fits, is_base, mapping_of, class_by}
+use Rattle.walk_spec.specs.Needs.{Regime, Need, stage2_base, fits, is_base, mapping_of, class_by}
 use Rattle.walk_spec.specs.Steps.{End, stops, reaches, step_then}
 use Rattle.walk_spec.specs.Stage2.{fault2, leaf2_of, step2, level2, walk2_from, is_refused2, walk2}
 use Rattle.walk_spec.specs.Stage1.{asked2}
@@ -86,7 +86,7 @@ module _ (r : Regime) where
   abbrev pub had2 : (s1ptw : Bool) (ipa left table : ℕ) → Ask Need Item (Result Item Fault)
   had2 p x left t = one_word (word_at S2 left (place_of r.stage2 left t x) p x t)
 
-  abbrev pub by2 : (s1ptw : Bool) (ipa left table : ℕ) (item : Item) → Step Leaf2 ℕ
+  abbrev pub by2 : (s1ptw : Bool) (ipa left table : ℕ) (item : Item) → Lead Leaf2 ℕ
   by2 p x left t i = step2 (asked2 r p x) left i.pa i.value
 
   abbrev pub last2 : (s1ptw : Bool) → Fault
@@ -149,12 +149,12 @@ pub what_base : (w : What) → is_base w ≡ true → w ≡ Base
 what_base Base h = refl
 what_base Word h = absurd cc
 
-same_base : (r : Regime) (x y : ℕ) (b : Item) → fits r (base2 y) b ≡ fits r (base2 x) b
+same_base : (r : Regime) (x y : ℕ) (b : Item) → fits r (stage2_base y) b ≡ fits r (stage2_base x) b
 unfolding fits
 same_base r x y b = refl
 
 -- a base of stage 2 is a multiple of its table's size
-base_fits : (r : Regime) (x : ℕ) (b : Item) → fits r (base2 x) b ≡ true → (b.what ≡ Base)
+base_fits : (r : Regime) (x : ℕ) (b : Item) → fits r (stage2_base x) b ≡ true → (b.what ≡ Base)
     × (b.value % table_size r.stage2.granule r.stage2.input r.stage2.start ≡ 0)
 unfolding fits
 base_fits r x b h =
@@ -181,7 +181,7 @@ module _ (r : Regime) (p : Bool) (x y : ℕ) where
 
   abbrev root2 : Root
   root2 = record {
-    need = base2 x;
+    need = stage2_base x;
     is_large = is_too_large r.stage2;
     refusal = fault2 (asked2 r p x) Translation most_left;
     excess = fault2 (asked2 r p x) AddressSize most_left;

@@ -19,7 +19,7 @@ use Rattle.walk_spec.specs.declared.entry.Table1.{Table1}
 use Rattle.walk_spec.specs.declared.entry.Entry1.{Entry1}
 use Rattle.walk_spec.specs.declared.leaf.Leaf1.{Leaf1}
 use Rattle.walk_spec.specs.Ask.{Ask, done, ask, after, Stands, needs, bad, ends, on}
-use Rattle.walk_spec.specs.Needs.{Regime, Need, base2, fits}
+use Rattle.walk_spec.specs.Needs.{Regime, Need, stage2_base, fits}
 use Rattle.walk_spec.specs.Steps.{End, stops, reaches}
 use Rattle.walk_spec.specs.Stage2.{walk2, walk2_behind, fault2, is_refused2}
 use Rattle.walk_spec.specs.Stage1.{untagged, fault1, entry1, asked2, read1_by}
@@ -117,7 +117,7 @@ module _ (r : Regime) (j : Bool) where
     -- a table's entry opens, whatever it is
     opens_deep : (refused : Bool) (e : Entry1) (g : Result Item Fault → Ask Need Item (End Leaf1)) → ((d : Fault) → g (Err d) ≡ done (stops d)) →
         Opens (Behind b (after (after (cond refused (done (stops (fault2 (asked2 r true e.place) Translation most_left)))
-        (ask (base2 e.place) (λ i. walk2_behind (asked2 r true e.place) i.value))) (read1_by r.config e)) g))
+        (ask (stage2_base e.place) (λ i. walk2_behind (asked2 r true e.place) i.value))) (read1_by r.config e)) g))
     opens_deep true e g h = rw (h (fault2 (asked2 r true e.place) Translation most_left)) (refl, refl)
     opens_deep false e g h = tt
 

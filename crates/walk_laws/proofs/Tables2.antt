@@ -13,7 +13,7 @@ use Rattle.trails.specs.declared.item.Item.{Item}
 use Rattle.trails.specs.declared.item.What.TheVariants.{Word}
 use Rattle.walk_spec.specs.declared.leaf.Leaf2.{Leaf2}
 use Rattle.walk_spec.specs.Ask.{Ask, done, ask, Stands, needs, bad, ends, on}
-use Rattle.walk_spec.specs.Needs.{Regime, Need, base1, base2, word, fits, is_word, stage_eq, level_eq}
+use Rattle.walk_spec.specs.Needs.{Regime, Need, stage1_base, stage2_base, word, fits, is_word, stage_eq, level_eq}
 use Rattle.walk_spec.specs.Steps.{End}
 use Rattle.walk_spec.specs.Stage2.{walk2}
 use Rattle.walk_spec.specs.Stage1.{asked2}
@@ -42,20 +42,20 @@ fit_level r s left place p x t i h = level_eq_true i.level (level_of left) (seco
 
 -- a walk asks for a word
 abbrev pub AsksWord : {A : Type 0} → Ask Need Item A → Type 0
-AsksWord (ask base1 k) = ⊥
-AsksWord (ask (base2 x) k) = ⊥
+AsksWord (ask stage1_base k) = ⊥
+AsksWord (ask (stage2_base x) k) = ⊥
 AsksWord (ask (word w) k) = Unit {0}
 AsksWord (done a) = ⊥
 
 asks_word : {A : Type 0} (f : Need → Item → Bool) (u : Ask Need Item A) → NeedsWord (on f u []) → AsksWord u
-asks_word f (ask base1 k) h = h
-asks_word f (ask (base2 x) k) h = h
+asks_word f (ask stage1_base k) h = h
+asks_word f (ask (stage2_base x) k) h = h
 asks_word f (ask (word w) k) h = h
 asks_word f (done a) h = h
 
 pub needs_word : {A : Type 0} (f : Need → Item → Bool) (u : Ask Need Item A) → AsksWord u → NeedsWord (on f u [])
-needs_word f (ask base1 k) h = h
-needs_word f (ask (base2 x) k) h = h
+needs_word f (ask stage1_base k) h = h
+needs_word f (ask (stage2_base x) k) h = h
 needs_word f (ask (word w) k) h = h
 needs_word f (done a) h = h
 

@@ -2,7 +2,7 @@
 use Rattle.std.specs.Prelude.{List, [], ◌∷◌, Option, Some, None, map}
 use Rattle.trails.specs.declared.item.Item.{Item}
 use Rattle.walk_spec.specs.Ask.{Ask, done, ask}
-use Rattle.walk_spec.specs.Needs.{Regime, Need, base1, base2, word, Region, region_of}
+use Rattle.walk_spec.specs.Needs.{Regime, Need, stage1_base, stage2_base, word, Region, region_of}
 
 -- what a walk asked for, each with the item of a list that answered it
 abbrev pub met : {N I A : Type 0} → (walk : Ask N I A) (items : List I) → List (N × I)
@@ -12,8 +12,8 @@ met (ask n k) (i ∷ items) = (n, i) ∷ met (k i) items
 
 -- a word has a region, and a base has none
 abbrev pub region_met : (regime : Regime) (need : Need) (item : Item) → Option Region
-region_met r base1 i = None
-region_met r (base2 _) i = None
+region_met r stage1_base i = None
+region_met r (stage2_base _) i = None
 region_met r (word w) i = Some (region_of r w i)
 
 -- the regions of the items of a list, as a walk met them

@@ -18,7 +18,7 @@ use Rattle.trails.specs.declared.outcome.Access.{Access}
 use Rattle.table_reads.specs.Numbers.{sizes1, sizes2}
 use Rattle.walk_spec.specs.declared.leaf.Leaf2.{Leaf2}
 use Rattle.walk_spec.specs.Ask.{Stands, needs, bad, ends, on}
-use Rattle.walk_spec.specs.Needs.{Need, base1, base2, word, fits, regime_of, Region}
+use Rattle.walk_spec.specs.Needs.{Need, stage1_base, stage2_base, word, fits, regime_of, Region}
 use Rattle.walk_spec.specs.Steps.{End, stops, reaches}
 use Rattle.walk_spec.specs.Stage2.{walk2}
 use Rattle.walk_spec.specs.Stage1.{asked2, stands2}
@@ -45,8 +45,8 @@ Stage2Shifts =
 
 -- a walk needs a word
 abbrev pub NeedsWord : {A : Type 0} → (stands : Stands Need Item A) → Type 0
-NeedsWord (needs base1) = ⊥
-NeedsWord (needs (base2 x)) = ⊥
+NeedsWord (needs stage1_base) = ⊥
+NeedsWord (needs (stage2_base x)) = ⊥
 NeedsWord (needs (word w)) = Unit {0}
 NeedsWord bad = ⊥
 NeedsWord (ends e items) = ⊥

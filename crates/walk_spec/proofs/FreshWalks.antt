@@ -10,7 +10,7 @@ use Rattle.trails.specs.declared.outcome.Access.{Access}
 use Rattle.trails.specs.declared.outcome.Outcome.{Outcome}
 use Rattle.table_reads.specs.Memory.{Memory, Told}
 use Rattle.walk_spec.specs.Ask.{Fed, ended, lacks}
-use Rattle.walk_spec.specs.Needs.{Need, base1, base2, word}
+use Rattle.walk_spec.specs.Needs.{Need, stage1_base, stage2_base, word}
 use Rattle.walk_spec.specs.Steps.{End}
 use Rattle.walk_spec.specs.BothStages.{Landing, walk}
 use Rattle.walk_spec.specs.Fresh.{given, fed_outcome, fresh_items, fresh_outcome}
@@ -19,16 +19,16 @@ use Rattle.walk_spec.proofs.Feeding.{took_weaker, fed_took, EndsAsGiven}
 
 -- what was read is what is given
 read_given : (regs : Regs) (s : Side) (now : ℕ) (m : Memory) (n : Need) (i : Item) → ReadsNow regs s now (Some m) n i → given regs s m now n ≡ Some i
-read_given regs s now m base1 i h = ap (λ z. Some z) (sym h)
-read_given regs s now m (base2 _) i h = ap (λ z. Some z) (sym h)
+read_given regs s now m stage1_base i h = ap (λ z. Some z) (sym h)
+read_given regs s now m (stage2_base _) i h = ap (λ z. Some z) (sym h)
 read_given regs s now m (word w) i h = rw h.1 (ap (λ z. Some z) (sym h.0))
 
 -- what lacked is not given
 lacks_given : (regs : Regs) (s : Side) (now : ℕ) (m : Memory) (F : Type 0) → (F → ⊥) → (e : Fed Need (End Landing)) → LacksFor (Some m) F e →
     EndsAsGiven (given regs s m now) e
 lacks_given regs s now m F f (ended a) h = tt
-lacks_given regs s now m F f (lacks base1) h = absurd h
-lacks_given regs s now m F f (lacks (base2 _)) h = absurd h
+lacks_given regs s now m F f (lacks stage1_base) h = absurd h
+lacks_given regs s now m F f (lacks (stage2_base _)) h = absurd h
 lacks_given regs s now m F f (lacks (word w)) (inl h) = rw h refl
 lacks_given regs s now m F f (lacks (word w)) (inr h) = absurd (f h)
 

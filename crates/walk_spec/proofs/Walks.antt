@@ -5,7 +5,7 @@ use Rattle.trails.specs.declared.item.Item.{Item}
 use Rattle.trails.specs.declared.outcome.Stop.{Stop}
 use Rattle.trails.specs.declared.outcome.Stop.TheVariants.{Absent}
 use Rattle.walk_spec.specs.Ask.{Ask, done, ask, Fed, ended, lacks}
-use Rattle.walk_spec.specs.Needs.{Need, base1, base2, word, WordNeed}
+use Rattle.walk_spec.specs.Needs.{Need, stage1_base, stage2_base, word, WordNeed}
 use Rattle.walk_spec.specs.Steps.{End}
 use Rattle.table_reads.specs.Memory.{Told, Misses}
 use Rattle.walk_spec.specs.Walked.{LacksFor, Walked, result_of}
@@ -18,8 +18,8 @@ one_longer old new i e = ap length e ∙ length-append old (i ∷ [])
 
 pub lacks_weaker : {A : Type 0} (m : Told) (F G : Type 0) → (F → G) → (e : Fed Need A) → LacksFor m F e → LacksFor m G e
 lacks_weaker m F G f (ended a) h = tt
-lacks_weaker m F G f (lacks base1) h = h
-lacks_weaker m F G f (lacks (base2 _)) h = h
+lacks_weaker m F G f (lacks stage1_base) h = h
+lacks_weaker m F G f (lacks (stage2_base _)) h = h
 lacks_weaker m F G f (lacks (word w)) h = misses_weaker m w.place F G f h
 
 module _ {L : Type 0} (reads : Need → Item → Type 0) (m : Told) where

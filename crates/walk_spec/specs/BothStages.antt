@@ -25,7 +25,7 @@ use Rattle.table_reads.specs.Places.{is_too_large}
 use Rattle.walk_spec.specs.declared.leaf.Leaf1.{Leaf1}
 use Rattle.walk_spec.specs.declared.leaf.Leaf2.{Leaf2}
 use Rattle.walk_spec.specs.Ask.{Ask, done, ask, after}
-use Rattle.walk_spec.specs.Needs.{Need, base1, regime_of}
+use Rattle.walk_spec.specs.Needs.{Need, stage1_base, regime_of}
 use Rattle.walk_spec.specs.Steps.{End, stops, reaches}
 use Rattle.walk_spec.specs.Stage2.{walk2}
 use Rattle.walk_spec.specs.Stage1.{Asked, asked2, fault1, stage1_from}
@@ -100,7 +100,7 @@ stage1_behind q base =
 
 -- stage 1 while it is on; what is refused before the base is a fault of level 0
 abbrev pub stage1_on : (asked : Asked) → Ask Need Item (End Leaf1)
-stage1_on q = if is_refused1 q.regime.config q.access then done (stops (fault1 Translation most_left)) else ask base1 (λ i. stage1_behind q i.value)
+stage1_on q = if is_refused1 q.regime.config q.access then done (stops (fault1 Translation most_left)) else ask stage1_base (λ i. stage1_behind q i.value)
 
 -- what stage 1 gives while it is off (SCTLR_EL1.M is 0): VA bits 51 to 0, and all rights
 abbrev pub off_leaf : (config : Config) (access : Access) → Leaf1

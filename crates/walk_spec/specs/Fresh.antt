@@ -15,7 +15,7 @@ use Rattle.table_reads.specs.Places.{aligned_base}
 use Rattle.table_reads.specs.Items.{base_item}
 use Rattle.table_reads.specs.Memory.{Memory}
 use Rattle.walk_spec.specs.Ask.{Fed, ended, lacks, fed_items, fed_end}
-use Rattle.walk_spec.specs.Needs.{Need, base1, base2, word, needed_item}
+use Rattle.walk_spec.specs.Needs.{Need, stage1_base, stage2_base, word, needed_item}
 use Rattle.walk_spec.specs.Steps.{End}
 use Rattle.walk_spec.specs.BothStages.{Landing, walk, outcome_of}
 
@@ -29,16 +29,16 @@ start_base2 regs = aligned_base (sizes2 (config_of regs)) (vttbr_base regs)
 
 -- what registers and a memory give for a need, at a moment
 abbrev pub given : (regs : Regs) (side : Side) (memory : Memory) (moment : ℕ) (need : Need) → Option Item
-given regs s m k base1 = Some (base_item k S1 (sizes1 (config_of regs) s) (start_base1 regs s))
-given regs s m k (base2 _) = Some (base_item k S2 (sizes2 (config_of regs)) (start_base2 regs))
+given regs s m k stage1_base = Some (base_item k S1 (sizes1 (config_of regs) s) (start_base1 regs s))
+given regs s m k (stage2_base _) = Some (base_item k S2 (sizes2 (config_of regs)) (start_base2 regs))
 given regs s m k (word w) = option_map (needed_item k w) (m w.place)
 
 -- how the walk comes out that was fed so far: a place that memory lacks is absent
 abbrev pub fed_outcome : (end : Fed Need (End Landing)) → Outcome
 fed_outcome (ended e) = outcome_of e
 fed_outcome (lacks (word w)) = Absent w.stage (level_of w.left) w.place w.s1ptw
-fed_outcome (lacks base1) = Conflict
-fed_outcome (lacks (base2 _)) = Conflict
+fed_outcome (lacks stage1_base) = Conflict
+fed_outcome (lacks (stage2_base _)) = Conflict
 
 -- the items of the fresh walk at a moment
 abbrev pub fresh_items : (memory : Memory) (regs : Regs) (access : Access) (moment : ℕ) → List Item

@@ -45,8 +45,8 @@ pub record WordNeed : Type 0 where
 
 -- what is needed next: the base of stage 1, the base of stage 2 for an IPA, or a word
 pub data Need : Type 0 where
-  base1 : Need
-  base2 : ℕ → Need
+  stage1_base : Need
+  stage2_base : ℕ → Need
   word : WordNeed → Need
 
 -- the numbers of a stage
@@ -116,8 +116,8 @@ fits_word r w i = is_word i.what && stage_eq i.stage w.stage && level_eq i.level
 
 -- an item is what is needed
 unfoldable pub fits : (regime : Regime) (need : Need) (item : Item) → Bool
-fits r base1 i = fits_base r.stage1 S1 i
-fits r (base2 _) i = fits_base r.stage2 S2 i
+fits r stage1_base i = fits_base r.stage1 S1 i
+fits r (stage2_base _) i = fits_base r.stage2 S2 i
 fits r (word w) i = fits_word r w i
 
 -- the item of a word that is needed, read at a moment

@@ -18,8 +18,8 @@ use Rattle.descriptors.specs.declared.kinds.Kind1.TheVariants.{Invalid, Table, L
 use Rattle.descriptors.specs.Meaning.{means1_of}
 use Rattle.trails.specs.declared.item.Item.{Item}
 use Rattle.trails.specs.declared.outcome.Access.{Access}
-use Rattle.table_reads.specs.declared.step.Step.{Step}
-use Rattle.table_reads.specs.declared.step.Step.TheVariants.{Down, Reached, Stopped}
+use Rattle.table_reads.specs.declared.lead.Lead.{Lead}
+use Rattle.table_reads.specs.declared.lead.Lead.TheVariants.{Down, Reached, Stopped}
 use Rattle.table_reads.specs.Places.{place_of, is_too_large}
 use Rattle.table_reads.specs.Items.{fault_at}
 use Rattle.walk_spec.specs.declared.entry.Table1.{Table1}
@@ -62,11 +62,11 @@ leaf1_of r e place f =
     }
 
 -- where a leaf is judged, an access that stage 1 doesn't permit is a permission fault
-abbrev pub judged1 : (config : Config) (judged : Bool) (access : Access) (left : ℕ) (uxn : Bool) (leaf : Leaf1) → Step Leaf1 Table1
+abbrev pub judged1 : (config : Config) (judged : Bool) (access : Access) (left : ℕ) (uxn : Bool) (leaf : Leaf1) → Lead Leaf1 Table1
 judged1 c judged a left uxn l = if judged && not (is_allowed1 l.perms uxn a.el a.kind a.pan c.epan) then Stopped (fault1 Permission left) else Reached l
 
 -- the faults come in the order: translation, address size, access flag, permission
-abbrev pub step1_by : (asked : Asked) (entry : Entry1) (place : ℕ) (kind : Kind1) → Step Leaf1 Table1
+abbrev pub step1_by : (asked : Asked) (entry : Entry1) (place : ℕ) (kind : Kind1) → Lead Leaf1 Table1
 step1_by q e place Invalid = Stopped (fault1 Translation e.left)
 step1_by q e place (Table table bits) =
     if is_too_large q.regime.stage1 table then Stopped (fault1 AddressSize e.left) else Down record { address = table; bits = joined e.table.bits bits }
@@ -77,7 +77,7 @@ step1_by q e place (Leaf out attr_index bits sh af global contiguous) =
     judged1 q.regime.config q.judged q.access e.left (is_uxn bits e.table.bits) (leaf1_of q.regime e place fields)))
 
 -- what a word leads to that stands at a physical place
-unfoldable pub step1 : (asked : Asked) (entry : Entry1) (place value : ℕ) → Step Leaf1 Table1
+unfoldable pub step1 : (asked : Asked) (entry : Entry1) (place value : ℕ) → Lead Leaf1 Table1
 step1 q e place v = step1_by q e place (means1_of q.regime.config q.regime.side e.left v)
 
 -- the entry that the address selects in a table
@@ -87,7 +87,7 @@ entry1 q left t =
     record { table = t; place = place_of q.regime.stage1 left t.address address; address = address; left = left }
 
 -- one level
-abbrev pub level1 : (asked : Asked) (left : ℕ) (table : Table1) → Ask Entry1 Item (Step Leaf1 Table1)
+abbrev pub level1 : (asked : Asked) (left : ℕ) (table : Table1) → Ask Entry1 Item (Lead Leaf1 Table1)
 level1 q left t = let e = entry1 q left t in ask e (λ i. done (step1 q e i.pa i.value))
 
 -- from a given table down, over entries; the last level has no tables

@@ -14,15 +14,15 @@ use Rattle.descriptors.specs.declared.kinds.Kind2.TheVariants.{Invalid, Table, L
 use Rattle.descriptors.specs.Meaning.{means2_of}
 use Rattle.trails.specs.declared.item.Item.{Item}
 use Rattle.table_reads.specs.declared.sizes.Sizes.{Sizes}
-use Rattle.table_reads.specs.declared.step.Step.{Step}
-use Rattle.table_reads.specs.declared.step.Step.TheVariants.{Down, Reached, Stopped}
+use Rattle.table_reads.specs.declared.lead.Lead.{Lead}
+use Rattle.table_reads.specs.declared.lead.Lead.TheVariants.{Down, Reached, Stopped}
 use Rattle.table_reads.specs.Numbers.{is_sized2}
 use Rattle.table_reads.specs.Places.{place_of, is_too_large}
 use Rattle.table_reads.specs.Items.{fault_at}
 use Rattle.walk_spec.specs.declared.leaf.Leaf2.{Leaf2}
 use Rattle.walk_spec.specs.declared.leaf.Fields2.{Fields2}
 use Rattle.walk_spec.specs.Ask.{Ask, done, ask, after}
-use Rattle.walk_spec.specs.Needs.{Need, base2, word}
+use Rattle.walk_spec.specs.Needs.{Need, stage2_base, word}
 use Rattle.walk_spec.specs.Steps.{End, stops, step_then}
 
 -- what stage 2 is asked: where an IPA goes, under these register fields and numbers. The mark s1ptw says that it is the
@@ -53,7 +53,7 @@ leaf2_of q left place f =
 
 -- an invalid word is a translation fault; an address at or above the output size is an address size fault; a leaf whose
 -- access flag is 0, and hardware doesn't set it, is an access flag fault
-abbrev pub step2_by : (asked : Asked2) (left place : ℕ) (kind : Kind2) → Step Leaf2 ℕ
+abbrev pub step2_by : (asked : Asked2) (left place : ℕ) (kind : Kind2) → Lead Leaf2 ℕ
 step2_by q left place Invalid = Stopped (fault2 q Translation left)
 step2_by q left place (Table table) = if is_too_large q.sizes table then Stopped (fault2 q AddressSize left) else Down table
 step2_by q left place (Leaf out mem_attr read write xn sh af dbm contiguous) =
@@ -71,11 +71,11 @@ step2_by q left place (Leaf out mem_attr read write xn sh af dbm contiguous) =
     }))
 
 -- what a word leads to that stands at a place
-unfoldable pub step2 : (asked : Asked2) (left place value : ℕ) → Step Leaf2 ℕ
+unfoldable pub step2 : (asked : Asked2) (left place value : ℕ) → Lead Leaf2 ℕ
 step2 q left place v = step2_by q left place (means2_of q.config left v)
 
 -- one level
-abbrev pub level2 : (asked : Asked2) (left table : ℕ) → Ask Need Item (Step Leaf2 ℕ)
+abbrev pub level2 : (asked : Asked2) (left table : ℕ) → Ask Need Item (Lead Leaf2 ℕ)
 level2 q left table =
     let place = place_of q.sizes left table q.ipa in
     ask (word record { stage = S2; left = left; place = place; s1ptw = q.s1ptw; address = q.ipa; table = table }) (λ i. done (step2 q left i.pa i.value))
@@ -95,4 +95,4 @@ walk2_behind q base = if is_too_large q.sizes base then done (stops (fault2 q Ad
 
 -- stage 2 for an IPA; what is refused before the base is a fault of level 0
 abbrev pub walk2 : (asked : Asked2) → Ask Need Item (End Leaf2)
-walk2 q = if is_refused2 q.config q.ipa then done (stops (fault2 q Translation most_left)) else ask (base2 q.ipa) (λ i. walk2_behind q i.value)
+walk2 q = if is_refused2 q.config q.ipa then done (stops (fault2 q Translation most_left)) else ask (stage2_base q.ipa) (λ i. walk2_behind q i.value)

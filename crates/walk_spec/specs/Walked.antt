@@ -17,36 +17,36 @@ use Rattle.table_reads.specs.Numbers.{sizes1, sizes2}
 use Rattle.table_reads.specs.Items.{base_item}
 use Rattle.table_reads.specs.Memory.{Memory, Told, Holds, Misses}
 use Rattle.walk_spec.specs.Ask.{Ask, Fed, ended, lacks, Took}
-use Rattle.walk_spec.specs.Needs.{Need, base1, base2, word, needed_item}
+use Rattle.walk_spec.specs.Needs.{Need, stage1_base, stage2_base, word, needed_item}
 use Rattle.walk_spec.specs.Steps.{End, stops, reaches}
 use Rattle.walk_spec.specs.BothStages.{Landing, walk}
 use Rattle.walk_spec.specs.Fresh.{start_base1, start_base2, fed_outcome, fresh_items, fresh_outcome}
 
 -- the item is a word that was read at a moment, at the very place that is needed
 abbrev pub ReadsWord : (moment : ℕ) (told : Told) (need : Need) (item : Item) → Type 0
-ReadsWord k m base1 i = ⊥
-ReadsWord k m (base2 _) i = ⊥
+ReadsWord k m stage1_base i = ⊥
+ReadsWord k m (stage2_base _) i = ⊥
 ReadsWord k m (word w) i = (i ≡ needed_item k w i.value) × Holds m w.place i.value
 
 -- the same where a base may be needed, which is that of the registers
 abbrev pub ReadsNow : (regs : Regs) (side : Side) (moment : ℕ) (told : Told) (need : Need) (item : Item) → Type 0
-ReadsNow regs s k m base1 i = i ≡ base_item k S1 (sizes1 (config_of regs) s) (start_base1 regs s)
-ReadsNow regs s k m (base2 _) i = i ≡ base_item k S2 (sizes2 (config_of regs)) (start_base2 regs)
+ReadsNow regs s k m stage1_base i = i ≡ base_item k S1 (sizes1 (config_of regs) s) (start_base1 regs s)
+ReadsNow regs s k m (stage2_base _) i = i ≡ base_item k S2 (sizes2 (config_of regs)) (start_base2 regs)
 ReadsNow regs s k m (word w) i = ReadsWord k m (word w) i
 
 -- a walk lacks only what the memory lacks, unless the supply failed
 abbrev pub LacksFor : {A : Type 0} → (told : Told) (failed : Type 0) (end : Fed Need A) → Type 0
 LacksFor m failed (ended a) = Unit {0}
-LacksFor m failed (lacks base1) = ⊥
-LacksFor m failed (lacks (base2 _)) = ⊥
+LacksFor m failed (lacks stage1_base) = ⊥
+LacksFor m failed (lacks (stage2_base _)) = ⊥
 LacksFor m failed (lacks (word w)) = Misses m w.place failed
 
 -- what is answered for an end
 abbrev pub result_of : {L : Type 0} → (end : Fed Need (End L)) → Result L Stop
 result_of (ended (stops f)) = Err (Fault f)
 result_of (ended (reaches l)) = Ok l
-result_of (lacks base1) = Err Conflict
-result_of (lacks (base2 _)) = Err Conflict
+result_of (lacks stage1_base) = Err Conflict
+result_of (lacks (stage2_base _)) = Err Conflict
 result_of (lacks (word w)) = Err (Absent w.stage (level_of w.left) w.place w.s1ptw)
 
 -- A walk appended what it took, each item as it may be read, and answers as it ended. (More than six parameters: how
