@@ -125,7 +125,7 @@ def outcome(line):
 def item(line):
     words = line.split()
     if words[1] == "base":
-        return "base%s %s %s %s" % (words[0][1], words[3], words[5], words[7])
+        return "start%s %s %s %s" % (words[0][1], words[3], words[5], words[7])
     return "word%s %s %s %s %s" % (words[0][1], words[3], words[5], words[7], words[9])
 
 

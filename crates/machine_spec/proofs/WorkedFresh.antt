@@ -17,7 +17,7 @@ use Rattle.trails.specs.declared.event.Event.TheVariants.{Store, Msr, Settle, Is
 use Rattle.trace_lang.specs.declared.header.Size.TheVariants.{NoRows}
 use Rattle.trace_lang.specs.declared.header.Policy.TheVariants.{Fifo}
 use Rattle.walk_spec.proofs.Worked.{on_worked_walks, access, wb}
-use Rattle.machine_spec.proofs.Worked.{header, on_worked_runs, Comes, told, mapped, fault, fault2, word1, word2}
+use Rattle.machine_spec.proofs.Worked.{header, on_worked_runs, Comes, told, mapped, fault, fault2, start1, start2, word1, word2}
 
 -- the 65th queued register write lets the oldest one take effect, and no other
 register_queue_of_64 : Comes (header 1 ((0x0, 0x20000) ∷ []) NoRows Fifo)
@@ -35,11 +35,11 @@ register_queue_of_64 : Comes (header 1 ((0x0, 0x20000) ∷ []) NoRows Fifo)
     Msr 0 MairEl1 0x44 ∷ Msr 0 MairEl1 0x44 ∷ Msr 0 MairEl1 0x44 ∷ Msr 0 MairEl1 0x44 ∷ Access 0 (access 0xabc El1 Read false) ∷ Msr 0 MairEl1 0xff ∷
     Access 0 (access 0xabc El1 Read false) ∷ Isb 0 ∷ Access 0 (access 0xabc El1 Read false) ∷ [])
     (told 71 0x0 0x0 (mapped 0x4abc "--x" "rwx" (Device NGnRnE) Osh)
-    (base1 3 0x1000 71 ∷ word1 3 0x1000 0x4403 71 ∷ []) ∷
+    (start1 3 0x1000 71 ∷ word1 3 0x1000 0x4403 71 ∷ []) ∷
     told 73 0x0 0x0 (mapped 0x5abc "--x" "rwx" (Device NGnRnE) Osh)
-    (base1 3 0x2000 73 ∷ word1 3 0x2000 0x5403 73 ∷ []) ∷
+    (start1 3 0x2000 73 ∷ word1 3 0x2000 0x5403 73 ∷ []) ∷
     told 75 0x0 0x0 (mapped 0x6abc "--x" "rwx" (Normal (wb "rw") (wb "rw") false) Nsh)
-    (base1 3 0x3000 75 ∷ word1 3 0x3000 0x6403 75 ∷ []) ∷ [])
+    (start1 3 0x3000 75 ∷ word1 3 0x3000 0x6403 75 ∷ []) ∷ [])
     (Some (3 ∷ 0 ∷ 3 ∷ 0 ∷ 0 ∷ 0 ∷ 0 ∷ 0 ∷ []))
 unfolding on_worked_walks on_worked_runs
 register_queue_of_64 = (refl, refl)
@@ -69,15 +69,15 @@ external_abort_on_a_walk : Comes (header 1 ((0x0, 0x9000) ∷ []) NoRows Fifo)
     Access 0 (access 0xabc El1 Read false) ∷ Msr 0 VtcrEl2 0xf0 ∷ Msr 0 VttbrEl2 0x30000 ∷ Msr 0 HcrEl2 0x1 ∷ Msr 0 Ttbr0El1 0x1000 ∷ Isb 0 ∷
     Access 0 (access 0xabc El1 Read false) ∷ Msr 0 SctlrEl1 0x0 ∷ Isb 0 ∷ Access 0 (access 0xabc El1 Read false) ∷ [])
     (told 7 0x0 0x0 (fault S1 3 External)
-    (base1 2 0x1000 7 ∷ word1 2 0x1000 0x20003 7 ∷ []) ∷
+    (start1 2 0x1000 7 ∷ word1 2 0x1000 0x20003 7 ∷ []) ∷
     told 8 0x0 0x0 (mapped 0x80abc "--x" "rwx" (Device NGnRnE) Osh)
-    (base1 2 0x1000 8 ∷ word1 2 0x1008 0x8003 8 ∷ word1 3 0x8008 0x80403 8 ∷ []) ∷
+    (start1 2 0x1000 8 ∷ word1 2 0x1008 0x8003 8 ∷ word1 3 0x8008 0x80403 8 ∷ []) ∷
     told 11 0x0 0x0 (fault S1 2 External)
-    (base1 2 0x30000 11 ∷ []) ∷
+    (start1 2 0x30000 11 ∷ []) ∷
     told 17 0x0 0x0 (fault2 3 External)
-    (base1 2 0x1000 17 ∷ base2 3 0x30000 17 ∷ []) ∷
+    (start1 2 0x1000 17 ∷ start2 3 0x30000 17 ∷ []) ∷
     told 20 0x0 0x0 (fault S2 3 External)
-    (base2 3 0x30000 20 ∷ []) ∷ [])
+    (start2 3 0x30000 20 ∷ []) ∷ [])
     (Some (5 ∷ 0 ∷ 1 ∷ 4 ∷ 0 ∷ 0 ∷ 0 ∷ 0 ∷ []))
 unfolding on_worked_walks on_worked_runs
 external_abort_on_a_walk = (refl, refl)
@@ -92,13 +92,13 @@ register_writes_wait : Comes (header 2 ((0x0, 0x20000) ∷ []) NoRows Fifo)
     (told 7 0x0 0x0 (mapped 0xabc "rwx" "rwx" (Device NGnRnE) Osh)
     ([]) ∷
     told 11 0x0 0x0 (mapped 0x4abc "--x" "rwx" (Device NGnRnE) Osh)
-    (base1 3 0x1000 11 ∷ word1 3 0x1000 0x4403 11 ∷ []) ∷
+    (start1 3 0x1000 11 ∷ word1 3 0x1000 0x4403 11 ∷ []) ∷
     told 13 0x0 0x0 (mapped 0x5abc "--x" "rwx" (Device NGnRnE) Osh)
-    (base1 3 0x2000 13 ∷ word1 3 0x2000 0x5403 13 ∷ []) ∷
+    (start1 3 0x2000 13 ∷ word1 3 0x2000 0x5403 13 ∷ []) ∷
     told 16 0x0 0x0 (mapped 0x6abc "--x" "rwx" (Device NGnRnE) Osh)
-    (base1 3 0x3000 16 ∷ word1 3 0x3000 0x6403 16 ∷ []) ∷
+    (start1 3 0x3000 16 ∷ word1 3 0x3000 0x6403 16 ∷ []) ∷
     told 20 0x0 0x0 (mapped 0x5abc "--x" "rwx" (Device NGnRnE) Osh)
-    (base1 3 0x2000 20 ∷ word1 3 0x2000 0x5403 20 ∷ []) ∷
+    (start1 3 0x2000 20 ∷ word1 3 0x2000 0x5403 20 ∷ []) ∷
     told 21 0x0 0x0 (mapped 0xabc "rwx" "rwx" (Device NGnRnE) Osh)
     ([]) ∷ [])
     (Some (6 ∷ 0 ∷ 6 ∷ 0 ∷ 0 ∷ 0 ∷ 0 ∷ 0 ∷ []))
@@ -114,9 +114,9 @@ stage1_off_stage2_on : Comes (header 1 ((0x0, 0x20000) ∷ []) NoRows Fifo)
     Access 0 (access 0x13abc El1 Read false) ∷ Msr 0 VtcrEl2 0x1e ∷ Msr 0 VttbrEl2 0x13000 ∷ Isb 0 ∷ Access 0 (access 0x40000abc El1 Read false) ∷
     Access 0 (access 0xabc El1 Read false) ∷ [])
     (told 7 0x0 0x0 (mapped 0x5abc "rwx" "rwx" (Device NGnRnE) Osh)
-    (base2 3 0x8000 7 ∷ word2 3 0x8018 0x54c3 7 ∷ []) ∷
+    (start2 3 0x8000 7 ∷ word2 3 0x8018 0x54c3 7 ∷ []) ∷
     told 8 0x0 0x0 (mapped 0x5abc "rwx" "rwx" (Device NGnRnE) Osh)
-    (base2 3 0x8000 8 ∷ word2 3 0x8018 0x54c3 8 ∷ []) ∷
+    (start2 3 0x8000 8 ∷ word2 3 0x8018 0x54c3 8 ∷ []) ∷
     told 9 0x0 0x0 (fault S1 0 AddressSize)
     ([]) ∷
     told 10 0x0 0x0 (fault S1 0 AddressSize)
@@ -124,9 +124,9 @@ stage1_off_stage2_on : Comes (header 1 ((0x0, 0x20000) ∷ []) NoRows Fifo)
     told 11 0x0 0x0 (fault S2 0 Translation)
     ([]) ∷
     told 15 0x0 0x0 (mapped 0x40000abc "rwx" "rwx" (Device NGnRnE) Osh)
-    (base2 2 0x10000 15 ∷ word2 2 0x11000 0x400004fd 15 ∷ []) ∷
+    (start2 2 0x10000 15 ∷ word2 2 0x11000 0x400004fd 15 ∷ []) ∷
     told 16 0x0 0x0 (fault S2 2 Translation)
-    (base2 2 0x10000 16 ∷ word2 2 0x10000 0x0 16 ∷ []) ∷ [])
+    (start2 2 0x10000 16 ∷ word2 2 0x10000 0x0 16 ∷ []) ∷ [])
     (Some (7 ∷ 0 ∷ 3 ∷ 4 ∷ 0 ∷ 0 ∷ 0 ∷ 0 ∷ []))
 unfolding on_worked_walks on_worked_runs
 stage1_off_stage2_on = (refl, refl)
@@ -137,7 +137,7 @@ forms_of_the_text : Comes (header 01 ((0, 65536) ∷ (0x0000000000010000, 0x1000
     (Store 0x0 4096 21507 ∷ Msr 00 TcrEl1 48 ∷ Msr 0 Ttbr0El1 0xABCD000000001000 ∷ Msr 0 SctlrEl1 1 ∷ Isb 0x0000000000000000 ∷
     Access 0 (access 0x0000000000000aBc El1 Read false) ∷ Access 0 (access 18446744073709551615 El0 Read true) ∷ [])
     (told 5 0xcd 0x0 (mapped 0x5abc "--x" "rwx" (Device NGnRnE) Osh)
-    (base1 3 0x1000 5 ∷ word1 3 0x1000 0x5403 5 ∷ []) ∷
+    (start1 3 0x1000 5 ∷ word1 3 0x1000 0x5403 5 ∷ []) ∷
     told 6 0xcd 0x0 (fault S1 0 Translation)
     ([]) ∷ [])
     (Some (2 ∷ 0 ∷ 1 ∷ 1 ∷ 0 ∷ 0 ∷ 0 ∷ 0 ∷ []))
@@ -167,11 +167,11 @@ messages_without_rows : Comes (header 2 ((0x0, 0x20000) ∷ []) NoRows Fifo)
     Access 0 (access 0xabc El1 Read false) ∷ Deliver 0 ∷ Dsb 0 DsbNsh ∷ Dsb 1 DsbIsh ∷ Dsb 0 DsbSy ∷ Deliver 0 ∷
     Access 0 (access 0xabc El1 Read false) ∷ Isb 0 ∷ Access 0 (access 0xabc El1 Read false) ∷ [])
     (told 59 0x3 0x0 (mapped 0x5abc "--x" "rwx" (Device NGnRnE) Osh)
-    (base1 3 0x1000 59 ∷ word1 3 0x1000 0x5403 59 ∷ []) ∷
+    (start1 3 0x1000 59 ∷ word1 3 0x1000 0x5403 59 ∷ []) ∷
     told 65 0x3 0x0 (mapped 0x5abc "--x" "rwx" (Device NGnRnE) Osh)
-    (base1 3 0x1000 65 ∷ word1 3 0x1000 0x5403 65 ∷ []) ∷
+    (start1 3 0x1000 65 ∷ word1 3 0x1000 0x5403 65 ∷ []) ∷
     told 67 0x3 0x0 (mapped 0x6abc "--x" "rwx" (Device NGnRnE) Osh)
-    (base1 3 0x2000 67 ∷ word1 3 0x2000 0x6403 67 ∷ []) ∷ [])
+    (start1 3 0x2000 67 ∷ word1 3 0x2000 0x6403 67 ∷ []) ∷ [])
     (Some (3 ∷ 0 ∷ 3 ∷ 0 ∷ 0 ∷ 0 ∷ 0 ∷ 0 ∷ []))
 unfolding on_worked_walks on_worked_runs
 messages_without_rows = (refl, refl)

@@ -16,7 +16,7 @@ use Rattle.trails.specs.declared.event.Event.TheVariants.{Store, Msr, Isb, Tlbi,
 use Rattle.trace_lang.specs.declared.header.Size.TheVariants.{Small}
 use Rattle.trace_lang.specs.declared.header.Policy.TheVariants.{Fifo}
 use Rattle.walk_spec.proofs.Worked.{on_worked_walks, access}
-use Rattle.machine_spec.proofs.Worked.{header, on_worked_runs, Comes, told, mapped, fault, word1, word2}
+use Rattle.machine_spec.proofs.Worked.{header, on_worked_runs, Comes, told, mapped, fault, start1, start2, word1, word2}
 
 -- VAE1 and VALE1 take non-global leaves of the named ASID and global ones of every ASID; VAAE1 and VAALE1 name none
 va_forms_and_the_asid : Comes (header 2 ((0x0, 0x20000) ∷ []) Small Fifo)
@@ -29,29 +29,29 @@ va_forms_and_the_asid : Comes (header 2 ((0x0, 0x20000) ∷ []) Small Fifo)
     Tlbi 1 FromEl1 Vaae1 true 0x2000000000002 ∷ Tlbi 1 FromEl1 Vale1 true 0x1000000000003 ∷ Dsb 1 DsbIsh ∷ Access 0 (access 0xabc El1 Read false) ∷
     Access 0 (access 0x1abc El1 Read false) ∷ Access 0 (access 0x2abc El1 Read false) ∷ Access 0 (access 0x3abc El1 Read false) ∷ [])
     (told 8 0x1 0x0 (mapped 0x4abc "--x" "rwx" (Device NGnRnE) Osh)
-    (base1 3 0x1000 8 ∷ word1 3 0x1000 0x4c03 8 ∷ []) ∷
+    (start1 3 0x1000 8 ∷ word1 3 0x1000 0x4c03 8 ∷ []) ∷
     told 9 0x1 0x0 (mapped 0x5abc "--x" "rwx" (Device NGnRnE) Osh)
-    (base1 3 0x1000 9 ∷ word1 3 0x1008 0x5403 9 ∷ []) ∷
+    (start1 3 0x1000 9 ∷ word1 3 0x1008 0x5403 9 ∷ []) ∷
     told 10 0x1 0x0 (mapped 0x6abc "--x" "rwx" (Device NGnRnE) Osh)
-    (base1 3 0x1000 10 ∷ word1 3 0x1010 0x6c03 10 ∷ []) ∷
+    (start1 3 0x1000 10 ∷ word1 3 0x1010 0x6c03 10 ∷ []) ∷
     told 11 0x1 0x0 (mapped 0x7abc "--x" "rwx" (Device NGnRnE) Osh)
-    (base1 3 0x1000 11 ∷ word1 3 0x1018 0x7403 11 ∷ []) ∷
+    (start1 3 0x1000 11 ∷ word1 3 0x1018 0x7403 11 ∷ []) ∷
     told 17 0x1 0x0 (mapped 0x4abc "--x" "rwx" (Device NGnRnE) Osh)
-    (base1 3 0x1000 8 ∷ word1 3 0x1000 0x4c03 8 ∷ []) ∷
+    (start1 3 0x1000 8 ∷ word1 3 0x1000 0x4c03 8 ∷ []) ∷
     told 18 0x1 0x0 (mapped 0x5abc "--x" "rwx" (Device NGnRnE) Osh)
-    (base1 3 0x1000 18 ∷ word1 3 0x1008 0x5403 18 ∷ []) ∷
+    (start1 3 0x1000 18 ∷ word1 3 0x1008 0x5403 18 ∷ []) ∷
     told 19 0x1 0x0 (mapped 0x6abc "--x" "rwx" (Device NGnRnE) Osh)
-    (base1 3 0x1000 10 ∷ word1 3 0x1010 0x6c03 10 ∷ []) ∷
+    (start1 3 0x1000 10 ∷ word1 3 0x1010 0x6c03 10 ∷ []) ∷
     told 20 0x1 0x0 (mapped 0x7abc "--x" "rwx" (Device NGnRnE) Osh)
-    (base1 3 0x1000 20 ∷ word1 3 0x1018 0x7403 20 ∷ []) ∷
+    (start1 3 0x1000 20 ∷ word1 3 0x1018 0x7403 20 ∷ []) ∷
     told 26 0x1 0x0 (mapped 0x4abc "--x" "rwx" (Device NGnRnE) Osh)
-    (base1 3 0x1000 26 ∷ word1 3 0x1000 0x4c03 26 ∷ []) ∷
+    (start1 3 0x1000 26 ∷ word1 3 0x1000 0x4c03 26 ∷ []) ∷
     told 27 0x1 0x0 (mapped 0x5abc "--x" "rwx" (Device NGnRnE) Osh)
-    (base1 3 0x1000 27 ∷ word1 3 0x1008 0x5403 27 ∷ []) ∷
+    (start1 3 0x1000 27 ∷ word1 3 0x1008 0x5403 27 ∷ []) ∷
     told 28 0x1 0x0 (mapped 0x6abc "--x" "rwx" (Device NGnRnE) Osh)
-    (base1 3 0x1000 28 ∷ word1 3 0x1010 0x6c03 28 ∷ []) ∷
+    (start1 3 0x1000 28 ∷ word1 3 0x1010 0x6c03 28 ∷ []) ∷
     told 29 0x1 0x0 (mapped 0x7abc "--x" "rwx" (Device NGnRnE) Osh)
-    (base1 3 0x1000 29 ∷ word1 3 0x1018 0x7403 29 ∷ []) ∷ [])
+    (start1 3 0x1000 29 ∷ word1 3 0x1018 0x7403 29 ∷ []) ∷ [])
     (Some (12 ∷ 0 ∷ 12 ∷ 0 ∷ 0 ∷ 2 ∷ 0 ∷ 0 ∷ []))
 unfolding on_worked_walks on_worked_runs
 va_forms_and_the_asid = (refl, refl)
@@ -67,17 +67,17 @@ operand_asid_of_eight_bits : Comes (header 1 ((0x0, 0x20000) ∷ []) Small Fifo)
     Access 0 (access 0xabc El1 Read false) ∷ Tlbi 0 FromEl1 Aside1 false 0x301000000000000 ∷ Dsb 0 DsbNsh ∷ Access 0 (access 0xabc El1 Read false) ∷
     [])
     (told 5 0x1 0x0 (mapped 0x4abc "--x" "rwx" (Device NGnRnE) Osh)
-    (base1 3 0x1000 5 ∷ word1 3 0x1000 0x4c03 5 ∷ []) ∷
+    (start1 3 0x1000 5 ∷ word1 3 0x1000 0x4c03 5 ∷ []) ∷
     told 12 0x1 0x0 (mapped 0x4abc "--x" "rwx" (Device NGnRnE) Osh)
-    (base1 3 0x1000 5 ∷ word1 3 0x1000 0x4c03 5 ∷ []) ∷
+    (start1 3 0x1000 5 ∷ word1 3 0x1000 0x4c03 5 ∷ []) ∷
     told 15 0x1 0x0 (mapped 0x4abc "--x" "rwx" (Device NGnRnE) Osh)
-    (base1 3 0x1000 15 ∷ word1 3 0x1000 0x4c03 15 ∷ []) ∷
+    (start1 3 0x1000 15 ∷ word1 3 0x1000 0x4c03 15 ∷ []) ∷
     told 18 0x301 0x0 (mapped 0x4abc "--x" "rwx" (Device NGnRnE) Osh)
-    (base1 3 0x1000 18 ∷ word1 3 0x1000 0x4c03 18 ∷ []) ∷
+    (start1 3 0x1000 18 ∷ word1 3 0x1000 0x4c03 18 ∷ []) ∷
     told 22 0x301 0x0 (mapped 0x4abc "--x" "rwx" (Device NGnRnE) Osh)
-    (base1 3 0x1000 18 ∷ word1 3 0x1000 0x4c03 18 ∷ []) ∷
+    (start1 3 0x1000 18 ∷ word1 3 0x1000 0x4c03 18 ∷ []) ∷
     told 25 0x301 0x0 (mapped 0x4abc "--x" "rwx" (Device NGnRnE) Osh)
-    (base1 3 0x1000 25 ∷ word1 3 0x1000 0x4c03 25 ∷ []) ∷ [])
+    (start1 3 0x1000 25 ∷ word1 3 0x1000 0x4c03 25 ∷ []) ∷ [])
     (Some (6 ∷ 0 ∷ 6 ∷ 0 ∷ 0 ∷ 2 ∷ 0 ∷ 0 ∷ []))
 unfolding on_worked_walks on_worked_runs
 operand_asid_of_eight_bits = (refl, refl)
@@ -91,21 +91,21 @@ range_of_the_rows_granule : Comes (header 1 ((0x0, 0x20000) ∷ []) Small Fifo)
     Access 0 (access 0x4abc El1 Read false) ∷ Tlbi 0 FromEl1 Rvae1 false 0x800000000000 ∷ Dsb 0 DsbNsh ∷ Access 0 (access 0x4abc El1 Read false) ∷
     Access 0 (access 0x8abc El1 Read false) ∷ [])
     (told 7 0x0 0x0 (mapped 0x10abc "--x" "rwx" (Device NGnRnE) Osh)
-    (base1 3 0x1000 7 ∷ word1 3 0x1000 0x10403 7 ∷ []) ∷
+    (start1 3 0x1000 7 ∷ word1 3 0x1000 0x10403 7 ∷ []) ∷
     told 8 0x0 0x0 (mapped 0x18abc "--x" "rwx" (Device NGnRnE) Osh)
-    (base1 3 0x1000 8 ∷ word1 3 0x1010 0x18403 8 ∷ []) ∷
+    (start1 3 0x1000 8 ∷ word1 3 0x1010 0x18403 8 ∷ []) ∷
     told 13 0x0 0x0 (mapped 0x10abc "--x" "rwx" (Device NGnRnE) Osh)
-    (base1 3 0x1000 7 ∷ word1 3 0x1000 0x10403 7 ∷ []) ∷
+    (start1 3 0x1000 7 ∷ word1 3 0x1000 0x10403 7 ∷ []) ∷
     told 16 0x0 0x0 (mapped 0x10abc "--x" "rwx" (Device NGnRnE) Osh)
-    (base1 3 0x1000 7 ∷ word1 3 0x1000 0x10403 7 ∷ []) ∷
+    (start1 3 0x1000 7 ∷ word1 3 0x1000 0x10403 7 ∷ []) ∷
     told 17 0x0 0x0 (mapped 0x18abc "--x" "rwx" (Device NGnRnE) Osh)
-    (base1 3 0x1000 17 ∷ word1 3 0x1010 0x18403 17 ∷ []) ∷
+    (start1 3 0x1000 17 ∷ word1 3 0x1010 0x18403 17 ∷ []) ∷
     told 18 0x0 0x0 (mapped 0x14abc "--x" "rwx" (Device NGnRnE) Osh)
-    (base1 3 0x1000 18 ∷ word1 3 0x1008 0x14403 18 ∷ []) ∷
+    (start1 3 0x1000 18 ∷ word1 3 0x1008 0x14403 18 ∷ []) ∷
     told 21 0x0 0x0 (mapped 0x14abc "--x" "rwx" (Device NGnRnE) Osh)
-    (base1 3 0x1000 21 ∷ word1 3 0x1008 0x14403 21 ∷ []) ∷
+    (start1 3 0x1000 21 ∷ word1 3 0x1008 0x14403 21 ∷ []) ∷
     told 22 0x0 0x0 (mapped 0x18abc "--x" "rwx" (Device NGnRnE) Osh)
-    (base1 3 0x1000 17 ∷ word1 3 0x1010 0x18403 17 ∷ []) ∷ [])
+    (start1 3 0x1000 17 ∷ word1 3 0x1010 0x18403 17 ∷ []) ∷ [])
     (Some (8 ∷ 0 ∷ 8 ∷ 0 ∷ 0 ∷ 3 ∷ 0 ∷ 0 ∷ []))
 unfolding on_worked_walks on_worked_runs
 range_of_the_rows_granule = (refl, refl)
@@ -121,21 +121,21 @@ range_scale_and_num : Comes (header 1 ((0x0, 0x20000) ∷ []) Small Fifo)
     Tlbi 0 FromEl1 Rvaae1 false 0x5000000001c1 ∷ Dsb 0 DsbNsh ∷ Access 0 (access 0x200abc El1 Read false) ∷ Access 0 (access 0xabc El1 Read false) ∷
     [])
     (told 6 0x0 0x0 (mapped 0x400abc "--x" "rwx" (Device NGnRnE) Osh)
-    (base1 2 0x1000 6 ∷ word1 2 0x1000 0x400401 6 ∷ []) ∷
+    (start1 2 0x1000 6 ∷ word1 2 0x1000 0x400401 6 ∷ []) ∷
     told 7 0x0 0x0 (mapped 0x600abc "--x" "rwx" (Device NGnRnE) Osh)
-    (base1 2 0x1000 7 ∷ word1 2 0x1008 0x600401 7 ∷ []) ∷
+    (start1 2 0x1000 7 ∷ word1 2 0x1008 0x600401 7 ∷ []) ∷
     told 11 0x0 0x0 (mapped 0x600abc "--x" "rwx" (Device NGnRnE) Osh)
-    (base1 2 0x1000 7 ∷ word1 2 0x1008 0x600401 7 ∷ []) ∷
+    (start1 2 0x1000 7 ∷ word1 2 0x1008 0x600401 7 ∷ []) ∷
     told 12 0x0 0x0 (mapped 0x400abc "--x" "rwx" (Device NGnRnE) Osh)
-    (base1 2 0x1000 12 ∷ word1 2 0x1000 0x400401 12 ∷ []) ∷
+    (start1 2 0x1000 12 ∷ word1 2 0x1000 0x400401 12 ∷ []) ∷
     told 15 0x0 0x0 (mapped 0x600abc "--x" "rwx" (Device NGnRnE) Osh)
-    (base1 2 0x1000 7 ∷ word1 2 0x1008 0x600401 7 ∷ []) ∷
+    (start1 2 0x1000 7 ∷ word1 2 0x1008 0x600401 7 ∷ []) ∷
     told 18 0x0 0x0 (mapped 0x600abc "--x" "rwx" (Device NGnRnE) Osh)
-    (base1 2 0x1000 7 ∷ word1 2 0x1008 0x600401 7 ∷ []) ∷
+    (start1 2 0x1000 7 ∷ word1 2 0x1008 0x600401 7 ∷ []) ∷
     told 21 0x0 0x0 (mapped 0x600abc "--x" "rwx" (Device NGnRnE) Osh)
-    (base1 2 0x1000 21 ∷ word1 2 0x1008 0x600401 21 ∷ []) ∷
+    (start1 2 0x1000 21 ∷ word1 2 0x1008 0x600401 21 ∷ []) ∷
     told 22 0x0 0x0 (mapped 0x400abc "--x" "rwx" (Device NGnRnE) Osh)
-    (base1 2 0x1000 22 ∷ word1 2 0x1000 0x400401 22 ∷ []) ∷ [])
+    (start1 2 0x1000 22 ∷ word1 2 0x1000 0x400401 22 ∷ []) ∷ [])
     (Some (8 ∷ 0 ∷ 8 ∷ 0 ∷ 0 ∷ 3 ∷ 0 ∷ 0 ∷ []))
 unfolding on_worked_walks on_worked_runs
 range_scale_and_num = (refl, refl)
@@ -148,13 +148,14 @@ ranges_of_both_stages : Comes (header 1 ((0x0, 0x20000) ∷ []) Small Fifo)
     Tlbi 0 FromEl1 Rvae1 false 0x400000000000 ∷ Dsb 0 DsbNsh ∷ Access 0 (access 0xabc El1 Read false) ∷ Tlbi 0 FromEl1 Rvae1 false 0x400000000000 ∷
     Tlbi 0 FromEl2 Ripas2e1 false 0xc00000000000 ∷ Dsb 0 DsbNsh ∷ Access 0 (access 0xabc El1 Read false) ∷ [])
     (told 9 0x0 0x0 (mapped 0x3abc "--x" "rwx" (Device NGnRnE) Osh)
-    (base1 3 0x1000 9 ∷ base2 3 0x8000 9 ∷ word2 3 0x8000 0x4c3 9 ∷ word1 3 0x1000 0x3403 9 ∷ base2 3 0x8000 9 ∷ word2 3 0x8000 0x4c3 9 ∷ []) ∷
+    (start1 3 0x1000 9 ∷ start2 3 0x8000 9 ∷ word2 3 0x8000 0x4c3 9 ∷ word1 3 0x1000 0x3403 9 ∷ start2 3 0x8000 9 ∷ word2 3 0x8000 0x4c3 9 ∷ []) ∷
     told 13 0x0 0x0 (mapped 0x3abc "--x" "rwx" (Device NGnRnE) Osh)
-    (base1 3 0x1000 9 ∷ base2 3 0x8000 9 ∷ word2 3 0x8000 0x4c3 9 ∷ word1 3 0x1000 0x3403 9 ∷ base2 3 0x8000 9 ∷ word2 3 0x8000 0x4c3 9 ∷ []) ∷
+    (start1 3 0x1000 9 ∷ start2 3 0x8000 9 ∷ word2 3 0x8000 0x4c3 9 ∷ word1 3 0x1000 0x3403 9 ∷ start2 3 0x8000 9 ∷ word2 3 0x8000 0x4c3 9 ∷ []) ∷
     told 16 0x0 0x0 (mapped 0x3abc "--x" "rwx" (Device NGnRnE) Osh)
-    (base1 3 0x1000 16 ∷ base2 3 0x8000 9 ∷ word2 3 0x8000 0x4c3 9 ∷ word1 3 0x1000 0x3403 16 ∷ base2 3 0x8000 9 ∷ word2 3 0x8000 0x4c3 9 ∷ []) ∷
+    (start1 3 0x1000 16 ∷ start2 3 0x8000 9 ∷ word2 3 0x8000 0x4c3 9 ∷ word1 3 0x1000 0x3403 16 ∷ start2 3 0x8000 9 ∷ word2 3 0x8000 0x4c3 9 ∷ []) ∷
     told 20 0x0 0x0 (mapped 0x3abc "--x" "rwx" (Device NGnRnE) Osh)
-    (base1 3 0x1000 20 ∷ base2 3 0x8000 20 ∷ word2 3 0x8000 0x4c3 20 ∷ word1 3 0x1000 0x3403 20 ∷ base2 3 0x8000 20 ∷ word2 3 0x8000 0x4c3 20 ∷ []) ∷ [])
+    (start1 3 0x1000 20 ∷ start2 3 0x8000 20 ∷ word2 3 0x8000 0x4c3 20 ∷ word1 3 0x1000 0x3403 20 ∷ start2 3 0x8000 20 ∷
+    word2 3 0x8000 0x4c3 20 ∷ []) ∷ [])
     (Some (4 ∷ 0 ∷ 4 ∷ 0 ∷ 0 ∷ 2 ∷ 0 ∷ 0 ∷ []))
 unfolding on_worked_walks on_worked_runs
 ranges_of_both_stages = (refl, refl)
@@ -172,29 +173,29 @@ addresses_and_rows : Comes (header 1 ((0x0, 0x20000) ∷ []) Small Fifo)
     Access 0 (access 0xfabc El1 Read false) ∷ Tlbi 0 FromEl1 Vae1 false 0xfffffffffff ∷ Dsb 0 DsbNsh ∷
     Access 0 (access 0xfffffffffffffabc El1 Read false) ∷ [])
     (told 8 0x0 0x0 (mapped 0x4abc "--x" "rwx" (Device NGnRnE) Osh)
-    (base1 3 0x2000 8 ∷ word1 3 0x2078 0x4403 8 ∷ []) ∷
+    (start1 3 0x2000 8 ∷ word1 3 0x2078 0x4403 8 ∷ []) ∷
     told 9 0x0 0x0 (fault S1 0 Translation)
     ([]) ∷
     told 10 0x0 0x0 (fault S1 0 Translation)
     ([]) ∷
     told 11 0x0 0x0 (mapped 0x8abc "--x" "rwx" (Device NGnRnE) Osh)
-    (base1 3 0x1000 11 ∷ word1 3 0x1000 0x8403 11 ∷ []) ∷
+    (start1 3 0x1000 11 ∷ word1 3 0x1000 0x8403 11 ∷ []) ∷
     told 12 0x0 0x0 (mapped 0xfabc "--x" "rwx" (Device NGnRnE) Osh)
-    (base1 3 0x1000 12 ∷ word1 3 0x1018 0xc403 12 ∷ []) ∷
+    (start1 3 0x1000 12 ∷ word1 3 0x1018 0xc403 12 ∷ []) ∷
     told 13 0x0 0x0 (mapped 0xfdef "--x" "rwx" (Device NGnRnE) Osh)
-    (base1 3 0x1000 12 ∷ word1 3 0x1018 0xc403 12 ∷ []) ∷
+    (start1 3 0x1000 12 ∷ word1 3 0x1018 0xc403 12 ∷ []) ∷
     told 17 0x0 0x0 (mapped 0x4abc "--x" "rwx" (Device NGnRnE) Osh)
-    (base1 3 0x2000 8 ∷ word1 3 0x2078 0x4403 8 ∷ []) ∷
+    (start1 3 0x2000 8 ∷ word1 3 0x2078 0x4403 8 ∷ []) ∷
     told 18 0x0 0x0 (mapped 0xfabc "--x" "rwx" (Device NGnRnE) Osh)
-    (base1 3 0x1000 18 ∷ word1 3 0x1018 0xc403 18 ∷ []) ∷
+    (start1 3 0x1000 18 ∷ word1 3 0x1018 0xc403 18 ∷ []) ∷
     told 21 0x0 0x0 (mapped 0x4abc "--x" "rwx" (Device NGnRnE) Osh)
-    (base1 3 0x2000 21 ∷ word1 3 0x2078 0x4403 21 ∷ []) ∷
+    (start1 3 0x2000 21 ∷ word1 3 0x2078 0x4403 21 ∷ []) ∷
     told 22 0x0 0x0 (mapped 0x8abc "--x" "rwx" (Device NGnRnE) Osh)
-    (base1 3 0x1000 11 ∷ word1 3 0x1000 0x8403 11 ∷ []) ∷
+    (start1 3 0x1000 11 ∷ word1 3 0x1000 0x8403 11 ∷ []) ∷
     told 23 0x0 0x0 (mapped 0xfabc "--x" "rwx" (Device NGnRnE) Osh)
-    (base1 3 0x1000 18 ∷ word1 3 0x1018 0xc403 18 ∷ []) ∷
+    (start1 3 0x1000 18 ∷ word1 3 0x1018 0xc403 18 ∷ []) ∷
     told 26 0x0 0x0 (mapped 0x4abc "--x" "rwx" (Device NGnRnE) Osh)
-    (base1 3 0x2000 26 ∷ word1 3 0x2078 0x4403 26 ∷ []) ∷ [])
+    (start1 3 0x2000 26 ∷ word1 3 0x2078 0x4403 26 ∷ []) ∷ [])
     (Some (12 ∷ 0 ∷ 10 ∷ 2 ∷ 0 ∷ 4 ∷ 0 ∷ 0 ∷ []))
 unfolding on_worked_walks on_worked_runs
 addresses_and_rows = (refl, refl)
@@ -209,25 +210,25 @@ asid_and_global_leaves : Comes (header 1 ((0x0, 0x20000) ∷ []) Small Fifo)
     Access 0 (access 0x1abc El1 Read false) ∷ Tlbi 0 FromEl1 Aside1 false 0x1000000000000 ∷ Dsb 0 DsbNsh ∷ Access 0 (access 0xabc El1 Read false) ∷
     Access 0 (access 0x1abc El1 Read false) ∷ Tlbi 0 FromEl1 Vmalle1 false 0 ∷ Dsb 0 DsbNsh ∷ Access 0 (access 0x1abc El1 Read false) ∷ [])
     (told 7 0x1 0x0 (mapped 0x4abc "--x" "rwx" (Device NGnRnE) Osh)
-    (base1 3 0x1000 7 ∷ word1 3 0x1000 0x4c03 7 ∷ []) ∷
+    (start1 3 0x1000 7 ∷ word1 3 0x1000 0x4c03 7 ∷ []) ∷
     told 8 0x1 0x0 (mapped 0x5abc "--x" "rwx" (Device NGnRnE) Osh)
-    (base1 3 0x1000 8 ∷ word1 3 0x1008 0x5403 8 ∷ []) ∷
+    (start1 3 0x1000 8 ∷ word1 3 0x1008 0x5403 8 ∷ []) ∷
     told 11 0x2 0x0 (mapped 0x4abc "--x" "rwx" (Device NGnRnE) Osh)
-    (base1 3 0x1000 11 ∷ word1 3 0x1000 0x4c03 11 ∷ []) ∷
+    (start1 3 0x1000 11 ∷ word1 3 0x1000 0x4c03 11 ∷ []) ∷
     told 12 0x2 0x0 (mapped 0x5abc "--x" "rwx" (Device NGnRnE) Osh)
-    (base1 3 0x1000 8 ∷ word1 3 0x1008 0x5403 8 ∷ []) ∷
+    (start1 3 0x1000 8 ∷ word1 3 0x1008 0x5403 8 ∷ []) ∷
     told 13 0x2 0x0 (mapped 0x4abc "--x" "rwx" (Device NGnRnE) Osh)
-    (base1 3 0x1000 11 ∷ word1 3 0x1000 0x4c03 11 ∷ []) ∷
+    (start1 3 0x1000 11 ∷ word1 3 0x1000 0x4c03 11 ∷ []) ∷
     told 18 0x1 0x0 (mapped 0x4abc "--x" "rwx" (Device NGnRnE) Osh)
-    (base1 3 0x1000 7 ∷ word1 3 0x1000 0x4c03 7 ∷ []) ∷
+    (start1 3 0x1000 7 ∷ word1 3 0x1000 0x4c03 7 ∷ []) ∷
     told 19 0x1 0x0 (mapped 0x5abc "--x" "rwx" (Device NGnRnE) Osh)
-    (base1 3 0x1000 8 ∷ word1 3 0x1008 0x5403 8 ∷ []) ∷
+    (start1 3 0x1000 8 ∷ word1 3 0x1008 0x5403 8 ∷ []) ∷
     told 22 0x1 0x0 (mapped 0x4abc "--x" "rwx" (Device NGnRnE) Osh)
-    (base1 3 0x1000 22 ∷ word1 3 0x1000 0x4c03 22 ∷ []) ∷
+    (start1 3 0x1000 22 ∷ word1 3 0x1000 0x4c03 22 ∷ []) ∷
     told 23 0x1 0x0 (mapped 0x5abc "--x" "rwx" (Device NGnRnE) Osh)
-    (base1 3 0x1000 8 ∷ word1 3 0x1008 0x5403 8 ∷ []) ∷
+    (start1 3 0x1000 8 ∷ word1 3 0x1008 0x5403 8 ∷ []) ∷
     told 26 0x1 0x0 (mapped 0x5abc "--x" "rwx" (Device NGnRnE) Osh)
-    (base1 3 0x1000 26 ∷ word1 3 0x1008 0x5403 26 ∷ []) ∷ [])
+    (start1 3 0x1000 26 ∷ word1 3 0x1008 0x5403 26 ∷ []) ∷ [])
     (Some (10 ∷ 0 ∷ 10 ∷ 0 ∷ 0 ∷ 5 ∷ 0 ∷ 0 ∷ []))
 unfolding on_worked_walks on_worked_runs
 asid_and_global_leaves = (refl, refl)

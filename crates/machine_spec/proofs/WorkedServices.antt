@@ -16,7 +16,7 @@ use Rattle.trails.specs.declared.event.Event.TheVariants.{Store, Msr, Isb, Tlbi,
 use Rattle.trace_lang.specs.declared.header.Size.TheVariants.{Small}
 use Rattle.trace_lang.specs.declared.header.Policy.TheVariants.{Fifo}
 use Rattle.walk_spec.proofs.Worked.{on_worked_walks, access, wb}
-use Rattle.machine_spec.proofs.Worked.{header, on_worked_runs, Comes, told, conflict_told, mapped, fault, fault2, word1, word2}
+use Rattle.machine_spec.proofs.Worked.{header, on_worked_runs, Comes, told, conflict_told, mapped, fault, fault2, start1, start2, word1, word2}
 
 -- several matching rows are a conflict that shows the two made first; it adds and removes nothing, counts as old and
 -- never as stale
@@ -27,22 +27,22 @@ conflict_of_three_rows : Comes (header 1 ((0x0, 0x20000) ∷ []) Small Fifo)
     Store 0 0x1018 0x4403 ∷ Access 0 (access 0x3abc El1 Read false) ∷ Access 0 (access 0x5abc El1 Read false) ∷
     Tlbi 0 FromEl1 Aside1 false 0x1000000000000 ∷ Dsb 0 DsbNsh ∷ Access 0 (access 0x3abc El1 Read false) ∷ [])
     (told 7 0x1 0x0 (mapped 0x4abc "--x" "rwx" (Device NGnRnE) Osh)
-    (base1 3 0x1000 7 ∷ word1 3 0x1018 0x4c03 7 ∷ []) ∷
+    (start1 3 0x1000 7 ∷ word1 3 0x1018 0x4c03 7 ∷ []) ∷
     told 8 0x1 0x0 (mapped 0x15abc "--x" "rwx" (Device NGnRnE) Osh)
-    (base1 3 0x1000 8 ∷ word1 3 0x1028 0x10000000015c03 8 ∷ []) ∷
+    (start1 3 0x1000 8 ∷ word1 3 0x1028 0x10000000015c03 8 ∷ []) ∷
     told 11 0x2 0x0 (mapped 0x17abc "--x" "rwx" (Device NGnRnE) Osh)
-    (base1 3 0x1000 11 ∷ word1 3 0x1038 0x10000000017403 11 ∷ []) ∷
+    (start1 3 0x1000 11 ∷ word1 3 0x1038 0x10000000017403 11 ∷ []) ∷
     conflict_told 14 0x1 0x0
-    (base1 3 0x1000 7 ∷ word1 3 0x1018 0x4c03 7 ∷ [])
-    (base1 3 0x1000 8 ∷ word1 3 0x1028 0x10000000015c03 8 ∷ []) ∷
+    (start1 3 0x1000 7 ∷ word1 3 0x1018 0x4c03 7 ∷ [])
+    (start1 3 0x1000 8 ∷ word1 3 0x1028 0x10000000015c03 8 ∷ []) ∷
     conflict_told 16 0x1 0x0
-    (base1 3 0x1000 7 ∷ word1 3 0x1018 0x4c03 7 ∷ [])
-    (base1 3 0x1000 8 ∷ word1 3 0x1028 0x10000000015c03 8 ∷ []) ∷
+    (start1 3 0x1000 7 ∷ word1 3 0x1018 0x4c03 7 ∷ [])
+    (start1 3 0x1000 8 ∷ word1 3 0x1028 0x10000000015c03 8 ∷ []) ∷
     conflict_told 17 0x1 0x0
-    (base1 3 0x1000 8 ∷ word1 3 0x1028 0x10000000015c03 8 ∷ [])
-    (base1 3 0x1000 11 ∷ word1 3 0x1038 0x10000000017403 11 ∷ []) ∷
+    (start1 3 0x1000 8 ∷ word1 3 0x1028 0x10000000015c03 8 ∷ [])
+    (start1 3 0x1000 11 ∷ word1 3 0x1038 0x10000000017403 11 ∷ []) ∷
     told 20 0x1 0x0 (mapped 0x13abc "--x" "rwx" (Device NGnRnE) Osh)
-    (base1 3 0x1000 11 ∷ word1 3 0x1038 0x10000000017403 11 ∷ []) ∷ [])
+    (start1 3 0x1000 11 ∷ word1 3 0x1038 0x10000000017403 11 ∷ []) ∷ [])
     (Some (7 ∷ 0 ∷ 4 ∷ 0 ∷ 3 ∷ 4 ∷ 0 ∷ 0 ∷ []))
 unfolding on_worked_walks on_worked_runs
 conflict_of_three_rows = (refl, refl)
@@ -55,15 +55,15 @@ config_parts_rows : Comes (header 1 ((0x0, 0x20000) ∷ []) Small Fifo)
     Access 0 (access 0xabc El1 Read false) ∷ Msr 0 MairEl1 0x0 ∷ Msr 0 Ttbr0El1 0x2000 ∷ Isb 0 ∷ Access 0 (access 0xabc El1 Read false) ∷
     Store 0 0x1000 0x0 ∷ Access 0 (access 0xabc El0 Read false) ∷ [])
     (told 6 0x0 0x0 (mapped 0x4abc "--x" "rwx" (Device NGnRnE) Osh)
-    (base1 3 0x1000 6 ∷ word1 3 0x1000 0x4403 6 ∷ []) ∷
+    (start1 3 0x1000 6 ∷ word1 3 0x1000 0x4403 6 ∷ []) ∷
     told 9 0x0 0x0 (mapped 0x4abc "--x" "rwx" (Normal (wb "rw") (wb "rw") false) Nsh)
-    (base1 3 0x1000 9 ∷ word1 3 0x1000 0x4403 9 ∷ []) ∷
+    (start1 3 0x1000 9 ∷ word1 3 0x1000 0x4403 9 ∷ []) ∷
     told 10 0x0 0x0 (mapped 0x4abc "--x" "rwx" (Normal (wb "rw") (wb "rw") false) Nsh)
-    (base1 3 0x1000 9 ∷ word1 3 0x1000 0x4403 9 ∷ []) ∷
+    (start1 3 0x1000 9 ∷ word1 3 0x1000 0x4403 9 ∷ []) ∷
     told 14 0x0 0x0 (mapped 0x4abc "--x" "rwx" (Device NGnRnE) Osh)
-    (base1 3 0x1000 6 ∷ word1 3 0x1000 0x4403 6 ∷ []) ∷
+    (start1 3 0x1000 6 ∷ word1 3 0x1000 0x4403 6 ∷ []) ∷
     told 16 0x0 0x0 (fault S1 3 Permission)
-    (base1 3 0x1000 6 ∷ word1 3 0x1000 0x4403 6 ∷ []) ∷ [])
+    (start1 3 0x1000 6 ∷ word1 3 0x1000 0x4403 6 ∷ []) ∷ [])
     (Some (5 ∷ 0 ∷ 4 ∷ 1 ∷ 0 ∷ 3 ∷ 2 ∷ 0 ∷ []))
 unfolding on_worked_walks on_worked_runs
 config_parts_rows = (refl, refl)
@@ -77,19 +77,19 @@ contiguous_bit : Comes (header 1 ((0x0, 0x20000) ∷ []) Small Fifo)
     Access 0 (access 0x9abc El1 Read false) ∷ Store 0 0x2000 0x10000002000401 ∷ Store 0 0x2008 0x10000002200401 ∷ Msr 0 TcrEl1 0x28 ∷
     Msr 0 Ttbr0El1 0x2000 ∷ Isb 0 ∷ Access 0 (access 0xabc El1 Read false) ∷ Access 0 (access 0x200abc El1 Read false) ∷ [])
     (told 6 0x0 0x0 (mapped 0x13abc "--x" "rwx" (Device NGnRnE) Osh)
-    (base1 3 0x1000 6 ∷ word1 3 0x1018 0x10000000013403 6 ∷ []) ∷
+    (start1 3 0x1000 6 ∷ word1 3 0x1018 0x10000000013403 6 ∷ []) ∷
     told 7 0x0 0x0 (mapped 0x19abc "--x" "rwx" (Device NGnRnE) Osh)
-    (base1 3 0x1000 6 ∷ word1 3 0x1018 0x10000000013403 6 ∷ []) ∷
+    (start1 3 0x1000 6 ∷ word1 3 0x1018 0x10000000013403 6 ∷ []) ∷
     told 10 0x0 0x0 (mapped 0x18abc "--x" "rwx" (Device NGnRnE) Osh)
-    (base1 3 0x1000 10 ∷ word1 3 0x1048 0x10000000018403 10 ∷ []) ∷
+    (start1 3 0x1000 10 ∷ word1 3 0x1048 0x10000000018403 10 ∷ []) ∷
     told 11 0x0 0x0 (mapped 0x13abc "--x" "rwx" (Device NGnRnE) Osh)
-    (base1 3 0x1000 11 ∷ word1 3 0x1018 0x10000000013403 11 ∷ []) ∷
+    (start1 3 0x1000 11 ∷ word1 3 0x1018 0x10000000013403 11 ∷ []) ∷
     told 14 0x0 0x0 (mapped 0x18abc "--x" "rwx" (Device NGnRnE) Osh)
-    (base1 3 0x1000 10 ∷ word1 3 0x1048 0x10000000018403 10 ∷ []) ∷
+    (start1 3 0x1000 10 ∷ word1 3 0x1048 0x10000000018403 10 ∷ []) ∷
     told 20 0x0 0x0 (mapped 0x2000abc "--x" "rwx" (Device NGnRnE) Osh)
-    (base1 2 0x2000 20 ∷ word1 2 0x2000 0x10000002000401 20 ∷ []) ∷
+    (start1 2 0x2000 20 ∷ word1 2 0x2000 0x10000002000401 20 ∷ []) ∷
     told 21 0x0 0x0 (mapped 0x2200abc "--x" "rwx" (Device NGnRnE) Osh)
-    (base1 2 0x2000 21 ∷ word1 2 0x2008 0x10000002200401 21 ∷ []) ∷ [])
+    (start1 2 0x2000 21 ∷ word1 2 0x2008 0x10000002200401 21 ∷ []) ∷ [])
     (Some (7 ∷ 0 ∷ 7 ∷ 0 ∷ 0 ∷ 2 ∷ 0 ∷ 0 ∷ []))
 unfolding on_worked_walks on_worked_runs
 contiguous_bit = (refl, refl)
@@ -104,25 +104,25 @@ rights_and_refusals : Comes (header 1 ((0x0, 0x20000) ∷ []) Small Fifo)
     Access 0 (access 0x1abc El1 Read true) ∷ Access 0 (access 0x1abc El0 Write false) ∷ Access 0 (access 0x2abc El0 Read false) ∷
     Access 0 (access 0x3abc El1 Read false) ∷ [])
     (told 8 0x0 0x0 (mapped 0x4abc "--x" "r-x" (Device NGnRnE) Osh)
-    (base1 3 0x1000 8 ∷ word1 3 0x1000 0x4483 8 ∷ []) ∷
+    (start1 3 0x1000 8 ∷ word1 3 0x1000 0x4483 8 ∷ []) ∷
     told 9 0x0 0x0 (mapped 0x5abc "rwx" "rw-" (Device NGnRnE) Osh)
-    (base1 3 0x1000 9 ∷ word1 3 0x1008 0x5443 9 ∷ []) ∷
+    (start1 3 0x1000 9 ∷ word1 3 0x1008 0x5443 9 ∷ []) ∷
     told 10 0x0 0x0 (fault S1 3 Permission)
-    (base1 3 0x1000 10 ∷ word1 3 0x1010 0x6403 10 ∷ []) ∷
+    (start1 3 0x1000 10 ∷ word1 3 0x1010 0x6403 10 ∷ []) ∷
     told 11 0x0 0x0 (fault S1 3 AccessFlag)
-    (base1 3 0x1000 11 ∷ word1 3 0x1018 0x7003 11 ∷ []) ∷
+    (start1 3 0x1000 11 ∷ word1 3 0x1018 0x7003 11 ∷ []) ∷
     told 15 0x0 0x0 (fault S1 3 Permission)
-    (base1 3 0x1000 8 ∷ word1 3 0x1000 0x4483 8 ∷ []) ∷
+    (start1 3 0x1000 8 ∷ word1 3 0x1000 0x4483 8 ∷ []) ∷
     told 16 0x0 0x0 (fault S1 3 Permission)
-    (base1 3 0x1000 8 ∷ word1 3 0x1000 0x4483 8 ∷ []) ∷
+    (start1 3 0x1000 8 ∷ word1 3 0x1000 0x4483 8 ∷ []) ∷
     told 17 0x0 0x0 (fault S1 3 Permission)
-    (base1 3 0x1000 9 ∷ word1 3 0x1008 0x5443 9 ∷ []) ∷
+    (start1 3 0x1000 9 ∷ word1 3 0x1008 0x5443 9 ∷ []) ∷
     told 18 0x0 0x0 (mapped 0x5abc "rwx" "rw-" (Device NGnRnE) Osh)
-    (base1 3 0x1000 9 ∷ word1 3 0x1008 0x5443 9 ∷ []) ∷
+    (start1 3 0x1000 9 ∷ word1 3 0x1008 0x5443 9 ∷ []) ∷
     told 19 0x0 0x0 (mapped 0x6abc "rwx" "rw-" (Device NGnRnE) Osh)
-    (base1 3 0x1000 19 ∷ word1 3 0x1010 0x6443 19 ∷ []) ∷
+    (start1 3 0x1000 19 ∷ word1 3 0x1010 0x6443 19 ∷ []) ∷
     told 20 0x0 0x0 (mapped 0x7abc "rwx" "rw-" (Device NGnRnE) Osh)
-    (base1 3 0x1000 20 ∷ word1 3 0x1018 0x7443 20 ∷ []) ∷ [])
+    (start1 3 0x1000 20 ∷ word1 3 0x1018 0x7443 20 ∷ []) ∷ [])
     (Some (10 ∷ 0 ∷ 5 ∷ 5 ∷ 0 ∷ 4 ∷ 2 ∷ 0 ∷ []))
 unfolding on_worked_walks on_worked_runs
 rights_and_refusals = (refl, refl)
@@ -136,19 +136,19 @@ piece_of_a_block : Comes (header 1 ((0x0, 0x20000) ∷ []) Small Fifo)
     Tlbi 0 FromEl2 Ipas2e1 false 0x3 ∷ Dsb 0 DsbNsh ∷ Access 0 (access 0x3abc El1 Fetch false) ∷ Tlbi 0 FromEl1 Vae1 false 0x9 ∷ Dsb 0 DsbNsh ∷
     Access 0 (access 0x3abc El1 Read false) ∷ [])
     (told 10 0x0 0x0 (mapped 0x5abc "--x" "r-x" (Device NGnRnE) Osh)
-    (base1 2 0x1000 10 ∷ base2 3 0x8000 10 ∷ word2 3 0x8008 0x14c3 10 ∷ word1 2 0x1000 0x401 10 ∷ base2 3 0x8000 10 ∷ word2 3 0x8018 0x5443 10 ∷
-    []) ∷
+    (start1 2 0x1000 10 ∷ start2 3 0x8000 10 ∷ word2 3 0x8008 0x14c3 10 ∷ word1 2 0x1000 0x401 10 ∷ start2 3 0x8000 10 ∷
+    word2 3 0x8018 0x5443 10 ∷ []) ∷
     told 11 0x0 0x0 (fault S2 3 Permission)
-    (base1 2 0x1000 10 ∷ base2 3 0x8000 10 ∷ word2 3 0x8008 0x14c3 10 ∷ word1 2 0x1000 0x401 10 ∷ base2 3 0x8000 10 ∷ word2 3 0x8018 0x5443 10 ∷
-    []) ∷
+    (start1 2 0x1000 10 ∷ start2 3 0x8000 10 ∷ word2 3 0x8008 0x14c3 10 ∷ word1 2 0x1000 0x401 10 ∷ start2 3 0x8000 10 ∷
+    word2 3 0x8018 0x5443 10 ∷ []) ∷
     told 12 0x0 0x0 (fault S1 2 Permission)
-    (base1 2 0x1000 10 ∷ base2 3 0x8000 10 ∷ word2 3 0x8008 0x14c3 10 ∷ word1 2 0x1000 0x401 10 ∷ []) ∷
+    (start1 2 0x1000 10 ∷ start2 3 0x8000 10 ∷ word2 3 0x8008 0x14c3 10 ∷ word1 2 0x1000 0x401 10 ∷ []) ∷
     told 17 0x0 0x0 (mapped 0x5abc "--x" "r-x" (Device NGnRnE) Osh)
-    (base1 2 0x1000 10 ∷ base2 3 0x8000 10 ∷ word2 3 0x8008 0x14c3 10 ∷ word1 2 0x1000 0x401 10 ∷ base2 3 0x8000 10 ∷ word2 3 0x8018 0x5443 10 ∷
-    []) ∷
+    (start1 2 0x1000 10 ∷ start2 3 0x8000 10 ∷ word2 3 0x8008 0x14c3 10 ∷ word1 2 0x1000 0x401 10 ∷ start2 3 0x8000 10 ∷
+    word2 3 0x8018 0x5443 10 ∷ []) ∷
     told 20 0x0 0x0 (mapped 0x6abc "--x" "rwx" (Device NGnRnE) Osh)
-    (base1 2 0x1000 20 ∷ base2 3 0x8000 20 ∷ word2 3 0x8008 0x14c3 20 ∷ word1 2 0x1000 0x401 20 ∷ base2 3 0x8000 20 ∷ word2 3 0x8018 0x64c3 20 ∷
-    []) ∷ [])
+    (start1 2 0x1000 20 ∷ start2 3 0x8000 20 ∷ word2 3 0x8008 0x14c3 20 ∷ word1 2 0x1000 0x401 20 ∷ start2 3 0x8000 20 ∷
+    word2 3 0x8018 0x64c3 20 ∷ []) ∷ [])
     (Some (5 ∷ 0 ∷ 3 ∷ 2 ∷ 0 ∷ 3 ∷ 1 ∷ 0 ∷ []))
 unfolding on_worked_walks on_worked_runs
 piece_of_a_block = (refl, refl)
@@ -163,19 +163,19 @@ row_is_the_smaller_leaf : Comes (header 1 ((0x0, 0x20000) ∷ []) Small Fifo)
     Tlbi 0 FromEl2 Ipas2e1 false 0x14 ∷ Dsb 0 DsbNsh ∷ Access 0 (access 0x5abc El1 Read false) ∷ Access 0 (access 0x4abc El1 Read false) ∷
     Access 0 (access 0x3abc El1 Read false) ∷ [])
     (told 14 0x0 0x0 (mapped 0x3abc "--x" "rwx" (Device NGnRnE) Osh)
-    (base1 3 0x1000 14 ∷ base2 3 0x8000 14 ∷ word2 3 0x8008 0x14c3 14 ∷ word1 3 0x1018 0x10000000003403 14 ∷ base2 3 0x8000 14 ∷
+    (start1 3 0x1000 14 ∷ start2 3 0x8000 14 ∷ word2 3 0x8008 0x14c3 14 ∷ word1 3 0x1018 0x10000000003403 14 ∷ start2 3 0x8000 14 ∷
     word2 3 0x8018 0x34c3 14 ∷ []) ∷
     told 17 0x0 0x0 (mapped 0x34abc "--x" "rwx" (Device NGnRnE) Osh)
-    (base1 3 0x1000 17 ∷ base2 3 0x8000 17 ∷ word2 3 0x8008 0x14c3 17 ∷ word1 3 0x1020 0x14403 17 ∷ base2 3 0x8000 17 ∷
+    (start1 3 0x1000 17 ∷ start2 3 0x8000 17 ∷ word2 3 0x8008 0x14c3 17 ∷ word1 3 0x1020 0x14403 17 ∷ start2 3 0x8000 17 ∷
     word2 3 0x80a0 0x100000000344c3 17 ∷ []) ∷
     told 21 0x0 0x0 (mapped 0x35abc "--x" "rwx" (Device NGnRnE) Osh)
-    (base1 3 0x1000 21 ∷ base2 3 0x8000 21 ∷ word2 3 0x8008 0x14c3 21 ∷ word1 3 0x1028 0x15403 21 ∷ base2 3 0x8000 21 ∷
+    (start1 3 0x1000 21 ∷ start2 3 0x8000 21 ∷ word2 3 0x8008 0x14c3 21 ∷ word1 3 0x1028 0x15403 21 ∷ start2 3 0x8000 21 ∷
     word2 3 0x80a8 0x100000000354c3 21 ∷ []) ∷
     told 22 0x0 0x0 (mapped 0x34abc "--x" "rwx" (Device NGnRnE) Osh)
-    (base1 3 0x1000 17 ∷ base2 3 0x8000 17 ∷ word2 3 0x8008 0x14c3 17 ∷ word1 3 0x1020 0x14403 17 ∷ base2 3 0x8000 17 ∷
+    (start1 3 0x1000 17 ∷ start2 3 0x8000 17 ∷ word2 3 0x8008 0x14c3 17 ∷ word1 3 0x1020 0x14403 17 ∷ start2 3 0x8000 17 ∷
     word2 3 0x80a0 0x100000000344c3 17 ∷ []) ∷
     told 23 0x0 0x0 (mapped 0x3abc "--x" "rwx" (Device NGnRnE) Osh)
-    (base1 3 0x1000 14 ∷ base2 3 0x8000 14 ∷ word2 3 0x8008 0x14c3 14 ∷ word1 3 0x1018 0x10000000003403 14 ∷ base2 3 0x8000 14 ∷
+    (start1 3 0x1000 14 ∷ start2 3 0x8000 14 ∷ word2 3 0x8008 0x14c3 14 ∷ word1 3 0x1018 0x10000000003403 14 ∷ start2 3 0x8000 14 ∷
     word2 3 0x8018 0x34c3 14 ∷ []) ∷ [])
     (Some (5 ∷ 0 ∷ 5 ∷ 0 ∷ 0 ∷ 2 ∷ 0 ∷ 0 ∷ []))
 unfolding on_worked_walks on_worked_runs
@@ -191,33 +191,33 @@ conflict_inside_a_chain : Comes (header 1 ((0x0, 0x20000) ∷ []) Small Fifo)
     Access 0 (access 0x200abc El1 Read false) ∷ Access 0 (access 0x201abc El1 Read false) ∷ Access 0 (access 0xabc El1 Read false) ∷
     Store 0 0x2010 0x5403 ∷ Store 0 0x8028 0x100000000054c3 ∷ Access 0 (access 0x2abc El1 Read false) ∷ Access 0 (access 0x400abc El1 Read false) ∷ [])
     (told 15 0x0 0x0 (mapped 0x3abc "--x" "rwx" (Device NGnRnE) Osh)
-    (base1 2 0x1000 15 ∷ base2 3 0x8000 15 ∷ word2 3 0x8008 0x14c3 15 ∷ word1 2 0x1000 0x2003 15 ∷ base2 3 0x8000 15 ∷ word2 3 0x8010 0x24c3 15 ∷
-    word1 3 0x2000 0x13403 15 ∷ base2 3 0x8000 15 ∷ word2 3 0x8098 0x34c3 15 ∷ []) ∷
+    (start1 2 0x1000 15 ∷ start2 3 0x8000 15 ∷ word2 3 0x8008 0x14c3 15 ∷ word1 2 0x1000 0x2003 15 ∷ start2 3 0x8000 15 ∷
+    word2 3 0x8010 0x24c3 15 ∷ word1 3 0x2000 0x13403 15 ∷ start2 3 0x8000 15 ∷ word2 3 0x8098 0x34c3 15 ∷ []) ∷
     told 16 0x0 0x0 (mapped 0x35abc "--x" "rwx" (Device NGnRnE) Osh)
-    (base1 2 0x1000 15 ∷ base2 3 0x8000 15 ∷ word2 3 0x8008 0x14c3 15 ∷ word1 2 0x1000 0x2003 15 ∷ base2 3 0x8000 15 ∷ word2 3 0x8010 0x24c3 15 ∷
-    word1 3 0x2008 0x15403 16 ∷ base2 3 0x8000 16 ∷ word2 3 0x80a8 0x100000000354c3 16 ∷ []) ∷
+    (start1 2 0x1000 15 ∷ start2 3 0x8000 15 ∷ word2 3 0x8008 0x14c3 15 ∷ word1 2 0x1000 0x2003 15 ∷ start2 3 0x8000 15 ∷
+    word2 3 0x8010 0x24c3 15 ∷ word1 3 0x2008 0x15403 16 ∷ start2 3 0x8000 16 ∷ word2 3 0x80a8 0x100000000354c3 16 ∷ []) ∷
     conflict_told 18 0x0 0x0
-    (base1 2 0x1000 18 ∷ base2 3 0x8000 15 ∷ word2 3 0x8008 0x14c3 15 ∷ word1 2 0x1008 0x2003 18 ∷ base2 3 0x8000 15 ∷ word2 3 0x8010 0x24c3 15 ∷
-    word1 3 0x2000 0x13403 18 ∷ base2 3 0x8000 15 ∷ word2 3 0x8098 0x34c3 15 ∷ [])
-    (base1 2 0x1000 18 ∷ base2 3 0x8000 15 ∷ word2 3 0x8008 0x14c3 15 ∷ word1 2 0x1008 0x2003 18 ∷ base2 3 0x8000 15 ∷ word2 3 0x8010 0x24c3 15 ∷
-    word1 3 0x2000 0x13403 18 ∷ base2 3 0x8000 16 ∷ word2 3 0x80a8 0x100000000354c3 16 ∷ []) ∷
+    (start1 2 0x1000 18 ∷ start2 3 0x8000 15 ∷ word2 3 0x8008 0x14c3 15 ∷ word1 2 0x1008 0x2003 18 ∷ start2 3 0x8000 15 ∷
+    word2 3 0x8010 0x24c3 15 ∷ word1 3 0x2000 0x13403 18 ∷ start2 3 0x8000 15 ∷ word2 3 0x8098 0x34c3 15 ∷ [])
+    (start1 2 0x1000 18 ∷ start2 3 0x8000 15 ∷ word2 3 0x8008 0x14c3 15 ∷ word1 2 0x1008 0x2003 18 ∷ start2 3 0x8000 15 ∷
+    word2 3 0x8010 0x24c3 15 ∷ word1 3 0x2000 0x13403 18 ∷ start2 3 0x8000 16 ∷ word2 3 0x80a8 0x100000000354c3 16 ∷ []) ∷
     conflict_told 19 0x0 0x0
-    (base1 2 0x1000 19 ∷ base2 3 0x8000 15 ∷ word2 3 0x8008 0x14c3 15 ∷ word1 2 0x1008 0x2003 19 ∷ base2 3 0x8000 15 ∷ word2 3 0x8010 0x24c3 15 ∷
-    word1 3 0x2000 0x13403 19 ∷ base2 3 0x8000 15 ∷ word2 3 0x8098 0x34c3 15 ∷ [])
-    (base1 2 0x1000 19 ∷ base2 3 0x8000 15 ∷ word2 3 0x8008 0x14c3 15 ∷ word1 2 0x1008 0x2003 19 ∷ base2 3 0x8000 15 ∷ word2 3 0x8010 0x24c3 15 ∷
-    word1 3 0x2000 0x13403 19 ∷ base2 3 0x8000 16 ∷ word2 3 0x80a8 0x100000000354c3 16 ∷ []) ∷
+    (start1 2 0x1000 19 ∷ start2 3 0x8000 15 ∷ word2 3 0x8008 0x14c3 15 ∷ word1 2 0x1008 0x2003 19 ∷ start2 3 0x8000 15 ∷
+    word2 3 0x8010 0x24c3 15 ∷ word1 3 0x2000 0x13403 19 ∷ start2 3 0x8000 15 ∷ word2 3 0x8098 0x34c3 15 ∷ [])
+    (start1 2 0x1000 19 ∷ start2 3 0x8000 15 ∷ word2 3 0x8008 0x14c3 15 ∷ word1 2 0x1008 0x2003 19 ∷ start2 3 0x8000 15 ∷
+    word2 3 0x8010 0x24c3 15 ∷ word1 3 0x2000 0x13403 19 ∷ start2 3 0x8000 16 ∷ word2 3 0x80a8 0x100000000354c3 16 ∷ []) ∷
     told 20 0x0 0x0 (mapped 0x35abc "--x" "rwx" (Device NGnRnE) Osh)
-    (base1 2 0x1000 20 ∷ base2 3 0x8000 15 ∷ word2 3 0x8008 0x14c3 15 ∷ word1 2 0x1008 0x2003 20 ∷ base2 3 0x8000 15 ∷ word2 3 0x8010 0x24c3 15 ∷
-    word1 3 0x2008 0x15403 20 ∷ base2 3 0x8000 16 ∷ word2 3 0x80a8 0x100000000354c3 16 ∷ []) ∷
+    (start1 2 0x1000 20 ∷ start2 3 0x8000 15 ∷ word2 3 0x8008 0x14c3 15 ∷ word1 2 0x1008 0x2003 20 ∷ start2 3 0x8000 15 ∷
+    word2 3 0x8010 0x24c3 15 ∷ word1 3 0x2008 0x15403 20 ∷ start2 3 0x8000 16 ∷ word2 3 0x80a8 0x100000000354c3 16 ∷ []) ∷
     told 21 0x0 0x0 (mapped 0x3abc "--x" "rwx" (Device NGnRnE) Osh)
-    (base1 2 0x1000 15 ∷ base2 3 0x8000 15 ∷ word2 3 0x8008 0x14c3 15 ∷ word1 2 0x1000 0x2003 15 ∷ base2 3 0x8000 15 ∷ word2 3 0x8010 0x24c3 15 ∷
-    word1 3 0x2000 0x13403 15 ∷ base2 3 0x8000 15 ∷ word2 3 0x8098 0x34c3 15 ∷ []) ∷
+    (start1 2 0x1000 15 ∷ start2 3 0x8000 15 ∷ word2 3 0x8008 0x14c3 15 ∷ word1 2 0x1000 0x2003 15 ∷ start2 3 0x8000 15 ∷
+    word2 3 0x8010 0x24c3 15 ∷ word1 3 0x2000 0x13403 15 ∷ start2 3 0x8000 15 ∷ word2 3 0x8098 0x34c3 15 ∷ []) ∷
     told 24 0x0 0x0 (mapped 0x5abc "--x" "rwx" (Device NGnRnE) Osh)
-    (base1 2 0x1000 15 ∷ base2 3 0x8000 15 ∷ word2 3 0x8008 0x14c3 15 ∷ word1 2 0x1000 0x2003 15 ∷ base2 3 0x8000 15 ∷ word2 3 0x8010 0x24c3 15 ∷
-    word1 3 0x2010 0x5403 24 ∷ base2 3 0x8000 24 ∷ word2 3 0x8028 0x100000000054c3 24 ∷ []) ∷
+    (start1 2 0x1000 15 ∷ start2 3 0x8000 15 ∷ word2 3 0x8008 0x14c3 15 ∷ word1 2 0x1000 0x2003 15 ∷ start2 3 0x8000 15 ∷
+    word2 3 0x8010 0x24c3 15 ∷ word1 3 0x2010 0x5403 24 ∷ start2 3 0x8000 24 ∷ word2 3 0x8028 0x100000000054c3 24 ∷ []) ∷
     conflict_told 25 0x0 0x0
-    (base1 2 0x1000 25 ∷ base2 3 0x8000 15 ∷ word2 3 0x8008 0x14c3 15 ∷ [])
-    (base1 2 0x1000 25 ∷ base2 3 0x8000 24 ∷ word2 3 0x8028 0x100000000054c3 24 ∷ []) ∷ [])
+    (start1 2 0x1000 25 ∷ start2 3 0x8000 15 ∷ word2 3 0x8008 0x14c3 15 ∷ [])
+    (start1 2 0x1000 25 ∷ start2 3 0x8000 24 ∷ word2 3 0x8028 0x100000000054c3 24 ∷ []) ∷ [])
     (Some (8 ∷ 0 ∷ 5 ∷ 0 ∷ 3 ∷ 7 ∷ 1 ∷ 0 ∷ []))
 unfolding on_worked_walks on_worked_runs
 conflict_inside_a_chain = (refl, refl)
@@ -229,15 +229,15 @@ prefetch_makes_and_uses_rows : Comes (header 1 ((0x0, 0x20000) ∷ []) Small Fif
     Prefetch 0 (access 0xabc El0 Write false) ∷ Prefetch 0 (access 0x1abc El1 Write false) ∷ Prefetch 0 (access 0xabc El1 Read false) ∷
     Store 0 0x2000 0x0 ∷ Prefetch 0 (access 0xabc El1 Fetch false) ∷ Access 0 (access 0xabc El1 Read false) ∷ [])
     (told 6 0x0 0x0 (fault S1 3 Permission)
-    (base1 2 0x1000 6 ∷ word1 2 0x1000 0x2003 6 ∷ word1 3 0x2000 0x4403 6 ∷ []) ∷
+    (start1 2 0x1000 6 ∷ word1 2 0x1000 0x2003 6 ∷ word1 3 0x2000 0x4403 6 ∷ []) ∷
     told 7 0x0 0x0 (fault S1 3 Translation)
-    (base1 2 0x1000 6 ∷ word1 2 0x1000 0x2003 6 ∷ word1 3 0x2008 0x0 7 ∷ []) ∷
+    (start1 2 0x1000 6 ∷ word1 2 0x1000 0x2003 6 ∷ word1 3 0x2008 0x0 7 ∷ []) ∷
     told 8 0x0 0x0 (mapped 0x4abc "--x" "rwx" (Device NGnRnE) Osh)
-    (base1 2 0x1000 6 ∷ word1 2 0x1000 0x2003 6 ∷ word1 3 0x2000 0x4403 8 ∷ []) ∷
+    (start1 2 0x1000 6 ∷ word1 2 0x1000 0x2003 6 ∷ word1 3 0x2000 0x4403 8 ∷ []) ∷
     told 10 0x0 0x0 (mapped 0x4abc "--x" "rwx" (Device NGnRnE) Osh)
-    (base1 2 0x1000 6 ∷ word1 2 0x1000 0x2003 6 ∷ word1 3 0x2000 0x4403 8 ∷ []) ∷
+    (start1 2 0x1000 6 ∷ word1 2 0x1000 0x2003 6 ∷ word1 3 0x2000 0x4403 8 ∷ []) ∷
     told 11 0x0 0x0 (mapped 0x4abc "--x" "rwx" (Device NGnRnE) Osh)
-    (base1 2 0x1000 6 ∷ word1 2 0x1000 0x2003 6 ∷ word1 3 0x2000 0x4403 8 ∷ []) ∷ [])
+    (start1 2 0x1000 6 ∷ word1 2 0x1000 0x2003 6 ∷ word1 3 0x2000 0x4403 8 ∷ []) ∷ [])
     (Some (1 ∷ 4 ∷ 3 ∷ 2 ∷ 0 ∷ 4 ∷ 2 ∷ 0 ∷ []))
 unfolding on_worked_walks on_worked_runs
 prefetch_makes_and_uses_rows = (refl, refl)
@@ -253,30 +253,30 @@ which_stage2_leaves_are_kept : Comes (header 1 ((0x0, 0x20000) ∷ []) Small Fif
     Access 0 (access 0x2abc El1 Read false) ∷ Store 0 0x8020 0x64c3 ∷ Store 0 0x8028 0x74c3 ∷ Access 0 (access 0x1abc El1 Read false) ∷
     Access 0 (access 0x2abc El1 Read false) ∷ [])
     (told 14 0x0 0x0 (fault2 3 Permission)
-    (base1 3 0x1000 14 ∷ base2 3 0x8000 14 ∷ word2 3 0x8008 0x14c3 14 ∷ []) ∷
+    (start1 3 0x1000 14 ∷ start2 3 0x8000 14 ∷ word2 3 0x8008 0x14c3 14 ∷ []) ∷
     told 16 0x0 0x0 (fault2 3 Permission)
-    (base1 3 0x1000 16 ∷ base2 3 0x8000 14 ∷ word2 3 0x8008 0x14c3 14 ∷ []) ∷
+    (start1 3 0x1000 16 ∷ start2 3 0x8000 14 ∷ word2 3 0x8008 0x14c3 14 ∷ []) ∷
     told 19 0x0 0x0 (fault S2 3 Permission)
-    (base1 3 0x1000 19 ∷ base2 3 0x8000 19 ∷ word2 3 0x8008 0x14ff 19 ∷ word1 3 0x1000 0x3403 19 ∷ base2 3 0x8000 19 ∷ word2 3 0x8018 0x5483 19 ∷
-    []) ∷
+    (start1 3 0x1000 19 ∷ start2 3 0x8000 19 ∷ word2 3 0x8008 0x14ff 19 ∷ word1 3 0x1000 0x3403 19 ∷ start2 3 0x8000 19 ∷
+    word2 3 0x8018 0x5483 19 ∷ []) ∷
     told 21 0x0 0x0 (mapped 0x5abc "---" "-w-" (Device NGnRnE) Osh)
-    (base1 3 0x1000 21 ∷ base2 3 0x8000 19 ∷ word2 3 0x8008 0x14ff 19 ∷ word1 3 0x1000 0x3403 21 ∷ base2 3 0x8000 19 ∷ word2 3 0x8018 0x5483 19 ∷
-    []) ∷
+    (start1 3 0x1000 21 ∷ start2 3 0x8000 19 ∷ word2 3 0x8008 0x14ff 19 ∷ word1 3 0x1000 0x3403 21 ∷ start2 3 0x8000 19 ∷
+    word2 3 0x8018 0x5483 19 ∷ []) ∷
     told 22 0x0 0x0 (fault S2 3 Permission)
-    (base1 3 0x1000 21 ∷ base2 3 0x8000 19 ∷ word2 3 0x8008 0x14ff 19 ∷ word1 3 0x1000 0x3403 21 ∷ base2 3 0x8000 19 ∷ word2 3 0x8018 0x5483 19 ∷
-    []) ∷
+    (start1 3 0x1000 21 ∷ start2 3 0x8000 19 ∷ word2 3 0x8008 0x14ff 19 ∷ word1 3 0x1000 0x3403 21 ∷ start2 3 0x8000 19 ∷
+    word2 3 0x8018 0x5483 19 ∷ []) ∷
     told 23 0x0 0x0 (fault S2 3 AccessFlag)
-    (base1 3 0x1000 23 ∷ base2 3 0x8000 19 ∷ word2 3 0x8008 0x14ff 19 ∷ word1 3 0x1008 0x4403 23 ∷ base2 3 0x8000 23 ∷ word2 3 0x8020 0x60c3 23 ∷
-    []) ∷
+    (start1 3 0x1000 23 ∷ start2 3 0x8000 19 ∷ word2 3 0x8008 0x14ff 19 ∷ word1 3 0x1008 0x4403 23 ∷ start2 3 0x8000 23 ∷
+    word2 3 0x8020 0x60c3 23 ∷ []) ∷
     told 24 0x0 0x0 (fault S2 3 AddressSize)
-    (base1 3 0x1000 24 ∷ base2 3 0x8000 19 ∷ word2 3 0x8008 0x14ff 19 ∷ word1 3 0x1010 0x5403 24 ∷ base2 3 0x8000 24 ∷
+    (start1 3 0x1000 24 ∷ start2 3 0x8000 19 ∷ word2 3 0x8008 0x14ff 19 ∷ word1 3 0x1010 0x5403 24 ∷ start2 3 0x8000 24 ∷
     word2 3 0x8028 0x1000074c3 24 ∷ []) ∷
     told 27 0x0 0x0 (mapped 0x6abc "--x" "rwx" (Device NGnRnE) Osh)
-    (base1 3 0x1000 27 ∷ base2 3 0x8000 19 ∷ word2 3 0x8008 0x14ff 19 ∷ word1 3 0x1008 0x4403 27 ∷ base2 3 0x8000 27 ∷ word2 3 0x8020 0x64c3 27 ∷
-    []) ∷
+    (start1 3 0x1000 27 ∷ start2 3 0x8000 19 ∷ word2 3 0x8008 0x14ff 19 ∷ word1 3 0x1008 0x4403 27 ∷ start2 3 0x8000 27 ∷
+    word2 3 0x8020 0x64c3 27 ∷ []) ∷
     told 28 0x0 0x0 (mapped 0x7abc "--x" "rwx" (Device NGnRnE) Osh)
-    (base1 3 0x1000 28 ∷ base2 3 0x8000 19 ∷ word2 3 0x8008 0x14ff 19 ∷ word1 3 0x1010 0x5403 28 ∷ base2 3 0x8000 28 ∷ word2 3 0x8028 0x74c3 28 ∷
-    []) ∷ [])
+    (start1 3 0x1000 28 ∷ start2 3 0x8000 19 ∷ word2 3 0x8008 0x14ff 19 ∷ word1 3 0x1010 0x5403 28 ∷ start2 3 0x8000 28 ∷
+    word2 3 0x8028 0x74c3 28 ∷ []) ∷ [])
     (Some (9 ∷ 0 ∷ 3 ∷ 6 ∷ 0 ∷ 7 ∷ 3 ∷ 0 ∷ []))
 unfolding on_worked_walks on_worked_runs
 which_stage2_leaves_are_kept = (refl, refl)
@@ -291,23 +291,23 @@ tables_are_kept : Comes (header 1 ((0x0, 0x20000) ∷ []) Small Fifo)
     Access 0 (access 0x1abc El0 Read false) ∷ Access 0 (access 0x1abc El1 Read false) ∷ Access 0 (access 0x200abc El1 Read false) ∷
     Access 0 (access 0x400abc El1 Read false) ∷ [])
     (told 9 0x0 0x0 (fault S1 3 Translation)
-    (base1 2 0x1000 9 ∷ word1 2 0x1000 0x2000000000002003 9 ∷ word1 3 0x2010 0x0 9 ∷ []) ∷
+    (start1 2 0x1000 9 ∷ word1 2 0x1000 0x2000000000002003 9 ∷ word1 3 0x2010 0x0 9 ∷ []) ∷
     told 10 0x0 0x0 (fault S1 3 External)
-    (base1 2 0x1000 10 ∷ word1 2 0x1008 0x90003 10 ∷ []) ∷
+    (start1 2 0x1000 10 ∷ word1 2 0x1008 0x90003 10 ∷ []) ∷
     told 11 0x0 0x0 (fault S1 2 AddressSize)
-    (base1 2 0x1000 11 ∷ word1 2 0x1010 0x100002003 11 ∷ []) ∷
+    (start1 2 0x1000 11 ∷ word1 2 0x1010 0x100002003 11 ∷ []) ∷
     told 15 0x0 0x0 (mapped 0x4abc "--x" "rwx" (Device NGnRnE) Osh)
-    (base1 2 0x1000 9 ∷ word1 2 0x1000 0x2000000000002003 9 ∷ word1 3 0x2000 0x4443 15 ∷ []) ∷
+    (start1 2 0x1000 9 ∷ word1 2 0x1000 0x2000000000002003 9 ∷ word1 3 0x2000 0x4443 15 ∷ []) ∷
     told 16 0x0 0x0 (fault S1 3 Permission)
-    (base1 2 0x1000 9 ∷ word1 2 0x1000 0x2000000000002003 9 ∷ word1 3 0x2000 0x4443 15 ∷ []) ∷
+    (start1 2 0x1000 9 ∷ word1 2 0x1000 0x2000000000002003 9 ∷ word1 3 0x2000 0x4443 15 ∷ []) ∷
     told 17 0x0 0x0 (fault S1 3 Permission)
-    (base1 2 0x1000 9 ∷ word1 2 0x1000 0x2000000000002003 9 ∷ word1 3 0x2008 0x5443 17 ∷ []) ∷
+    (start1 2 0x1000 9 ∷ word1 2 0x1000 0x2000000000002003 9 ∷ word1 3 0x2008 0x5443 17 ∷ []) ∷
     told 18 0x0 0x0 (mapped 0x5abc "--x" "rwx" (Device NGnRnE) Osh)
-    (base1 2 0x1000 9 ∷ word1 2 0x1000 0x2000000000002003 9 ∷ word1 3 0x2008 0x5443 18 ∷ []) ∷
+    (start1 2 0x1000 9 ∷ word1 2 0x1000 0x2000000000002003 9 ∷ word1 3 0x2008 0x5443 18 ∷ []) ∷
     told 19 0x0 0x0 (fault S1 3 External)
-    (base1 2 0x1000 10 ∷ word1 2 0x1008 0x90003 10 ∷ []) ∷
+    (start1 2 0x1000 10 ∷ word1 2 0x1008 0x90003 10 ∷ []) ∷
     told 20 0x0 0x0 (mapped 0x4abc "rwx" "rw-" (Device NGnRnE) Osh)
-    (base1 2 0x1000 20 ∷ word1 2 0x1010 0x2003 20 ∷ word1 3 0x2000 0x4443 20 ∷ []) ∷ [])
+    (start1 2 0x1000 20 ∷ word1 2 0x1010 0x2003 20 ∷ word1 3 0x2000 0x4443 20 ∷ []) ∷ [])
     (Some (9 ∷ 0 ∷ 3 ∷ 6 ∷ 0 ∷ 5 ∷ 5 ∷ 0 ∷ []))
 unfolding on_worked_walks on_worked_runs
 tables_are_kept = (refl, refl)
@@ -320,17 +320,17 @@ stage2_rows_know_no_asid : Comes (header 1 ((0x0, 0x20000) ∷ []) Small Fifo)
     Access 0 (access 0xabc El1 Read false) ∷ Msr 0 Ttbr0El1 0x2000000001000 ∷ Isb 0 ∷ Access 0 (access 0xabc El1 Read false) ∷
     Access 0 (access 0x1abc El1 Read false) ∷ Msr 0 VttbrEl2 0x2000000008000 ∷ Isb 0 ∷ Access 0 (access 0xabc El1 Read false) ∷ [])
     (told 12 0x1 0x1 (mapped 0x5abc "--x" "rwx" (Device NGnRnE) Osh)
-    (base1 2 0x1000 12 ∷ base2 3 0x8000 12 ∷ word2 3 0x8008 0x14c3 12 ∷ word1 2 0x1000 0x2003 12 ∷ base2 3 0x8000 12 ∷ word2 3 0x8010 0x24c3 12 ∷
-    word1 3 0x2000 0x3403 12 ∷ base2 3 0x8000 12 ∷ word2 3 0x8018 0x54c3 12 ∷ []) ∷
+    (start1 2 0x1000 12 ∷ start2 3 0x8000 12 ∷ word2 3 0x8008 0x14c3 12 ∷ word1 2 0x1000 0x2003 12 ∷ start2 3 0x8000 12 ∷
+    word2 3 0x8010 0x24c3 12 ∷ word1 3 0x2000 0x3403 12 ∷ start2 3 0x8000 12 ∷ word2 3 0x8018 0x54c3 12 ∷ []) ∷
     told 15 0x2 0x1 (mapped 0x5abc "--x" "rwx" (Device NGnRnE) Osh)
-    (base1 2 0x1000 12 ∷ base2 3 0x8000 12 ∷ word2 3 0x8008 0x14c3 12 ∷ word1 2 0x1000 0x2003 12 ∷ base2 3 0x8000 12 ∷ word2 3 0x8010 0x24c3 12 ∷
-    word1 3 0x2000 0x3403 12 ∷ base2 3 0x8000 12 ∷ word2 3 0x8018 0x54c3 12 ∷ []) ∷
+    (start1 2 0x1000 12 ∷ start2 3 0x8000 12 ∷ word2 3 0x8008 0x14c3 12 ∷ word1 2 0x1000 0x2003 12 ∷ start2 3 0x8000 12 ∷
+    word2 3 0x8010 0x24c3 12 ∷ word1 3 0x2000 0x3403 12 ∷ start2 3 0x8000 12 ∷ word2 3 0x8018 0x54c3 12 ∷ []) ∷
     told 16 0x2 0x1 (fault S1 3 Translation)
-    (base1 2 0x1000 16 ∷ base2 3 0x8000 12 ∷ word2 3 0x8008 0x14c3 12 ∷ word1 2 0x1000 0x2003 16 ∷ base2 3 0x8000 12 ∷ word2 3 0x8010 0x24c3 12 ∷
-    word1 3 0x2008 0x0 16 ∷ []) ∷
+    (start1 2 0x1000 16 ∷ start2 3 0x8000 12 ∷ word2 3 0x8008 0x14c3 12 ∷ word1 2 0x1000 0x2003 16 ∷ start2 3 0x8000 12 ∷
+    word2 3 0x8010 0x24c3 12 ∷ word1 3 0x2008 0x0 16 ∷ []) ∷
     told 19 0x2 0x2 (mapped 0x5abc "--x" "rwx" (Device NGnRnE) Osh)
-    (base1 2 0x1000 19 ∷ base2 3 0x8000 19 ∷ word2 3 0x8008 0x14c3 19 ∷ word1 2 0x1000 0x2003 19 ∷ base2 3 0x8000 19 ∷ word2 3 0x8010 0x24c3 19 ∷
-    word1 3 0x2000 0x3403 19 ∷ base2 3 0x8000 19 ∷ word2 3 0x8018 0x54c3 19 ∷ []) ∷ [])
+    (start1 2 0x1000 19 ∷ start2 3 0x8000 19 ∷ word2 3 0x8008 0x14c3 19 ∷ word1 2 0x1000 0x2003 19 ∷ start2 3 0x8000 19 ∷
+    word2 3 0x8010 0x24c3 19 ∷ word1 3 0x2000 0x3403 19 ∷ start2 3 0x8000 19 ∷ word2 3 0x8018 0x54c3 19 ∷ []) ∷ [])
     (Some (4 ∷ 0 ∷ 3 ∷ 1 ∷ 0 ∷ 2 ∷ 0 ∷ 0 ∷ []))
 unfolding on_worked_walks on_worked_runs
 stage2_rows_know_no_asid = (refl, refl)
@@ -345,23 +345,23 @@ smallest_table_serves : Comes (header 1 ((0x0, 0x20000) ∷ []) Small Fifo)
     Access 0 (access 0xabc El1 Read false) ∷ Access 0 (access 0x1abc El1 Read false) ∷ Tlbi 0 FromEl1 Vae1 false 0x200 ∷ Dsb 0 DsbNsh ∷
     Access 0 (access 0x200abc El1 Read false) ∷ Access 0 (access 0x2abc El1 Read false) ∷ [])
     (told 8 0x0 0x0 (mapped 0x4abc "rwx" "rwx" (Device NGnRnE) Osh)
-    (base2 1 0x1000 8 ∷ word2 1 0x1000 0x2003 8 ∷ word2 2 0x2000 0x3003 8 ∷ word2 3 0x3000 0x44ff 8 ∷ []) ∷
+    (start2 1 0x1000 8 ∷ word2 1 0x1000 0x2003 8 ∷ word2 2 0x2000 0x3003 8 ∷ word2 3 0x3000 0x44ff 8 ∷ []) ∷
     told 9 0x0 0x0 (mapped 0x4abc "rwx" "rwx" (Device NGnRnE) Osh)
-    (base2 1 0x1000 8 ∷ word2 1 0x1000 0x2003 8 ∷ word2 2 0x2000 0x3003 8 ∷ word2 3 0x3000 0x44ff 8 ∷ []) ∷
+    (start2 1 0x1000 8 ∷ word2 1 0x1000 0x2003 8 ∷ word2 2 0x2000 0x3003 8 ∷ word2 3 0x3000 0x44ff 8 ∷ []) ∷
     told 10 0x0 0x0 (mapped 0x5abc "rwx" "rwx" (Device NGnRnE) Osh)
-    (base2 1 0x1000 8 ∷ word2 1 0x1000 0x2003 8 ∷ word2 2 0x2000 0x3003 8 ∷ word2 3 0x3008 0x54ff 10 ∷ []) ∷
+    (start2 1 0x1000 8 ∷ word2 1 0x1000 0x2003 8 ∷ word2 2 0x2000 0x3003 8 ∷ word2 3 0x3008 0x54ff 10 ∷ []) ∷
     told 13 0x0 0x0 (fault S2 2 Translation)
-    (base2 1 0x1000 13 ∷ word2 1 0x1000 0x2003 13 ∷ word2 2 0x2008 0x0 13 ∷ []) ∷
+    (start2 1 0x1000 13 ∷ word2 1 0x1000 0x2003 13 ∷ word2 2 0x2008 0x0 13 ∷ []) ∷
     told 14 0x0 0x0 (fault S2 3 Translation)
-    (base2 1 0x1000 8 ∷ word2 1 0x1000 0x2003 8 ∷ word2 2 0x2000 0x3003 8 ∷ word2 3 0x3010 0x0 14 ∷ []) ∷
+    (start2 1 0x1000 8 ∷ word2 1 0x1000 0x2003 8 ∷ word2 2 0x2000 0x3003 8 ∷ word2 3 0x3010 0x0 14 ∷ []) ∷
     told 20 0x0 0x0 (mapped 0x4abc "r-x" "r-x" (Device NGnRnE) Osh)
-    (base1 1 0x1000 20 ∷ word1 1 0x1000 0x2003 20 ∷ word1 2 0x2000 0x3003 20 ∷ word1 3 0x3000 0x44ff 20 ∷ []) ∷
+    (start1 1 0x1000 20 ∷ word1 1 0x1000 0x2003 20 ∷ word1 2 0x2000 0x3003 20 ∷ word1 3 0x3000 0x44ff 20 ∷ []) ∷
     told 21 0x0 0x0 (mapped 0x5abc "r-x" "r-x" (Device NGnRnE) Osh)
-    (base1 1 0x1000 20 ∷ word1 1 0x1000 0x2003 20 ∷ word1 2 0x2000 0x3003 20 ∷ word1 3 0x3008 0x54ff 21 ∷ []) ∷
+    (start1 1 0x1000 20 ∷ word1 1 0x1000 0x2003 20 ∷ word1 2 0x2000 0x3003 20 ∷ word1 3 0x3008 0x54ff 21 ∷ []) ∷
     told 24 0x0 0x0 (fault S1 2 Translation)
-    (base1 1 0x1000 24 ∷ word1 1 0x1000 0x2003 24 ∷ word1 2 0x2008 0x0 24 ∷ []) ∷
+    (start1 1 0x1000 24 ∷ word1 1 0x1000 0x2003 24 ∷ word1 2 0x2008 0x0 24 ∷ []) ∷
     told 25 0x0 0x0 (fault S1 3 Translation)
-    (base1 1 0x1000 20 ∷ word1 1 0x1000 0x2003 20 ∷ word1 2 0x2000 0x3003 20 ∷ word1 3 0x3010 0x0 25 ∷ []) ∷ [])
+    (start1 1 0x1000 20 ∷ word1 1 0x1000 0x2003 20 ∷ word1 2 0x2000 0x3003 20 ∷ word1 3 0x3010 0x0 25 ∷ []) ∷ [])
     (Some (9 ∷ 0 ∷ 5 ∷ 4 ∷ 0 ∷ 5 ∷ 0 ∷ 0 ∷ []))
 unfolding on_worked_walks on_worked_runs
 smallest_table_serves = (refl, refl)
