@@ -289,18 +289,18 @@ module _ (r : Regime) (a : Access) where
     abbrev E : Entry1
     E = entry1 Q left t
 
-    abbrev Lead : Item → Ask Need Item (End Leaf1)
-    Lead i = Fine (step_then below (step1 Q E i.pa i.value))
+    abbrev OnWord : Item → Ask Need Item (End Leaf1)
+    OnWord i = Fine (step_then below (step1 Q E i.pa i.value))
 
     abbrev Go : Result Item Fault → Ask Need Item (End Leaf1)
-    Go = go_on stops Lead
+    Go = go_on stops OnWord
 
     abbrev Level : Ask Need Item (End Leaf1)
     Level = after (word_of r E) Go
 
     -- the word was the leaf, or others follow
-    step_end : (i : Item) (xs : List Item) (l : Leaf1) → Turn1 r left i → IsOn r (Lead i) xs (done (reaches l))
-        → ((xs ≡ []) × (l.class ≡ class_at1 r left i.pa i.value)) ⊎ Ends1 r (Lead i) xs l
+    step_end : (i : Item) (xs : List Item) (l : Leaf1) → Turn1 r left i → IsOn r (OnWord i) xs (done (reaches l))
+        → ((xs ≡ []) × (l.class ≡ class_at1 r left i.pa i.value)) ⊎ Ends1 r (OnWord i) xs l
     step_end i xs l (goes_down next bits al d) h =
         let n : Table1 = record { address = next; bits = joined_bits t.bits bits } in
         let s : step1 Q E i.pa i.value ≡ Down n = d false a t in
@@ -331,11 +331,11 @@ module _ (r : Regime) (a : Access) where
           class_is = c;
         }
 
-    level_more : (front rest : List Item) (i : Item) (l : Leaf1) → IsOn r (word_of r E) front (done (Ok i)) → Ends1 r (Lead i) rest l
+    level_more : (front rest : List Item) (i : Item) (l : Leaf1) → IsOn r (word_of r E) front (done (Ok i)) → Ends1 r (OnWord i) rest l
         → Ends1 r Level (front ++ rest) l
     level_more front rest i l h d =
-        let m : marks r Level (front ++ rest) ≡ marks r Level front ++ marks r (Lead i) rest =
-        marks_append r Level (Lead i) front rest (on_after r (word_of r E) (done (Ok i)) Go front h) in
+        let m : marks r Level (front ++ rest) ≡ marks r Level front ++ marks r (OnWord i) rest =
+        marks_append r Level (OnWord i) front rest (on_after r (word_of r E) (done (Ok i)) Go front h) in
         record {
           item = d.item;
           left = d.left;
@@ -343,14 +343,14 @@ module _ (r : Regime) (a : Access) where
           last = last_app front rest d.item d.last;
           stage = d.stage;
           level = d.level;
-          mark_last = subst (λ ms. LastIs ms d.mark_of) (sym m) (last_app (marks r Level front) (marks r (Lead i) rest) d.mark_of d.mark_last);
+          mark_last = subst (λ ms. LastIs ms d.mark_of) (sym m) (last_app (marks r Level front) (marks r (OnWord i) rest) d.mark_of d.mark_last);
           first = d.first;
           part = d.part;
           class_is = d.class_is;
         }
 
     level_by : (front rest : List Item) (i : Item) (l : Leaf1) → IsOn r (word_of r E) front (done (Ok i))
-        → ((rest ≡ []) × (l.class ≡ class_at1 r left i.pa i.value)) ⊎ Ends1 r (Lead i) rest l → Ends1 r Level (front ++ rest) l
+        → ((rest ≡ []) × (l.class ≡ class_at1 r left i.pa i.value)) ⊎ Ends1 r (OnWord i) rest l → Ends1 r Level (front ++ rest) l
     level_by front rest i l h (inl g) =
         subst (λ (v : List Item). Ends1 r Level v l) (sym (ap (λ v. front ++ v) g.0 ∙ append-nil front)) (level_here front i l h g.1)
     level_by front rest i l h (inr g) = level_more front rest i l h g
