@@ -1,9 +1,10 @@
 //! An access over a dump.
-ghost use Rattle.std.specs.Prelude.{◌≡◌, ◌≤◌, ◌<◌, IfOk, IfErr, Some, List, ℕ};
+ghost use Rattle.std.specs.Prelude.{◌≡◌, ◌≤◌, ◌<◌, Ok, IfOk, IfErr, Some, List, ℕ};
 ghost use Rattle.bitwords.specs.Causes.{Rose};
 ghost use Rattle.sysregs.specs.Refused.{AreAccepted};
 ghost use Rattle.walk_spec.specs.Walked.{HasLine, IsFresh, WalkedWhole};
-ghost use Rattle.dump_file.specs.Held.{Bytes, reading_of};
+ghost use Rattle.reg_file.specs.RegisterFile.{regs_of};
+ghost use Rattle.dump_file.specs.Held.{Bytes, GaveWhole, reading_of};
 ghost use Rattle.dump_file.specs.Counted.{OthersStay};
 ghost use Rattle.dump_file.specs.Kept.{StandsFor};
 ghost use Rattle.dump_file.specs.Dumps.{IsOpened};
@@ -11,7 +12,7 @@ ghost use Rattle.dump_file.specs.Opening.{IsOfSize};
 ghost use Rattle.commands.specs.Asked.{Asked, explain_words_of};
 ghost use Rattle.answers.specs.Supplies.{dump_memory};
 ghost use Rattle.answers.specs.Explain.{AreRegisters, IsTextOver};
-ghost use Rattle.statuses.specs.Stops.{Form, Stops};
+ghost use Rattle.statuses.specs.Stops.{Form, Stops, IsOfWhatCame};
 ghost use Rattle.answers.specs.Answers.{IsDue};
 ghost use Rattle.answers.specs.Due.{answer_text, due_of, HasAnswerText};
 
@@ -40,6 +41,8 @@ fn registers_in<F: Files>(
     ensures same { F.holds files.new ≡ F.holds files.old }
     ensures registers { IfOk result (AreRegisters (F.holds files.old name.now)) }
     ensures accepted { IfOk result AreAccepted }
+    ensures came { IfOk result (λ regs. GaveWhole (F.reads name.now) files.new (λ bytes. regs_of bytes ≡ Ok regs)) }
+    ensures refused { IfErr result (IsOfWhatCame Form.AsRegisters (F.reads name.now) files.new) }
     ensures error { IfErr result (Stops (reading_of F.holds F.faults F.missing files.old files.new) record { form = Form.AsRegisters; name = name.now }) }
     ensures missing { F.missing files.old name.now ≤ F.missing files.new name.now }
     ensures later { F.faults files.old name.now ≤ F.faults files.new name.now }
@@ -65,6 +68,8 @@ fn registers<F: Files>(alloc: Global, name: &str, files: &mut F) -> Result<Regs,
     ensures same { F.holds files.new ≡ F.holds files.old }
     ensures registers { IfOk result (AreRegisters (F.holds files.old name.now)) }
     ensures accepted { IfOk result AreAccepted }
+    ensures came { IfOk result (λ regs. GaveWhole (F.reads name.now) files.new (λ bytes. regs_of bytes ≡ Ok regs)) }
+    ensures refused { IfErr result (IsOfWhatCame Form.AsRegisters (F.reads name.now) files.new) }
     ensures error { IfErr result (Stops (reading_of F.holds F.faults F.missing files.old files.new) record { form = Form.AsRegisters; name = name.now }) }
     ensures missing { F.missing files.old name.now ≤ F.missing files.new name.now }
     ensures later { F.faults files.old name.now ≤ F.faults files.new name.now }

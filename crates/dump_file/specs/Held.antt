@@ -1,5 +1,5 @@
 -- What files hold, where that is told, and what their calls then answer.
-use Rattle.std.specs.Prelude.{◌≡◌, ℕ, zero, suc, ◌+◌, ◌-◌, List, [], ◌++◌, length, take, drop, min, Option, Some, None}
+use Rattle.std.specs.Prelude.{◌≡◌, ◌≤◌, ℕ, zero, suc, ◌+◌, ◌-◌, List, [], ◌++◌, length, take, drop, min, Option, Some, None}
 use Rattle.bitwords.specs.Causes.{Rose}
 
 -- what a name holds: not told, no file, or a file with these bytes
@@ -35,6 +35,18 @@ CameBy {F} read at (suc turns) before bytes after =
 pub record InTurns {F : Type 0} (read : F → ℕ → List ℕ → F → Type 0) (at : ℕ) (before : F) (bytes : List ℕ) (after : F) : Type 0 where
   pub turns : ℕ
   pub came : CameBy read at turns before bytes after
+
+-- a part of a file from a place on was cut from bytes that reads of the file gave, over this call
+pub record IsCut {F : Type 0} (read : F → ℕ → List ℕ → F → Type 0) (before after : F) (at : ℕ) (part : List ℕ) : Type 0 where
+  pub start : ℕ
+  pub bytes : List ℕ
+  pub turns : InTurns read start before bytes after
+  pub from : start ≤ at
+  pub is : part ≡ take (length part) (drop (at - start) bytes)
+
+-- reads of a file from its beginning, of which the last one left the files like this, gave bytes of which this holds
+abbrev pub GaveWhole : {F : Type 0} (read : F → ℕ → List ℕ → F → Type 0) (after : F) (Holds : List ℕ → Type 0) → Type 0
+GaveWhole {F} read after Holds = (before : F) × (bytes : List ℕ) × InTurns read 0 before bytes after × Holds bytes
 
 -- the files over a call: what they hold, and their counts by name before and after it
 pub record Reading : Type 0 where

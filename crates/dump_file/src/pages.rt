@@ -1,5 +1,6 @@
-ghost use Rattle.std.specs.Prelude.{◌≡◌, ◌≤◌, ◌+◌, ◌*◌, ◌%◌, length, take, drop, true, false, IfOk, IsTrue};
+ghost use Rattle.std.specs.Prelude.{◌≡◌, ◌≤◌, ◌+◌, ◌*◌, ◌%◌, ◌⊎◌, length, take, drop, true, false, IfOk, IsTrue};
 ghost use Rattle.bitwords.specs.Causes.{HasCause};
+ghost use Rattle.dump_file.specs.Held.{IsCut};
 ghost use Rattle.dump_file.specs.Paging.{AreFull, AreAmong, IsAdded, IsPart, IsKeptPart, IsWordAt, StayOf};
 
 use crate::files::{Files, ReadFailed};
@@ -62,6 +63,7 @@ fn read_part<F: Files>(
     requires full { AreFull file.now.size pages.old.entries }
     requires inside { at + length into.old ≤ file.now.size }
     requires page { at % 4096 + length into.old ≤ 4096 }
+    ensures came { IfOk result (λ came. IsTrue came → IsCut (F.reads file.now.name.now) files.old files.new at into.new) }
     ensures same { F.holds files.new ≡ F.holds files.old }
     ensures full { AreFull file.now.size pages.new.entries }
     ensures part { IfOk result (IsPart (F.holds files.old file.now.name.now) file.now.size pages.old.entries
@@ -99,6 +101,8 @@ fn part<F: Files>(
     requires full { AreFull file.now.size pages.old.entries }
     requires inside { at + length into.old ≤ file.now.size }
     requires page { at % 4096 + length into.old ≤ 4096 }
+    ensures came { IfOk result (λ came. IsTrue came →
+        IsKeptPart pages.old.entries at into.new ⊎ IsCut (F.reads file.now.name.now) files.old files.new at into.new) }
     ensures same { F.holds files.new ≡ F.holds files.old }
     ensures full { AreFull file.now.size pages.new.entries }
     ensures part { IfOk result (IsPart (F.holds files.old file.now.name.now) file.now.size pages.old.entries

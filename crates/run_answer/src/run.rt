@@ -1,13 +1,14 @@
 //! A trace that is run.
-ghost use Rattle.std.specs.Prelude.{◌≡◌, ◌≤◌, ◌<◌, ◌+◌, ℕ, IfOk, IfErr};
+ghost use Rattle.std.specs.Prelude.{◌≡◌, ◌≤◌, ◌<◌, ◌+◌, ℕ, Ok, IfOk, IfErr};
 ghost use Rattle.bitwords.specs.Causes.{HasCause};
-ghost use Rattle.dump_file.specs.Held.{reading_of};
+ghost use Rattle.dump_file.specs.Held.{InTurns, GaveWhole, reading_of};
 ghost use Rattle.dump_file.specs.Opening.{IsOfSize};
 ghost use Rattle.trace_lang.specs.Limits.{IsBuilt};
 ghost use Rattle.trace_lang.specs.declared.parsing.TheConstants.{MOST_BYTES};
 ghost use Rattle.explain_text.specs.Written.{Wrote};
+ghost use Rattle.trace_lang.specs.Lines.{trace_of};
 ghost use Rattle.run_answer.specs.Run.{IsTraceOf, IsReport, run_text, IsReady, IsWhole, FailsBy};
-ghost use Rattle.statuses.specs.Stops.{Form, Stops};
+ghost use Rattle.statuses.specs.Stops.{Form, Stops, IsOfWhatCame};
 
 use bitwords::NoMemory;
 use dump_file::{Files, fill_from};
@@ -45,6 +46,7 @@ fn bytes_in<F: Files>(
     requires { room ≤ MOST_BYTES + 1 }
     ensures same { F.holds files.new ≡ F.holds files.old }
     ensures whole { IfOk result (λ bytes. IsWhole (F.holds files.old name.now) room bytes.items) }
+    ensures turns { IfOk result (λ bytes. InTurns (F.reads name.now) 0 files.old bytes.items files.new) }
     ensures error { IfErr result (FailsBy (F.faults files.old name.now) (F.faults files.new name.now)) }
     ensures missing { F.missing files.old name.now ≤ F.missing files.new name.now }
     ensures later { F.faults files.old name.now ≤ F.faults files.new name.now }
@@ -71,6 +73,7 @@ fn bytes_of<F: Files>(
     requires most { size ≤ MOST_BYTES }
     ensures same { F.holds files.new ≡ F.holds files.old }
     ensures whole { IfOk result (λ bytes. (room : ℕ) × (size < room) × IsWhole (F.holds files.old name.now) room bytes.items) }
+    ensures came { IfOk result (λ v. GaveWhole (F.reads name.now) files.new (λ bytes. v.items ≡ bytes)) }
     ensures error { IfErr result (FailsBy (F.faults files.old name.now) (F.faults files.new name.now)) }
     ensures missing { F.missing files.old name.now ≤ F.missing files.new name.now }
     ensures later { F.faults files.old name.now ≤ F.faults files.new name.now }
@@ -92,6 +95,8 @@ fn trace_in<F: Files>(alloc: Global, name: &str, size: u64, files: &mut F) -> Re
     ensures same { F.holds files.new ≡ F.holds files.old }
     ensures trace { IfOk result (IsTraceOf (F.holds files.old name.now)) }
     ensures built { IfOk result (λ t. IsBuilt t.header) }
+    ensures came { IfOk result (λ t. GaveWhole (F.reads name.now) files.new (λ bytes. trace_of bytes ≡ Ok t)) }
+    ensures refused { IfErr result (IsOfWhatCame Form.AsTrace (F.reads name.now) files.new) }
     ensures error { IfErr result (Stops (reading_of F.holds F.faults F.missing files.old files.new) record { form = Form.AsTrace; name = name.now }) }
     ensures missing { F.missing files.old name.now ≤ F.missing files.new name.now }
     ensures later { F.faults files.old name.now ≤ F.faults files.new name.now }
@@ -112,6 +117,8 @@ pub fn trace<F: Files>(alloc: Global, name: &str, files: &mut F) -> Result<Trace
     ensures same { F.holds files.new ≡ F.holds files.old }
     ensures trace { IfOk result (IsTraceOf (F.holds files.old name.now)) }
     ensures built { IfOk result (λ t. IsBuilt t.header) }
+    ensures came { IfOk result (λ t. GaveWhole (F.reads name.now) files.new (λ bytes. trace_of bytes ≡ Ok t)) }
+    ensures refused { IfErr result (IsOfWhatCame Form.AsTrace (F.reads name.now) files.new) }
     ensures error { IfErr result (Stops (reading_of F.holds F.faults F.missing files.old files.new) record { form = Form.AsTrace; name = name.now }) }
     ensures missing { F.missing files.old name.now ≤ F.missing files.new name.now }
     ensures later { F.faults files.old name.now ≤ F.faults files.new name.now }

@@ -1,9 +1,12 @@
 -- When a file stops a command, and with which status. All of it is this project's own rule.
-use Rattle.std.specs.Prelude.{ℕ, ◌≡◌, List, Option, Some, None, Result, Ok, Err}
+use Rattle.std.specs.Prelude.{ℕ, ◌≡◌, ◌<◌, ◌⊎◌, List, Option, Some, None, Result, Ok, Err}
 use Rattle.reg_file.specs.RegisterFile.{regs_of}
-use Rattle.dump_file.specs.Held.{Holding, Untold, Absent, Bytes, Reading, ReadFails, IsMissing}
+use Rattle.reg_file.specs.declared.reading.TheConstants.{MOST_BYTES}
+use Rattle.reg_file.specs.declared.refusals.RegRefusal.TheVariants.{TooLarge}
+use Rattle.dump_file.specs.Held.{Holding, Untold, Absent, Bytes, GaveWhole, Reading, ReadFails, IsMissing}
 use Rattle.dump_file.specs.DumpOf.{dump_of}
-use Rattle.trace_lang.specs.Lines.{trace_of}
+use Rattle.trace_lang.specs.Lines.{trace_of, most_text}
+use Rattle.trace_lang.specs.declared.refusals.TraceRefusal.TheVariants.{TooLarge as TooLargeTrace}
 use Rattle.statuses.specs.declared.status.Why.{Why}
 use Rattle.statuses.specs.declared.status.Why.TheVariants.{Regs, Dump, Trace}
 use Rattle.statuses.specs.declared.status.Status.{Status}
@@ -51,6 +54,17 @@ abbrev pub IsRefusedBy : Holding → Form → Why → Type 0
 IsRefusedBy Untold form why = IsOf form why
 IsRefusedBy Absent form why = ⊥
 IsRefusedBy (Bytes bytes) form why = refusal_in form bytes ≡ Some why
+
+-- a file is too large by its size alone
+abbrev pub IsLong : Form → Why → Type 0
+IsLong AsRegisters why = (size : ℕ) × (MOST_BYTES < size) × (why ≡ Regs (TooLarge size))
+IsLong AsTrace why = (size : ℕ) × (most_text < size) × (why ≡ Trace (TooLargeTrace size))
+IsLong _ why = ⊥
+
+-- A refusal is that of bytes which reads of the file gave from its beginning, whatever the file tells, or of its size.
+abbrev pub IsOfWhatCame : {F : Type 0} (form : Form) (read : F → ℕ → List ℕ → F → Type 0) (after : F) (status : Status) → Type 0
+IsOfWhatCame form read after (Refused why) = IsLong form why ⊎ GaveWhole read after (λ bytes. refusal_in form bytes ≡ Some why)
+IsOfWhatCame form read after _ = Unit {0}
 
 -- a file may stop a command with this status: it is missing, or refused, a read failed, or memory was refused
 abbrev pub Stops : Reading → Named → Status → Type 0
