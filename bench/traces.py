@@ -1,8 +1,10 @@
 #!/usr/bin/env python3
-"""traces.py big N CORES GRANULE [--stage2] [--seed SEED]   a long valid trace, of which 4 of 5 events map through all levels
-traces.py random SEED                                     a small trace of everything, about one in ten of them refused
+"""traces.py big N CORES GRANULE [--stage2] [--pages N] [--memory KB] [--seed SEED]
+                        a long valid trace, of which 4 of 5 events map through all levels
+traces.py random SEED   a small trace of everything, about one in ten of them refused
 
-GRANULE is 4, 16 or 64 (KB). 64 KB has three levels at most. The trace goes to standard output."""
+GRANULE is 4, 16 or 64 (KB). 64 KB has three levels at most. The tables map so many pages (a sixtieth of the events), and
+memory is one range of so many KB (as many as the tables need). The trace goes to standard output."""
 import random
 import sys
 
@@ -57,7 +59,7 @@ class Tables:
 # ---------------------------------------------------------------- big
 
 
-def big(count, cores, kb, stage2, seed):
+def big(count, cores, kb, stage2, seed, pages=None, memory=None):
     rng = random.Random("big %d" % seed)
     granule = {4: 12, 16: 14, 64: 16}[kb]
     page = 1 << granule
@@ -114,7 +116,7 @@ def big(count, cores, kb, stage2, seed):
     one.tables.base = one.tables.base & -page or one.tables.base
 
     # Pages: a group shares its last table. Each is of a kind that says which accesses it permits.
-    pages = max(4, min(768, count // 60))
+    pages = pages or max(4, min(768, count // 60))
     groups = max(2, pages // (24 if granule != 16 else 96))
     kinds = {"user": (0x40 | 1 << 53, ["el0 read", "el0 write", "el1 read", "el1 write", "el0 fetch"]),
              "code": (0xc0, ["el0 read", "el0 fetch", "el1 read", "el1 fetch"]),
@@ -148,7 +150,8 @@ def big(count, cores, kb, stage2, seed):
 
     high = (1 << 64) - (1 << (64 - txsz))
     data = alloc()
-    size = (free - base + 0xffff) & -0x10000
+    size = memory << 10 if memory else (free - base + 0xffff) & -0x10000
+    assert free - base <= size, "the tables need %d bytes" % (free - base)
     header = ["cores %d" % cores, "memory 0x%x 0x%x" % (base, size), "caches none", "policy fifo"]
     accesses = 0
     while len(lines) < count:
@@ -642,13 +645,15 @@ def main():
     stage2 = "--stage2" in words
     if stage2:
         words.remove("--stage2")
-    seed = 1
-    if "--seed" in words:
-        at = words.index("--seed")
-        seed = int(words[at + 1])
-        del words[at:at + 2]
+    options = {"--seed": 1, "--pages": None, "--memory": None}
+    for name in options:
+        if name in words:
+            at = words.index(name)
+            options[name] = int(words[at + 1])
+            del words[at:at + 2]
     if len(words) == 4 and words[0] == "big" and words[3] in ("4", "16", "64"):
-        text = big(int(words[1]), int(words[2]), int(words[3]), stage2, seed).encode()
+        count, cores, kb = map(int, words[1:])
+        text = big(count, cores, kb, stage2, options["--seed"], options["--pages"], options["--memory"]).encode()
     elif len(words) == 2 and words[0] == "random":
         text = Random(words[1]).text()
     else:

@@ -24,12 +24,12 @@ pub struct Perms(u8);
 pub struct LeafBits {
     pub user: bool,
     pub read_only: bool,
-    pub dbm: bool,
     pub pxn: bool,
     pub uxn: bool,
 }
 
-/// The joined APTable, PXNTable and UXNTable of the tables above a descriptor: bits 59 to 62 where they stand in a word.
+/// The joined APTable, PXNTable and UXNTable of the tables above a descriptor: bits 59 to 62 where
+/// they stand in a word.
 #[derive(Clone, Copy, Default)]
 pub struct TableBits(u64);
 
@@ -66,9 +66,9 @@ impl Perms {
         Perms(bits(el0) | bits(el1) << 3)
     }
 
-    /// The rights of a stage 1 leaf under its tables; `dirty` says that hardware manages dirty state.
-    pub fn stage1(leaf: LeafBits, tables: TableBits, dirty: bool, wxn: bool) -> Perms {
-        let writable = !(tables.has(TableBits::READ_ONLY) | (leaf.read_only & !(dirty & leaf.dbm)));
+    /// The rights of a stage 1 leaf under its tables.
+    pub fn stage1(leaf: LeafBits, tables: TableBits, wxn: bool) -> Perms {
+        let writable = !(tables.has(TableBits::READ_ONLY) | leaf.read_only);
         let user = leaf.user & !tables.has(TableBits::NO_EL0);
         let user_writes = user & writable;
         let user_fetches = !(leaf.uxn | tables.uxn()) & !(wxn & user_writes);
@@ -77,9 +77,8 @@ impl Perms {
         Perms::new([user, user_writes, user_fetches], [true, writable, fetches])
     }
 
-    /// The rights of a stage 2 leaf, by S2AP, XN and DBM.
-    pub fn stage2(read: bool, write: bool, xn: u64, dbm: bool, dirty: bool) -> Perms {
-        let write = write | (dirty & dbm);
+    /// The rights of a stage 2 leaf, by S2AP and XN.
+    pub fn stage2(read: bool, write: bool, xn: u64) -> Perms {
         Perms::new([read, write, read & (xn < 2)], [read, write, read & (xn == 0 || xn == 3)])
     }
 
@@ -207,7 +206,8 @@ impl MemType {
             return MemType::Device(Device::of((byte >> 2) as u64));
         }
         if byte == 0xf0 {
-            let cache = Cache { policy: Policy::WriteBack, transient: false, read: true, write: true };
+            let cache =
+                Cache { policy: Policy::WriteBack, transient: false, read: true, write: true };
             return MemType::Normal { outer: cache, inner: cache, tagged: true };
         }
         match (Cache::of_mair(byte >> 4), Cache::of_mair(byte & 15)) {
@@ -221,7 +221,11 @@ impl MemType {
         if code < 4 {
             return MemType::Device(Device::of(code));
         }
-        MemType::Normal { outer: Cache::of_stage2(code >> 2), inner: Cache::of_stage2(code & 3), tagged: false }
+        MemType::Normal {
+            outer: Cache::of_stage2(code >> 2),
+            inner: Cache::of_stage2(code & 3),
+            tagged: false,
+        }
     }
 
     /// Whether it is Device memory.
@@ -234,7 +238,10 @@ impl MemType {
         match (self, other) {
             (MemType::Device(a), MemType::Device(b)) => MemType::Device(a.min(b)),
             (MemType::Device(kind), _) | (_, MemType::Device(kind)) => MemType::Device(kind),
-            (MemType::Normal { outer, inner, tagged }, MemType::Normal { outer: outer2, inner: inner2, .. }) => {
+            (
+                MemType::Normal { outer, inner, tagged },
+                MemType::Normal { outer: outer2, inner: inner2, .. },
+            ) => {
                 let (outer, inner) = (outer.weaker(outer2), inner.weaker(inner2));
                 let cached = outer.policy == Policy::WriteBack && inner.policy == Policy::WriteBack;
                 MemType::Normal { outer, inner, tagged: tagged & cached }
@@ -269,10 +276,15 @@ impl Share {
 impl Attrs {
     /// What stage 1 gives while it is off; `cached` is SCTLR_EL1.I.
     pub fn mmu_off(kind: Kind, cached: bool) -> Attrs {
-        let through = Cache { policy: Policy::WriteThrough, transient: false, read: true, write: false };
+        let through =
+            Cache { policy: Policy::WriteThrough, transient: false, read: true, write: false };
         let mem = match (kind, cached) {
-            (Kind::Fetch, true) => MemType::Normal { outer: through, inner: through, tagged: false },
-            (Kind::Fetch, false) => MemType::Normal { outer: Cache::NONE, inner: Cache::NONE, tagged: false },
+            (Kind::Fetch, true) => {
+                MemType::Normal { outer: through, inner: through, tagged: false }
+            }
+            (Kind::Fetch, false) => {
+                MemType::Normal { outer: Cache::NONE, inner: Cache::NONE, tagged: false }
+            }
             _ => MemType::Device(Device::NGnRnE),
         };
         Attrs { perms: Perms::ALL, mem, share: Share::Osh }

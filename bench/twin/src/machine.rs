@@ -1,11 +1,11 @@
-//! The machine: cores that act on one memory, and the log of what they did.
+//! The machine: cores that act on one memory.
 
 use crate::memory::Memory;
 use crate::parse::Trace;
 use crate::regs::{Context, Reg, Regs};
-use crate::tlbi::{Invalidation, Op};
+use crate::tlbi::{Invalidation, Operation};
 use crate::walk::{Access, Outcome, Trail, Walk};
-use std::collections::{TryReserveError, VecDeque};
+use std::collections::VecDeque;
 
 /// The most register writes, and the most invalidations, that wait for a core.
 const MOST_WAITING: usize = 64;
@@ -18,90 +18,56 @@ pub enum Barrier {
     Sy,
 }
 
-/// One step of a trace, done by the core that it names.
-#[derive(Clone, Copy)]
-pub enum Event {
-    #[allow(dead_code)] // A store is the same from each core.
-    Store {
-        core: u8,
-        pa: u64,
-        value: u64,
-    },
-    Msr {
-        core: u8,
-        reg: Reg,
-        value: u64,
-    },
-    Settle {
-        core: u8,
-    },
-    Isb {
-        core: u8,
-    },
-    Tlbi {
-        core: u8,
-        at_el1: bool,
-        op: Op,
-        shared: bool,
-        operand: u64,
-    },
-    Dsb {
-        core: u8,
-        kind: Barrier,
-    },
-    Deliver {
-        core: u8,
-    },
-    Access {
-        core: u8,
-        access: Access,
-    },
+/// What a core does in one step of a trace.
+pub enum Action {
+    Store { pa: u64, value: u64 },
+    Msr { reg: Reg, value: u64 },
+    Settle,
+    Isb,
+    Tlbi(Operation),
+    Dsb(Barrier),
+    Deliver,
+    Access(Access),
+}
+
+/// One step of a trace.
+pub struct Event {
+    pub core: u8,
+    pub action: Action,
 }
 
 /// How an access came out, under the ASID and VMID of its moment.
-pub struct Answer {
-    pub outcome: Outcome,
+pub struct Answer<'a> {
+    pub moment: u32,
+    pub core: u8,
+    pub access: &'a Access,
     pub asid: u16,
     pub vmid: u16,
-    pub old: bool,
-    pub stale: bool,
-    pub evicted: u32,
-    pub first: Trail,
-    pub second: Option<Trail>,
+    pub trail: &'a Trail,
+    pub outcome: Outcome,
 }
 
-/// An event and its answer, which is there for an access.
-pub struct Step {
-    pub event: Event,
-    pub answer: Option<Answer>,
-}
-
-/// A core: its registers, the writes that wait, and its inbox of invalidations, each with the oldest first.
+/// A core: its registers, the writes that wait, and its inbox of invalidations, each with the
+/// oldest first.
 struct Core {
-    /// The core's number in the trace.
-    number: u8,
     regs: Regs,
     context: Context,
     /// Whether `context` is that of the registers in force.
     is_current: bool,
     queue: VecDeque<(Reg, u64)>,
     inbox: VecDeque<Invalidation>,
-    /// How many invalidations have taken effect.
-    taken: u64,
 }
 
 impl Core {
     /// A core whose registers are all 0.
-    fn new(number: u8) -> Core {
+    fn new() -> Core {
         let regs = Regs::default();
         Core {
-            number,
             context: regs.context(),
             regs,
             is_current: true,
             queue: VecDeque::with_capacity(MOST_WAITING),
             inbox: VecDeque::with_capacity(MOST_WAITING),
-            taken: 0,
         }
     }
 
@@ -128,16 +94,9 @@ impl Core {
         while self.settle() {}
     }
 
-    /// An invalidation takes effect on the rows, of which there are none.
-    fn take(taken: &mut u64, _invalidation: &Invalidation) {
-        *taken += 1;
-    }
-
-    /// The oldest invalidation takes effect.
+    /// The oldest invalidation takes effect on the rows, of which there are none.
     fn deliver(&mut self) {
-        if let Some(oldest) = self.inbox.pop_front() {
-            Core::take(&mut self.taken, &oldest);
-        }
+        self.inbox.pop_front();
     }
 
     /// An invalidation comes in.
@@ -149,18 +108,15 @@ impl Core {
     }
 
     /// The invalidations that a DSB of a core completes take effect.
-    fn finish(&mut self, core: u8, kind: Barrier) {
-        let taken = &mut self.taken;
+    fn finish(&mut self, core: u8, barrier: Barrier) {
         self.inbox.retain(|invalidation| {
-            let completes = invalidation.issuer == core && (kind != Barrier::Nsh || !invalidation.broadcast);
-            if completes {
-                Core::take(taken, invalidation);
-            }
-            !completes
+            let is_awaited = barrier != Barrier::Nsh || !invalidation.broadcast;
+            invalidation.issuer != core || !is_awaited
         });
     }
 
-    /// What a walk needs of the registers in force.
+    /// What a walk needs of the registers in force, worked out where one of them has changed.
+    #[inline]
     fn context(&mut self) -> &Context {
         if !self.is_current {
             self.context = self.regs.context();
@@ -170,64 +126,69 @@ impl Core {
     }
 }
 
-/// The cores and the memory.
+/// The cores and the memory, and the trail that each access uses again.
 struct Machine {
     memory: Memory,
     cores: Vec<Core>,
+    trail: Trail,
 }
 
 impl Machine {
-    /// Does an event that has no answer.
-    fn act(&mut self, moment: u32, event: Event) {
-        match event {
-            Event::Store { pa, value, .. } => self.memory.store(pa, value),
-            Event::Msr { core, reg, value } => self.cores[core as usize].msr(reg, value),
-            Event::Settle { core } => _ = self.cores[core as usize].settle(),
-            Event::Isb { core } => self.cores[core as usize].isb(),
-            Event::Tlbi { core, at_el1, op, shared, operand } => {
-                let regs = &self.cores[core as usize].regs;
-                let invalidation = Invalidation::new(op, shared, at_el1, operand, regs, core, moment);
-                for reached in &mut self.cores {
-                    if invalidation.broadcast || reached.number == core {
-                        reached.post(invalidation);
-                    }
-                }
-            }
-            Event::Dsb { core, kind } => self.cores.iter_mut().for_each(|reached| reached.finish(core, kind)),
-            Event::Deliver { core } => self.cores[core as usize].deliver(),
-            Event::Access { .. } => {}
+    /// The machine of a trace before its first event.
+    fn new(trace: &Trace) -> Machine {
+        let cores = (0..trace.cores).map(|_| Core::new()).collect();
+        Machine { memory: Memory::new(&trace.ranges), cores, trail: Trail::new() }
+    }
+
+    /// Does an event, and answers an access.
+    fn step<'a>(&'a mut self, moment: u32, event: &'a Event) -> Option<Answer<'a>> {
+        let core = &mut self.cores[event.core as usize];
+        match &event.action {
+            Action::Access(access) => return Some(self.access(moment, event.core, access)),
+            Action::Store { pa, value } => self.memory.store(*pa, *value),
+            Action::Msr { reg, value } => core.msr(*reg, *value),
+            Action::Settle => _ = core.settle(),
+            Action::Isb => core.isb(),
+            Action::Deliver => core.deliver(),
+            Action::Tlbi(operation) => self.tlbi(moment, event.core, operation),
+            Action::Dsb(barrier) => self.dsb(event.core, *barrier),
         }
+        None
     }
 
     /// Does an access.
-    fn access(&mut self, moment: u32, core: u8, access: &Access) -> Answer {
+    fn access<'a>(&'a mut self, moment: u32, core: u8, access: &'a Access) -> Answer<'a> {
         let context = self.cores[core as usize].context();
+        self.trail.clear();
+        let outcome = Walk { context, memory: &self.memory, access, trail: &mut self.trail }.run();
         let (asid, vmid) = (context.asid, context.vmid);
-        let mut first = Trail::new();
-        let outcome = Walk { context, memory: &self.memory, access, trail: &mut first, moment }.run();
-        Answer { outcome, asid, vmid, old: false, stale: false, evicted: 0, first, second: None }
+        Answer { moment, core, access, asid, vmid, trail: &self.trail, outcome }
     }
 
-    /// Does an event.
-    fn step(&mut self, moment: u32, event: Event) -> Option<Answer> {
-        match event {
-            Event::Access { core, access } => Some(self.access(moment, core, &access)),
-            _ => {
-                self.act(moment, event);
-                None
-            }
+    /// A TLBI reaches its own core, or all of them.
+    fn tlbi(&mut self, moment: u32, core: u8, operation: &Operation) {
+        let regs = &self.cores[core as usize].regs;
+        let invalidation = Invalidation::new(operation, regs, core, moment);
+        if invalidation.broadcast {
+            self.cores.iter_mut().for_each(|reached| reached.post(invalidation));
+        } else {
+            self.cores[core as usize].post(invalidation);
         }
+    }
+
+    /// A DSB completes invalidations at all cores.
+    fn dsb(&mut self, core: u8, barrier: Barrier) {
+        self.cores.iter_mut().for_each(|reached| reached.finish(core, barrier));
     }
 }
 
-/// Runs a trace and gives its log.
-pub fn run(trace: &Trace) -> Result<Vec<Step>, TryReserveError> {
-    let mut machine = Machine { memory: Memory::new(&trace.ranges), cores: (0..trace.cores).map(Core::new).collect() };
-    let mut log: Vec<Step> = Vec::new();
-    log.try_reserve_exact(trace.events.len())?;
-    for (moment, &event) in trace.events.iter().enumerate() {
-        let answer = machine.step(moment as u32, event);
-        log.push(Step { event, answer });
+/// Runs a trace and tells each answer as soon as it is there.
+pub fn run<E>(trace: &Trace, mut tell: impl FnMut(&Answer) -> Result<(), E>) -> Result<(), E> {
+    let mut machine = Machine::new(trace);
+    for (moment, event) in (0..).zip(&trace.events) {
+        if let Some(answer) = machine.step(moment, event) {
+            tell(&answer)?;
+        }
     }
-    Ok(log)
+    Ok(())
 }

@@ -6,18 +6,22 @@ mod memory;
 mod parse;
 mod regs;
 mod report;
+mod text;
 mod tlbi;
 mod walk;
 
-use crate::parse::{Refusal, MOST_BYTES};
+use crate::parse::{Reader, Refusal, Trace, MOST_BYTES};
+use crate::report::{Counts, Report};
 use std::fs::File;
 use std::io::{self, ErrorKind, Write};
 use std::os::unix::fs::FileExt;
 use std::process::ExitCode;
 
 /// How the program is called.
-const USAGE: &[u8] =
-    b"usage: vmsa raw IMAGE TCR TTBR0 VA\nusage: vmsa explain REGS DUMP VA EL KIND [pan]\nusage: vmsa run TRACE\n";
+const USAGE: &str = "usage: vmsa raw IMAGE TCR TTBR0 VA
+usage: vmsa explain REGS DUMP VA EL KIND [pan]
+usage: vmsa run TRACE
+";
 
 /// Why there is no report.
 enum Failure {
@@ -31,22 +35,23 @@ enum Failure {
 
 impl Failure {
     /// The exit status and what standard error gets.
-    fn told(&self) -> (u8, Vec<u8>) {
+    fn told(&self) -> (u8, String) {
         match self {
-            Failure::Usage => (2, USAGE.to_vec()),
+            Failure::Usage => (2, USAGE.into()),
             Failure::NoFile(name) => (3, report::no_file(name)),
             Failure::Refused(why) => (4, report::refused(*why)),
-            Failure::Read => (5, b"vmsa: read fault\n".to_vec()),
-            Failure::Write => (6, Vec::new()),
-            Failure::NoMemory => (7, b"vmsa: out of memory\n".to_vec()),
+            Failure::Read => (5, "vmsa: read fault\n".into()),
+            Failure::Write => (6, String::new()),
+            Failure::NoMemory => (7, "vmsa: out of memory\n".into()),
         }
     }
 }
 
 /// The words of the command line: the trace's name, and whether the report is left out.
 fn command() -> Option<(String, bool)> {
-    let words: Option<Vec<String>> = std::env::args_os().skip(1).map(|word| word.into_string().ok()).collect();
-    let mut words = words?;
+    let words = std::env::args_os().skip(1);
+    let mut words: Vec<String> =
+        words.map(|word| word.into_string().ok()).collect::<Option<_>>()?;
     let quiet = words.len() == 3 && words[1] == "--quiet";
     if quiet {
         words.remove(1);
@@ -59,7 +64,8 @@ fn command() -> Option<(String, bool)> {
     }
 }
 
-/// The bytes of a trace file, read once to its size. One that tells no size may have as many as the largest trace.
+/// The bytes of a trace file, read once to its size. One that tells no size may have as many as
+/// the largest trace.
 fn read(name: &str) -> Result<Vec<u8>, Failure> {
     let failed = |error: io::Error| match error.kind() {
         ErrorKind::NotFound => Failure::NoFile(name.to_owned()),
@@ -89,13 +95,35 @@ fn read(name: &str) -> Result<Vec<u8>, Failure> {
     Ok(bytes)
 }
 
+/// The trace of a file.
+fn trace(name: &str) -> Result<Trace, Failure> {
+    let text = read(name)?;
+    let reader = Reader::new(text.len()).map_err(|_| Failure::NoMemory)?;
+    reader.read(&text).map_err(Failure::Refused)
+}
+
+/// Runs a trace and writes its report.
+fn report(trace: &Trace) -> io::Result<()> {
+    let mut report = Report::new(io::stdout().lock());
+    machine::run(trace, |answer| report.answer(answer))?;
+    report.end()
+}
+
+/// Runs a trace and writes only how many accesses are mapped.
+fn count(trace: &Trace) -> io::Result<()> {
+    let mut counts = Counts::default();
+    machine::run(trace, |answer| -> io::Result<()> {
+        counts.add(&answer.outcome);
+        Ok(())
+    })?;
+    writeln!(io::stdout(), "{}", counts.mapped)
+}
+
 /// Runs the trace that the command line names.
 fn run() -> Result<(), Failure> {
     let (name, quiet) = command().ok_or(Failure::Usage)?;
-    let trace = parse::parse(&read(&name)?).map_err(Failure::Refused)?;
-    let log = machine::run(&trace).map_err(|_| Failure::NoMemory)?;
-    let mut out = io::stdout().lock();
-    let written = if quiet { report::count_mapped(&mut out, &log) } else { report::report(&mut out, &log) };
+    let trace = trace(&name)?;
+    let written = if quiet { count(&trace) } else { report(&trace) };
     written.map_err(|_| Failure::Write)
 }
 
@@ -104,7 +132,7 @@ fn main() -> ExitCode {
         return ExitCode::SUCCESS;
     };
     let (status, line) = failure.told();
-    match io::stderr().write_all(&line) {
+    match io::stderr().write_all(line.as_bytes()) {
         Ok(()) => ExitCode::from(status),
         Err(_) => ExitCode::from(6),
     }

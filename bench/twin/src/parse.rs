@@ -1,10 +1,11 @@
 //! Reading a trace, or telling why a text is none.
 
 use crate::attrs::{El, Kind};
-use crate::machine::{Barrier, Event};
+use crate::machine::{Action, Barrier, Event};
 use crate::regs::Reg;
-use crate::tlbi::Op;
+use crate::tlbi::{Op, Operation};
 use crate::walk::Access;
+use std::collections::TryReserveError;
 
 /// The most bytes of a trace, of a line without its end, and of all ranges of memory.
 pub const MOST_BYTES: usize = 16 << 20;
@@ -19,10 +20,17 @@ const MOST_EVENTS: usize = 50_000;
 /// Where physical memory ends at most.
 const END_OF_MEMORY: u64 = 1 << 52;
 
+/// A range of memory, in bytes.
+#[derive(Clone, Copy)]
+pub struct Extent {
+    pub start: u64,
+    pub length: u64,
+}
+
 /// The events of a machine's cores in order, and what they are on.
 pub struct Trace {
     pub cores: u8,
-    pub ranges: Vec<(u64, u64)>,
+    pub ranges: Vec<Extent>,
     pub events: Vec<Event>,
 }
 
@@ -60,21 +68,27 @@ enum Phase {
     Ended,
 }
 
-/// Whether a byte is text.
-fn is_text(byte: u8) -> bool {
-    (0x20..=0x7e).contains(&byte) || byte == b'\t'
+impl Extent {
+    /// Whether an address lies in it.
+    fn holds(&self, pa: u64) -> bool {
+        pa.wrapping_sub(self.start) < self.length
+    }
+
+    /// Whether a byte lies in both.
+    fn meets(&self, other: &Extent) -> bool {
+        self.holds(other.start) || other.holds(self.start)
+    }
 }
 
-/// A line without a carriage return at its end, where it is text and not too long.
-fn plain(line: &[u8]) -> Result<&[u8], LineRefusal> {
-    let line = line.strip_suffix(b"\r").unwrap_or(line);
-    if !line.iter().all(|byte| is_text(*byte)) {
-        return Err(LineRefusal::NotText);
-    }
-    if line.len() > MOST_LINE {
-        return Err(LineRefusal::LongLine);
-    }
-    Ok(line)
+/// Whether a byte is text.
+#[inline]
+fn is_text(byte: u8) -> bool {
+    (0x20..=0x7e).contains(&byte) | (byte == b'\t')
+}
+
+/// Whether all of a text is lines of text that end in nothing but a newline.
+fn is_plain(text: &[u8]) -> bool {
+    text.iter().fold(true, |plain, byte| plain & (is_text(*byte) | (*byte == b'\n')))
 }
 
 /// The value of each byte as a digit, 0xff where it is none.
@@ -89,33 +103,67 @@ const DIGITS: [u8; 256] = {
     digits
 };
 
-/// The number that a word is.
+/// The number that digits in hexadecimal are.
 #[inline]
-fn number(word: &[u8]) -> Option<u64> {
-    if let Some(digits) = word.strip_prefix(b"0x") {
-        if digits.is_empty() || digits.len() > 16 {
-            return None;
-        }
-        let (mut n, mut seen) = (0, 0);
-        for byte in digits {
-            let digit = DIGITS[*byte as usize];
-            n = n << 4 | digit as u64;
-            seen |= digit;
-        }
-        return (seen < 16).then_some(n);
+fn hexadecimal(digits: &[u8]) -> Option<u64> {
+    let (mut n, mut seen) = (0, 0);
+    for byte in digits {
+        let digit = DIGITS[*byte as usize];
+        n = n << 4 | digit as u64;
+        seen |= digit;
     }
-    if word.is_empty() || word.len() > 20 {
-        return None;
-    }
+    ((1..=16).contains(&digits.len()) && seen < 16).then_some(n)
+}
+
+/// The number that digits in decimal are.
+#[inline]
+fn decimal(digits: &[u8]) -> Option<u64> {
     let mut n = 0u64;
-    for byte in word {
+    for byte in digits {
         let digit = DIGITS[*byte as usize];
         if digit > 9 {
             return None;
         }
         n = n.checked_mul(10)?.checked_add(digit as u64)?;
     }
-    Some(n)
+    (1..=20).contains(&digits.len()).then_some(n)
+}
+
+/// The number that a word is.
+#[inline]
+fn number(word: &[u8]) -> Option<u64> {
+    match word {
+        [b'0', b'x', digits @ ..] => hexadecimal(digits),
+        digits => decimal(digits),
+    }
+}
+
+/// The lines of a text without their newlines; None behind the last one.
+struct Lines<'a>(Option<&'a [u8]>);
+
+impl<'a> Iterator for Lines<'a> {
+    type Item = &'a [u8];
+
+    #[inline]
+    fn next(&mut self) -> Option<&'a [u8]> {
+        let text = self.0?;
+        let (line, rest) = match text.iter().position(|byte| *byte == b'\n') {
+            Some(end) => (&text[..end], Some(&text[end + 1..])),
+            None => (text, None),
+        };
+        self.0 = rest;
+        Some(line)
+    }
+}
+
+/// A line without a carriage return at its end, where it is text.
+fn without_return(line: &[u8]) -> Result<&[u8], LineRefusal> {
+    let line = line.strip_suffix(b"\r").unwrap_or(line);
+    if line.iter().all(|byte| is_text(*byte)) {
+        Ok(line)
+    } else {
+        Err(LineRefusal::NotText)
+    }
 }
 
 /// The words of a line from some place on.
@@ -217,12 +265,67 @@ fn barrier(word: &[u8]) -> Option<Barrier> {
 }
 
 /// What has been read of a trace.
-struct Reader {
+pub struct Reader {
     trace: Trace,
     phase: Phase,
 }
 
 impl Reader {
+    /// A reader of a text of so many bytes, with room for its events.
+    pub fn new(bytes: usize) -> Result<Reader, TryReserveError> {
+        // The shortest line of an event has six bytes.
+        let mut events = Vec::new();
+        events.try_reserve_exact((bytes / 6).min(MOST_EVENTS))?;
+        let trace = Trace { cores: 0, ranges: Vec::new(), events };
+        Ok(Reader { trace, phase: Phase::Cores })
+    }
+
+    /// Reads a trace.
+    pub fn read(mut self, text: &[u8]) -> Result<Trace, Refusal> {
+        if text.len() > MOST_BYTES {
+            return Err(Refusal::TooLarge);
+        }
+        let is_plain = is_plain(text);
+        for (line, number) in Lines(Some(text)).zip(1..) {
+            self.line(line, is_plain).map_err(|why| match why {
+                LineRefusal::NoHeader => Refusal::NoHeader,
+                why => Refusal::Line(number, why),
+            })?;
+        }
+        match self.phase {
+            Phase::Ended => Ok(self.trace),
+            Phase::Events => Err(Refusal::NoEnd),
+            _ => Err(Refusal::NoHeader),
+        }
+    }
+
+    /// A line without its newline; `is_plain` says that it is known to be text alone.
+    #[inline]
+    fn line(&mut self, line: &[u8], is_plain: bool) -> Result<(), LineRefusal> {
+        let line = if is_plain { line } else { without_return(line)? };
+        if line.len() > MOST_LINE {
+            return Err(LineRefusal::LongLine);
+        }
+        let mut words = Words { rest: line, place: 0 };
+        match words.next() {
+            None | Some([b'#', ..]) => Ok(()),
+            Some(first) if self.phase == Phase::Events => self.event_or_end(first, &mut words),
+            Some(first) => self.header(first, &mut words),
+        }
+    }
+
+    /// A line of the header, or one behind the end.
+    fn header(&mut self, first: &[u8], words: &mut Words) -> Result<(), LineRefusal> {
+        match (self.phase, first) {
+            (Phase::Cores, b"cores") => self.cores(words),
+            (Phase::Ranges, b"memory") => self.range(words),
+            (Phase::Ranges, b"caches") => self.only(words, b"none", Phase::Policy),
+            (Phase::Policy, b"policy") => self.only(words, b"fifo", Phase::Events),
+            (Phase::Ended, _) => Err(LineRefusal::AfterEnd),
+            _ => Err(LineRefusal::NoHeader),
+        }
+    }
+
     /// `cores N`.
     fn cores(&mut self, words: &mut Words) -> Result<(), LineRefusal> {
         let cores = words.number_in(|n| (1..=MOST_CORES).contains(&n))?;
@@ -238,14 +341,16 @@ impl Reader {
         if ranges.len() == MOST_RANGES {
             return Err(LineRefusal::TooMany);
         }
-        let left = MOST_MEMORY - ranges.iter().map(|(_, size)| size).sum::<u64>();
-        let base = words.number_in(|base| base % 8 == 0 && base < END_OF_MEMORY)?;
-        let size = words.number_in(|size| size % 8 == 0 && size > 0 && size <= END_OF_MEMORY - base && size <= left)?;
+        let left = MOST_MEMORY - ranges.iter().map(|range| range.length).sum::<u64>();
+        let start = words.number_in(|start| start % 8 == 0 && start < END_OF_MEMORY)?;
+        let most = left.min(END_OF_MEMORY - start);
+        let length = words.number_in(|size| size % 8 == 0 && size > 0 && size <= most)?;
         words.end()?;
-        if ranges.iter().any(|(start, length)| base < start + length && *start < base + size) {
+        let range = Extent { start, length };
+        if ranges.iter().any(|other| range.meets(other)) {
             return Err(LineRefusal::OutOfRange(2));
         }
-        ranges.push((base, size));
+        ranges.push(range);
         Ok(())
     }
 
@@ -263,105 +368,79 @@ impl Reader {
         Ok(words.number_in(|core| core < self.trace.cores as u64)? as u8)
     }
 
+    /// An event, or the end.
+    #[inline]
+    fn event_or_end(&mut self, first: &[u8], words: &mut Words) -> Result<(), LineRefusal> {
+        if first == b"end" {
+            words.end()?;
+            self.phase = Phase::Ended;
+            return Ok(());
+        }
+        if self.trace.events.len() == MOST_EVENTS {
+            return Err(LineRefusal::TooMany);
+        }
+        let event = self.event(first, words)?;
+        self.trace.events.push(event);
+        Ok(())
+    }
+
     /// An event.
     #[inline]
     fn event(&self, first: &[u8], words: &mut Words) -> Result<Event, LineRefusal> {
-        let event = match first {
-            b"access" => {
-                let core = self.core(words)?;
-                let (el, kind) = (words.named(level)?, words.named(kind)?);
-                let va = words.number()?;
-                let pan = match words.next() {
-                    None => false,
-                    Some(b"pan") => true,
-                    Some(_) => return Err(LineRefusal::BadWord(words.place)),
-                };
-                Event::Access { core, access: Access { va, el, kind, pan } }
-            }
-            b"store" => {
-                let core = self.core(words)?;
-                let ranges = &self.trace.ranges;
-                let is_held = |pa: u64| ranges.iter().any(|(start, length)| pa.wrapping_sub(*start) < *length);
-                let pa = words.number_in(|pa| pa % 8 == 0 && is_held(pa))?;
-                Event::Store { core, pa, value: words.number()? }
-            }
-            b"msr" => {
-                let core = self.core(words)?;
-                let (reg, value) = (words.named(Reg::named)?, words.number()?);
-                words.end()?;
-                if let Some(name) = reg.unsupported(value) {
-                    return Err(LineRefusal::Unsupported(name));
-                }
-                Event::Msr { core, reg, value }
-            }
-            b"tlbi" => {
-                let core = self.core(words)?;
-                let (at_el1, (op, shared)) = (words.named(origin)?, words.named(Op::named)?);
-                let operand = if op.has_operand() { words.number()? } else { 0 };
-                words.end()?;
-                if at_el1 && op.needs_el2() {
-                    return Err(LineRefusal::NotAtEl1);
-                }
-                Event::Tlbi { core, at_el1, op, shared, operand }
-            }
-            b"dsb" => Event::Dsb { core: self.core(words)?, kind: words.named(barrier)? },
-            b"settle" => Event::Settle { core: self.core(words)? },
-            b"isb" => Event::Isb { core: self.core(words)? },
-            b"deliver" => Event::Deliver { core: self.core(words)? },
+        let action: fn(&Reader, &mut Words) -> Result<Action, LineRefusal> = match first {
+            b"access" => Reader::access,
+            b"store" => Reader::store,
+            b"msr" => Reader::msr,
+            b"tlbi" => Reader::tlbi,
+            b"dsb" => |_, words| Ok(Action::Dsb(words.named(barrier)?)),
+            b"settle" => |_, _| Ok(Action::Settle),
+            b"isb" => |_, _| Ok(Action::Isb),
+            b"deliver" => |_, _| Ok(Action::Deliver),
             _ => return Err(LineRefusal::BadWord(1)),
         };
+        let core = self.core(words)?;
+        let action = action(self, words)?;
         words.end()?;
-        Ok(event)
+        Ok(Event { core, action })
     }
 
-    /// A line without its end.
-    #[inline]
-    fn line(&mut self, line: &[u8]) -> Result<(), LineRefusal> {
-        let mut words = Words { rest: line, place: 0 };
-        let first = match words.next() {
-            None | Some([b'#', ..]) => return Ok(()),
-            Some(first) => first,
+    /// `access CORE EL KIND VA [pan]`, from EL on.
+    fn access(&self, words: &mut Words) -> Result<Action, LineRefusal> {
+        let (el, kind) = (words.named(level)?, words.named(kind)?);
+        let va = words.number()?;
+        let pan = match words.next() {
+            None => false,
+            Some(b"pan") => true,
+            Some(_) => return Err(LineRefusal::BadWord(words.place)),
         };
-        match (self.phase, first) {
-            (Phase::Events, b"end") => {
-                words.end()?;
-                self.phase = Phase::Ended;
-                Ok(())
-            }
-            (Phase::Events, _) if self.trace.events.len() == MOST_EVENTS => Err(LineRefusal::TooMany),
-            (Phase::Events, _) => {
-                let event = self.event(first, &mut words)?;
-                self.trace.events.push(event);
-                Ok(())
-            }
-            (Phase::Cores, b"cores") => self.cores(&mut words),
-            (Phase::Ranges, b"memory") => self.range(&mut words),
-            (Phase::Ranges, b"caches") => self.only(&mut words, b"none", Phase::Policy),
-            (Phase::Policy, b"policy") => self.only(&mut words, b"fifo", Phase::Events),
-            (Phase::Ended, _) => Err(LineRefusal::AfterEnd),
-            _ => Err(LineRefusal::NoHeader),
+        Ok(Action::Access(Access { va, el, kind, pan }))
+    }
+
+    /// `store CORE PA VALUE`, from PA on.
+    fn store(&self, words: &mut Words) -> Result<Action, LineRefusal> {
+        let is_held = |pa| self.trace.ranges.iter().any(|range| range.holds(pa));
+        let pa = words.number_in(|pa| pa % 8 == 0 && is_held(pa))?;
+        Ok(Action::Store { pa, value: words.number()? })
+    }
+
+    /// `msr CORE REG VALUE`, from REG on.
+    fn msr(&self, words: &mut Words) -> Result<Action, LineRefusal> {
+        let (reg, value) = (words.named(Reg::named)?, words.number()?);
+        words.end()?;
+        match reg.unsupported(value) {
+            Some(name) => Err(LineRefusal::Unsupported(name)),
+            None => Ok(Action::Msr { reg, value }),
         }
     }
-}
 
-/// Reads a trace.
-pub fn parse(text: &[u8]) -> Result<Trace, Refusal> {
-    if text.len() > MOST_BYTES {
-        return Err(Refusal::TooLarge);
-    }
-    // The shortest line of an event has six bytes.
-    let events = Vec::with_capacity((text.len() / 6).min(MOST_EVENTS));
-    let mut reader = Reader { trace: Trace { cores: 0, ranges: Vec::new(), events }, phase: Phase::Cores };
-    for (line, number) in text.split(|byte| *byte == b'\n').zip(1..) {
-        let refused = |why| match why {
-            LineRefusal::NoHeader => Refusal::NoHeader,
-            why => Refusal::Line(number, why),
-        };
-        reader.line(plain(line).map_err(refused)?).map_err(refused)?;
-    }
-    match reader.phase {
-        Phase::Ended => Ok(reader.trace),
-        Phase::Events => Err(Refusal::NoEnd),
-        _ => Err(Refusal::NoHeader),
+    /// `tlbi CORE EL OP [OPERAND]`, from EL on.
+    fn tlbi(&self, words: &mut Words) -> Result<Action, LineRefusal> {
+        let (at_el1, (op, shared)) = (words.named(origin)?, words.named(Op::named)?);
+        let operand = if op.has_operand() { words.number()? } else { 0 };
+        words.end()?;
+        if at_el1 && op.needs_el2() {
+            return Err(LineRefusal::NotAtEl1);
+        }
+        Ok(Action::Tlbi(Operation { op, shared, at_el1, operand }))
     }
 }

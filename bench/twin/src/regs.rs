@@ -16,11 +16,13 @@ pub enum Reg {
 }
 
 /// Bits `hi` to `lo` of a word.
+#[inline]
 pub fn field(word: u64, hi: u32, lo: u32) -> u64 {
     word >> lo & (u64::MAX >> (63 - (hi - lo)))
 }
 
 /// One bit of a word.
+#[inline]
 pub fn flag(word: u64, bit: u32) -> bool {
     word >> bit & 1 == 1
 }
@@ -41,14 +43,19 @@ impl Reg {
         })
     }
 
-    /// The lowest field that a value sets and that a run does not support, with the register's name.
+    /// The lowest field that a value sets and that a run does not support, with the register's
+    /// name.
     pub fn unsupported(self, value: u64) -> Option<&'static str> {
         let refused: &[(u32, &'static str)] = match self {
             Reg::Sctlr => &[(25, "SCTLR_EL1.EE")],
             Reg::Tcr => &[(39, "TCR_EL1.HA"), (40, "TCR_EL1.HD"), (59, "TCR_EL1.DS")],
-            Reg::Hcr => {
-                &[(12, "HCR_EL2.DC"), (27, "HCR_EL2.TGE"), (32, "HCR_EL2.CD"), (33, "HCR_EL2.ID"), (46, "HCR_EL2.FWB")]
-            }
+            Reg::Hcr => &[
+                (12, "HCR_EL2.DC"),
+                (27, "HCR_EL2.TGE"),
+                (32, "HCR_EL2.CD"),
+                (33, "HCR_EL2.ID"),
+                (46, "HCR_EL2.FWB"),
+            ],
             Reg::Vtcr => &[(21, "VTCR_EL2.HA"), (22, "VTCR_EL2.HD"), (32, "VTCR_EL2.DS")],
             _ => &[],
         };
@@ -60,34 +67,50 @@ impl Reg {
 #[derive(Clone, Default)]
 pub struct Regs([u64; 8]);
 
+/// One level of a stage's tables.
+#[derive(Clone, Copy)]
+pub struct Level {
+    /// How many input bits an entry leaves.
+    pub class: u32,
+    /// As many, or those that a run of entries with the Contiguous bit leaves.
+    pub run: u32,
+    /// The numbers of a table's entries.
+    pub indices: u64,
+    /// The bits below 2^48 of the address in a leaf.
+    pub leaf: u64,
+    /// Whether the level has blocks, and whether it has tables.
+    pub has_blocks: bool,
+    pub has_tables: bool,
+}
+
 /// The tables of one side of stage 1, or those of stage 2.
 #[derive(Clone, Copy)]
 pub struct Tables {
-    /// The granule has `2 ^ granule` bytes.
-    pub granule: u32,
     /// The input size in bits.
     pub input: u32,
-    /// The output size in bits.
-    pub output: u32,
-    /// The level of the start table.
-    pub start: u32,
-    /// The start table's address.
+    /// The bits of an address that the output size leaves out.
+    pub too_large: u64,
+    /// The bits below 2^48 of the address in a table descriptor.
+    pub table: u64,
+    /// The bits of a descriptor that are bits 51 to 48 of its address.
+    pub high: u64,
+    /// The start table's level and address.
+    pub start: u8,
     pub base: u64,
+    /// All levels; those above the start are not used.
+    pub levels: [Level; 4],
 }
 
 /// One half of the virtual addresses.
 #[derive(Clone, Copy)]
 pub struct Side {
-    /// None where TxSZ is out of range.
+    /// None where TxSZ is out of range, or EPD forbids walks.
     pub tables: Option<Tables>,
-    /// EPD, which forbids walks.
-    pub epd: bool,
     /// E0PD, which forbids walks for EL0.
     pub e0pd: bool,
-    /// TBI, by which the upper byte is a tag.
-    pub tbi: bool,
-    /// TBID, by which it is none for a fetch.
-    pub tbid: bool,
+    /// The highest bit of an address that is no tag, by TBI: of a read or write, and of a fetch.
+    pub top: u32,
+    pub top_of_fetch: u32,
     /// What counts of the bits of table descriptors: none with HPD.
     pub table_mask: u64,
 }
@@ -99,22 +122,15 @@ pub struct Stage2 {
     pub tables: Option<Tables>,
     /// HCR_EL2.PTW.
     pub ptw: bool,
-    /// Whether hardware manages the access flag.
-    pub ha: bool,
-    /// Whether it manages dirty state too.
-    pub dirty: bool,
 }
 
-/// All that a walk needs of the registers.
+/// All that a walk needs of the registers. A run has no hardware updates: no register has HA or HD.
 pub struct Context {
     /// SCTLR_EL1.M, I, WXN and EPAN.
     pub mmu_on: bool,
     pub icache: bool,
     pub wxn: bool,
     pub epan: bool,
-    /// Whether hardware manages the access flag, and dirty state too.
-    pub ha: bool,
-    pub dirty: bool,
     /// The memory types of MAIR_EL1.
     pub mair: [MemType; 8],
     /// The low half of the addresses, then the high one.
@@ -154,6 +170,30 @@ fn output_size(granule: u32, code: u64) -> u32 {
     }
 }
 
+/// The class of a run of entries with the Contiguous bit, None where a level has no run.
+fn run_class(granule: u32, level: u32) -> Option<u32> {
+    Some(match (granule, level) {
+        (12, 1) => 34,
+        (12, 2) => 25,
+        (12, 3) => 16,
+        (14, 2) => 30,
+        (14, 3) => 21,
+        (16, 2) => 34,
+        (16, 3) => 21,
+        _ => return None,
+    })
+}
+
+/// How many input bits an entry of a level leaves.
+fn class(granule: u32, level: u32) -> u32 {
+    granule + (3 - level) * (granule - 3)
+}
+
+/// The bits from `low` up to 2^48.
+fn bits_from(low: u32) -> u64 {
+    ((1 << 48) - 1) & (u64::MAX << low)
+}
+
 /// Whether TxSZ is in range.
 fn is_size(granule: u32, txsz: u32) -> bool {
     if granule == 16 {
@@ -168,17 +208,42 @@ fn id(word: u64, wide: bool) -> u16 {
     (word >> 48) as u16 & if wide { 0xffff } else { 0xff }
 }
 
+impl Level {
+    /// A level of tables of a granule and an input size, whose start level is another one or this.
+    fn new(granule: u32, input: u32, start: u32, level: u32) -> Level {
+        let class = class(granule, level);
+        let bits = if level == start { input - class } else { granule - 3 };
+        let run = run_class(granule, level).filter(|run| *run <= input);
+        Level {
+            class,
+            run: run.unwrap_or(class),
+            indices: (1 << bits) - 1,
+            leaf: bits_from(class),
+            has_blocks: level == 2 || (level == 1 && granule != 14),
+            has_tables: level < 3,
+        }
+    }
+}
+
 impl Tables {
-    /// Tables from a start level on, by the raw code of the output size and the register that holds the base.
+    /// Tables from a start level on, by the raw code of the output size and the register that
+    /// holds the base.
     fn new(granule: u32, input: u32, start: u32, ps: u64, ttbr: u64) -> Tables {
         let base = if granule == 16 && ps >= 6 {
             field(ttbr, 5, 2) << 48 | field(ttbr, 47, 6) << 6
         } else {
             field(ttbr, 47, 1) << 1
         };
-        let class = granule + (3 - start) * (granule - 3);
-        let size = 3 + input - class;
-        Tables { granule, input, output: output_size(granule, ps), start, base: base >> size << size }
+        let size = 3 + input - class(granule, start);
+        Tables {
+            input,
+            too_large: u64::MAX << output_size(granule, ps),
+            table: bits_from(granule),
+            high: if granule == 16 { 0xf000 } else { 0 },
+            start: start as u8,
+            base: base >> size << size,
+            levels: [0, 1, 2, 3].map(|level| Level::new(granule, input, start, level)),
+        }
     }
 
     /// The tables of stage 1, None where TxSZ is out of range.
@@ -201,9 +266,9 @@ impl Tables {
             (_, sl0) => 3 - sl0,
         };
         let input = 64 - t2sz;
-        let least = (3 - start) * (granule - 3) + granule + 1;
-        let suits = input >= least && input <= least + granule;
-        (is_size(granule, t2sz) && suits).then(|| Tables::new(granule, input, start, field(vtcr, 18, 16), vttbr))
+        let least = class(granule, start) + 1;
+        let suits = is_size(granule, t2sz) && input >= least && input <= least + granule;
+        suits.then(|| Tables::new(granule, input, start, field(vtcr, 18, 16), vttbr))
     }
 }
 
@@ -234,37 +299,55 @@ impl Regs {
         id(self.get(ttbr), self.wide_asid())
     }
 
+    /// The low half of the addresses.
+    fn low(&self) -> Side {
+        let tcr = self.get(Reg::Tcr);
+        let granule = granule0(field(tcr, 15, 14));
+        self.side(granule, field(tcr, 5, 0), Reg::Ttbr0, [7, 37, 51, 55, 41])
+    }
+
+    /// The high half of the addresses.
+    fn high(&self) -> Side {
+        let tcr = self.get(Reg::Tcr);
+        let granule = granule1(field(tcr, 31, 30));
+        self.side(granule, field(tcr, 21, 16), Reg::Ttbr1, [23, 38, 52, 56, 42])
+    }
+
+    /// A half of the addresses; the bits are those of EPD, TBI, TBID, E0PD and HPD.
+    fn side(&self, granule: u32, txsz: u64, ttbr: Reg, bits: [u32; 5]) -> Side {
+        let tcr = self.get(Reg::Tcr);
+        let [epd, tbi, tbid, e0pd, hpd] = bits.map(|bit| flag(tcr, bit));
+        let tables = Tables::stage1(granule, txsz as u32, field(tcr, 34, 32), self.get(ttbr));
+        let top = |is_tagged| if is_tagged { 55 } else { 63 };
+        Side {
+            tables: tables.filter(|_| !epd),
+            e0pd,
+            top: top(tbi),
+            top_of_fetch: top(tbi && !tbid),
+            table_mask: if hpd { 0 } else { 0xf << 59 },
+        }
+    }
+
+    /// Stage 2, None while it is off.
+    fn stage2(&self) -> Option<Stage2> {
+        let hcr = self.get(Reg::Hcr);
+        flag(hcr, 0).then(|| Stage2 {
+            tables: Tables::stage2(self.get(Reg::Vtcr), self.get(Reg::Vttbr)),
+            ptw: flag(hcr, 2),
+        })
+    }
+
     /// What a walk needs of them.
     pub fn context(&self) -> Context {
-        let (sctlr, tcr, hcr, vtcr) =
-            (self.get(Reg::Sctlr), self.get(Reg::Tcr), self.get(Reg::Hcr), self.get(Reg::Vtcr));
-        let ips = field(tcr, 34, 32);
-        let side = |granule, txsz, ttbr, bits: [u32; 5]| Side {
-            tables: Tables::stage1(granule, txsz as u32, ips, self.get(ttbr)),
-            epd: flag(tcr, bits[0]),
-            tbi: flag(tcr, bits[1]),
-            tbid: flag(tcr, bits[2]),
-            e0pd: flag(tcr, bits[3]),
-            table_mask: if flag(tcr, bits[4]) { 0 } else { 0xf << 59 },
-        };
-        let low = side(granule0(field(tcr, 15, 14)), field(tcr, 5, 0), Reg::Ttbr0, [7, 37, 51, 55, 41]);
-        let high = side(granule1(field(tcr, 31, 30)), field(tcr, 21, 16), Reg::Ttbr1, [23, 38, 52, 56, 42]);
-        let stage2 = flag(hcr, 0).then(|| Stage2 {
-            tables: Tables::stage2(vtcr, self.get(Reg::Vttbr)),
-            ptw: flag(hcr, 2),
-            ha: flag(vtcr, 21),
-            dirty: flag(vtcr, 21) && flag(vtcr, 22),
-        });
+        let sctlr = self.get(Reg::Sctlr);
         Context {
             mmu_on: flag(sctlr, 0),
             icache: flag(sctlr, 12),
             wxn: flag(sctlr, 19),
             epan: flag(sctlr, 57),
-            ha: flag(tcr, 39),
-            dirty: flag(tcr, 39) && flag(tcr, 40),
             mair: self.get(Reg::Mair).to_le_bytes().map(MemType::of_mair),
-            sides: [low, high],
-            stage2,
+            sides: [self.low(), self.high()],
+            stage2: self.stage2(),
             asid: self.asid(),
             vmid: self.vmid(),
         }

@@ -1,168 +1,129 @@
 //! The report of a run, and the line of a refusal.
 
 use crate::attrs::{Attrs, Cache, Device, El, Kind, MemType, Policy, Share};
-use crate::machine::{Answer, Event, Step};
+use crate::machine::Answer;
 use crate::parse::{LineRefusal, Refusal};
-use crate::walk::{Access, Class, Fault, Item, Outcome, Stage, What};
+use crate::text::{Short, Text};
+use crate::walk::{Class, Fault, Item, Mapping, Outcome, Stage, What};
 use std::io::{self, Write};
 
-/// The bytes of the buffer, and the most that the lines of one step take.
+/// The bytes of the buffer, and the most that the lines of one answer take.
 const ROOM: usize = 64 << 10;
-const MOST_OF_STEP: usize = 8 << 10;
+const MOST_OF_ANSWER: usize = 8 << 10;
 
-/// A text that grows at its end.
-#[derive(Default)]
-pub struct Text(Vec<u8>);
+/// The end of the lines of a step's items: each of them was read at its moment.
+type Tail = Short<24>;
 
-/// The glyphs of digits.
-const GLYPHS: &[u8; 16] = b"0123456789abcdef";
+/// A report that is written while a run goes on.
+pub struct Report<W> {
+    out: W,
+    buffer: Vec<u8>,
+    used: usize,
+    counts: Counts,
+}
 
-impl Text {
-    /// Appends a text.
+impl<W: Write> Report<W> {
+    /// A report without lines.
+    pub fn new(out: W) -> Report<W> {
+        Report { out, buffer: vec![0; ROOM], used: 0, counts: Counts::default() }
+    }
+
+    /// Tells an answer. What waits is handed on before there is no room for one more.
+    pub fn answer(&mut self, answer: &Answer) -> io::Result<()> {
+        self.counts.add(&answer.outcome);
+        self.put(|text| text.answer(answer));
+        if ROOM - self.used < MOST_OF_ANSWER {
+            self.hand_on()?;
+        }
+        Ok(())
+    }
+
+    /// Ends the report with its summary.
+    pub fn end(mut self) -> io::Result<()> {
+        let Counts { mapped, faulted } = self.counts;
+        self.put(|text| text.summary(mapped, faulted));
+        self.hand_on()?;
+        self.out.flush()
+    }
+
+    /// Puts lines behind those that wait.
     #[inline]
-    pub fn put<const N: usize>(&mut self, text: &[u8; N]) {
-        self.0.extend_from_slice(text);
+    fn put(&mut self, put: impl FnOnce(&mut Text)) {
+        let mut text = Text::new(&mut self.buffer[self.used..]);
+        put(&mut text);
+        self.used = ROOM - text.left();
     }
 
-    /// Appends a text of any length.
-    fn put_str(&mut self, text: &str) {
-        self.0.extend_from_slice(text.as_bytes());
+    /// Writes all that waits.
+    fn hand_on(&mut self) -> io::Result<()> {
+        self.out.write_all(&self.buffer[..self.used])?;
+        self.used = 0;
+        Ok(())
     }
+}
 
-    /// Appends the digits of a number without leading zeros.
-    #[inline(always)]
-    fn digits(&mut self, n: u64, radix: u64) {
-        let mut digits = [0; 20];
-        let mut start = digits.len();
-        let mut rest = n;
-        loop {
-            start -= 1;
-            digits[start] = GLYPHS[(rest % radix) as usize];
-            rest /= radix;
-            if rest == 0 {
-                break;
-            }
-        }
-        self.0.extend_from_slice(&digits[start..]);
-    }
+/// How many accesses came out how.
+#[derive(Clone, Copy, Default)]
+pub struct Counts {
+    pub mapped: u32,
+    pub faulted: u32,
+}
 
-    /// Appends a number in hexadecimal.
-    fn hex(&mut self, n: u64) {
-        self.digits(n, 16);
-    }
-
-    /// Appends a number in decimal.
-    fn decimal(&mut self, n: u32) {
-        self.digits(n as u64, 10);
-    }
-
-    /// Appends the lines of items.
-    fn items(&mut self, items: &[Item]) {
-        for item in items {
-            self.item(item);
+impl Counts {
+    /// Counts an outcome.
+    pub fn add(&mut self, outcome: &Outcome) {
+        match outcome {
+            Ok(_) => self.mapped += 1,
+            Err(_) => self.faulted += 1,
         }
     }
+}
 
-    /// Appends the line of an item.
-    fn item(&mut self, item: &Item) {
-        match item.stage {
-            Stage::S1 => self.put(b"s1"),
-            Stage::S2 => self.put(b"s2"),
-        }
-        match item.what {
-            What::Base => self.put(b" base level "),
-            What::Word => self.put(b" word level "),
-        }
-        self.decimal(item.level as u32);
-        self.put(b" at 0x");
-        self.hex(item.pa);
-        if item.what == What::Word {
-            self.put(b" value 0x");
-            self.hex(item.value);
-        }
-        self.put(b" moment ");
-        self.decimal(item.moment);
-        self.put(b"\n");
+/// The most bytes of a line's head, `s1 word level 0 at 0x`.
+const HEAD: usize = 21;
+
+/// The head of an item's line, by stage, kind and level.
+static HEADS: [[[[u8; HEAD]; 4]; 2]; 2] = [
+    [levels(*b"s1 base level 0 at 0x"), levels(*b"s1 word level 0 at 0x")],
+    [levels(*b"s2 base level 0 at 0x"), levels(*b"s2 word level 0 at 0x")],
+];
+
+/// A head for each level.
+const fn levels(head: [u8; HEAD]) -> [[u8; HEAD]; 4] {
+    let mut heads = [head; 4];
+    let mut level = 0;
+    while level < 4 {
+        heads[level][14] += level as u8;
+        level += 1;
     }
+    heads
+}
 
-    /// Appends the line of a fault.
-    fn fault(&mut self, fault: Fault) {
-        match fault.stage {
-            Stage::S1 => self.put(b"fault stage 1 level "),
-            Stage::S2 => self.put(b"fault stage 2 level "),
+impl Text<'_> {
+    /// Puts the lines of an answer.
+    fn answer(&mut self, answer: &Answer) {
+        self.access(answer);
+        let tail = Tail::of(|text| {
+            text.put(b" moment ");
+            text.decimal(answer.moment);
+            text.put(b"\n");
+        });
+        for item in answer.trail.items() {
+            self.item(item, &tail);
         }
-        self.decimal(fault.level as u32);
-        self.put(b" ");
-        match fault.class {
-            Class::Translation => self.put(b"translation"),
-            Class::AddressSize => self.put(b"address-size"),
-            Class::AccessFlag => self.put(b"access-flag"),
-            Class::Permission => self.put(b"permission"),
-            Class::External => self.put(b"external"),
-        }
-        self.put(b" fsc 0x");
-        let code = fault.code() as usize;
-        self.put(&[GLYPHS[code / 16], GLYPHS[code % 16]]);
-        if fault.s1ptw {
-            self.put(b" s1ptw");
-        }
-        self.put(b"\n");
-    }
-
-    /// Appends a cacheability.
-    fn cache(&mut self, cache: Cache) {
-        match cache.policy {
-            Policy::NonCacheable => return self.put(b"nc"),
-            Policy::WriteThrough => self.put(b"wt"),
-            Policy::WriteBack => self.put(b"wb"),
-        }
-        if cache.read {
-            self.put(b"+r");
-        }
-        if cache.write {
-            self.put(b"+w");
-        }
-        if cache.transient {
-            self.put(b"+t");
+        match &answer.outcome {
+            Ok(mapping) => self.mapped(mapping),
+            Err(fault) => self.fault(*fault),
         }
     }
 
-    /// Appends the line of a mapping.
-    fn mapped(&mut self, pa: u64, attrs: &Attrs) {
-        self.put(b"mapped 0x");
-        self.hex(pa);
-        self.put(b" el0 ");
-        self.put(&attrs.perms.letters(El::El0));
-        self.put(b" el1 ");
-        self.put(&attrs.perms.letters(El::El1));
-        match attrs.mem {
-            MemType::Device(Device::NGnRnE) => self.put(b" device-nGnRnE"),
-            MemType::Device(Device::NGnRE) => self.put(b" device-nGnRE"),
-            MemType::Device(Device::NGRE) => self.put(b" device-nGRE"),
-            MemType::Device(Device::GRE) => self.put(b" device-GRE"),
-            MemType::Normal { outer, inner, tagged } => {
-                self.put(b" normal outer ");
-                self.cache(outer);
-                self.put(b" inner ");
-                self.cache(inner);
-                if tagged {
-                    self.put(b" tagged");
-                }
-            }
-        }
-        match attrs.share {
-            Share::Nsh => self.put(b" nsh\n"),
-            Share::Ish => self.put(b" ish\n"),
-            Share::Osh => self.put(b" osh\n"),
-        }
-    }
-
-    /// Appends the line of an access.
-    fn access(&mut self, number: u32, core: u8, access: &Access, answer: &Answer) {
+    /// Puts the line of an access.
+    fn access(&mut self, answer: &Answer) {
+        let access = answer.access;
         self.put(b"event ");
-        self.decimal(number);
+        self.decimal(answer.moment);
         self.put(b" core ");
-        self.decimal(core as u32);
+        self.digit(answer.core);
         self.put(b" access 0x");
         self.hex(access.va);
         match access.el {
@@ -184,145 +145,132 @@ impl Text {
         self.put(b"\n");
     }
 
-    /// Appends the lines of an answer.
-    fn answer(&mut self, answer: &Answer) {
-        self.items(answer.first.items());
-        if let Some(second) = &answer.second {
-            self.put(b"or\n");
-            self.items(second.items());
+    /// Puts the line of an item.
+    #[inline]
+    fn item(&mut self, item: &Item, tail: &Tail) {
+        self.put(&HEADS[item.stage as usize][item.what as usize][item.level as usize & 3]);
+        self.hex(item.pa);
+        if item.what == What::Word {
+            self.put(b" value 0x");
+            self.hex(item.value);
         }
-        match &answer.outcome {
-            Outcome::Mapped { pa, attrs } => self.mapped(*pa, attrs),
-            Outcome::Faulted(fault) => self.fault(*fault),
-            Outcome::Conflict => self.put(b"conflict fsc 0x30\n"),
+        self.short(tail);
+    }
+
+    /// Puts the line of a fault.
+    fn fault(&mut self, fault: Fault) {
+        match fault.stage {
+            Stage::S1 => self.put(b"fault stage 1 level "),
+            Stage::S2 => self.put(b"fault stage 2 level "),
+        }
+        self.digit(fault.level);
+        match fault.class {
+            Class::Translation => self.put(b" translation"),
+            Class::AddressSize => self.put(b" address-size"),
+            Class::AccessFlag => self.put(b" access-flag"),
+            Class::Permission => self.put(b" permission"),
+            Class::External => self.put(b" external"),
+        }
+        self.put(b" fsc 0x");
+        self.hex_byte(fault.code());
+        if fault.s1ptw {
+            self.put(b" s1ptw");
+        }
+        self.put(b"\n");
+    }
+
+    /// Puts the line of a mapping.
+    fn mapped(&mut self, mapping: &Mapping) {
+        let Attrs { perms, mem, share } = mapping.attrs;
+        self.put(b"mapped 0x");
+        self.hex(mapping.pa);
+        self.put(b" el0 ");
+        self.put(&perms.letters(El::El0));
+        self.put(b" el1 ");
+        self.put(&perms.letters(El::El1));
+        self.mem(mem);
+        match share {
+            Share::Nsh => self.put(b" nsh\n"),
+            Share::Ish => self.put(b" ish\n"),
+            Share::Osh => self.put(b" osh\n"),
         }
     }
 
-    /// Writes all that waits.
-    fn flush(&mut self, out: &mut impl Write) -> io::Result<()> {
-        out.write_all(&self.0)?;
-        self.0.clear();
-        Ok(())
-    }
-}
-
-/// The numbers of a summary.
-#[derive(Default)]
-struct Counts {
-    accesses: u32,
-    mapped: u32,
-    faulted: u32,
-    conflicts: u32,
-    old: u32,
-    stale: u32,
-    evicted: u32,
-}
-
-impl Counts {
-    /// Counts an answer.
-    fn add(&mut self, answer: &Answer) {
-        self.accesses += 1;
-        match answer.outcome {
-            Outcome::Mapped { .. } => self.mapped += 1,
-            Outcome::Faulted(_) => self.faulted += 1,
-            Outcome::Conflict => self.conflicts += 1,
-        }
-        self.old += answer.old as u32;
-        self.stale += answer.stale as u32;
-        self.evicted += answer.evicted;
-    }
-
-    /// Appends the last line of a report.
-    fn line(&self, text: &mut Text) {
-        let numbers = [
-            ("summary accesses ", self.accesses),
-            (" prefetches ", 0),
-            (" mapped ", self.mapped),
-            (" faulted ", self.faulted),
-            (" conflicts ", self.conflicts),
-            (" old ", self.old),
-            (" stale ", self.stale),
-            (" evicted ", self.evicted),
-        ];
-        for (name, number) in numbers {
-            text.put_str(name);
-            text.decimal(number);
-        }
-        text.put(b"\n");
-    }
-}
-
-/// Writes the report of a run from its log.
-pub fn report(out: &mut impl Write, log: &[Step]) -> io::Result<()> {
-    let mut text = Text(Vec::with_capacity(ROOM));
-    let mut counts = Counts::default();
-    for (number, step) in log.iter().enumerate() {
-        if let (Event::Access { core, access }, Some(answer)) = (&step.event, &step.answer) {
-            text.access(number as u32, *core, access, answer);
-            text.answer(answer);
-            counts.add(answer);
-            if text.0.len() > ROOM - MOST_OF_STEP {
-                text.flush(out)?;
+    /// Puts a memory type.
+    fn mem(&mut self, mem: MemType) {
+        match mem {
+            MemType::Device(Device::NGnRnE) => self.put(b" device-nGnRnE"),
+            MemType::Device(Device::NGnRE) => self.put(b" device-nGnRE"),
+            MemType::Device(Device::NGRE) => self.put(b" device-nGRE"),
+            MemType::Device(Device::GRE) => self.put(b" device-GRE"),
+            MemType::Normal { outer, inner, tagged } => {
+                self.put(b" normal outer ");
+                self.cache(outer);
+                self.put(b" inner ");
+                self.cache(inner);
+                if tagged {
+                    self.put(b" tagged");
+                }
             }
         }
     }
-    counts.line(&mut text);
-    text.flush(out)?;
-    out.flush()
-}
 
-/// Writes only how many accesses are mapped.
-pub fn count_mapped(out: &mut impl Write, log: &[Step]) -> io::Result<()> {
-    let mut counts = Counts::default();
-    log.iter().filter_map(|step| step.answer.as_ref()).for_each(|answer| counts.add(answer));
-    let mut text = Text::default();
-    text.decimal(counts.mapped);
-    text.put(b"\n");
-    text.flush(out)?;
-    out.flush()
+    /// Puts a cacheability.
+    fn cache(&mut self, cache: Cache) {
+        match cache.policy {
+            Policy::NonCacheable => return self.put(b"nc"),
+            Policy::WriteThrough => self.put(b"wt"),
+            Policy::WriteBack => self.put(b"wb"),
+        }
+        if cache.read {
+            self.put(b"+r");
+        }
+        if cache.write {
+            self.put(b"+w");
+        }
+        if cache.transient {
+            self.put(b"+t");
+        }
+    }
+
+    /// Puts the last line of a report. Without rows no answer is old, and nothing is evicted.
+    fn summary(&mut self, mapped: u32, faulted: u32) {
+        self.put(b"summary accesses ");
+        self.decimal(mapped + faulted);
+        self.put(b" prefetches 0 mapped ");
+        self.decimal(mapped);
+        self.put(b" faulted ");
+        self.decimal(faulted);
+        self.put(b" conflicts 0 old 0 stale 0 evicted 0\n");
+    }
 }
 
 /// The line of a file that is not there: its name is shown by its first 64 bytes.
-pub fn no_file(name: &str) -> Vec<u8> {
-    let mut line = b"vmsa: no file ".to_vec();
-    line.extend(name.bytes().take(64).map(|byte| if byte.is_ascii_graphic() { byte } else { b'?' }));
-    line.push(b'\n');
-    line
+pub fn no_file(name: &str) -> String {
+    let glyph = |byte: u8| if byte.is_ascii_graphic() { byte as char } else { '?' };
+    let shown: String = name.bytes().take(64).map(glyph).collect();
+    format!("vmsa: no file {shown}\n")
 }
 
 /// The line of a trace that is refused.
-pub fn refused(why: Refusal) -> Vec<u8> {
-    let mut text = Text::default();
-    text.put(b"vmsa: trace: ");
-    match why {
-        Refusal::TooLarge => text.put(b"too large"),
-        Refusal::NoHeader => text.put(b"no header"),
-        Refusal::NoEnd => text.put(b"no end"),
-        Refusal::Line(number, why) => {
-            text.put(b"line ");
-            text.decimal(number);
-            text.put(b": ");
-            let (words, place) = match why {
-                LineRefusal::NotText => ("not text", None),
-                LineRefusal::LongLine => ("long line", None),
-                LineRefusal::BadWord(place) => ("bad word ", Some(place)),
-                LineRefusal::BadNumber(place) => ("bad number ", Some(place)),
-                LineRefusal::OutOfRange(place) => ("out of range ", Some(place)),
-                LineRefusal::Unsupported(_) => ("unsupported ", None),
-                LineRefusal::NotAtEl1 => ("not at el1", None),
-                LineRefusal::TooMany => ("too many", None),
-                LineRefusal::AfterEnd => ("after end", None),
-                LineRefusal::NoHeader => ("no header", None),
-            };
-            text.put_str(words);
-            if let Some(place) = place {
-                text.decimal(place);
-            }
-            if let LineRefusal::Unsupported(name) = why {
-                text.put_str(name);
-            }
-        }
-    }
-    text.put(b"\n");
-    text.0
+pub fn refused(why: Refusal) -> String {
+    let (number, why) = match why {
+        Refusal::TooLarge => return "vmsa: trace: too large\n".into(),
+        Refusal::NoHeader => return "vmsa: trace: no header\n".into(),
+        Refusal::NoEnd => return "vmsa: trace: no end\n".into(),
+        Refusal::Line(number, why) => (number, why),
+    };
+    let why = match why {
+        LineRefusal::NotText => "not text".into(),
+        LineRefusal::LongLine => "long line".into(),
+        LineRefusal::BadWord(place) => format!("bad word {place}"),
+        LineRefusal::BadNumber(place) => format!("bad number {place}"),
+        LineRefusal::OutOfRange(place) => format!("out of range {place}"),
+        LineRefusal::Unsupported(name) => format!("unsupported {name}"),
+        LineRefusal::NotAtEl1 => "not at el1".into(),
+        LineRefusal::TooMany => "too many".into(),
+        LineRefusal::AfterEnd => "after end".into(),
+        LineRefusal::NoHeader => "no header".into(),
+    };
+    format!("vmsa: trace: line {number}: {why}\n")
 }

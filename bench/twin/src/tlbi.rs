@@ -23,6 +23,14 @@ pub enum Op {
     Ripas2le1,
 }
 
+/// A TLBI as a core issues it; `operand` is 0 where the operation has none.
+pub struct Operation {
+    pub op: Op,
+    pub shared: bool,
+    pub at_el1: bool,
+    pub operand: u64,
+}
+
 impl Op {
     /// The operation of this name, and whether it is the IS form.
     pub fn named(name: &[u8]) -> Option<(Op, bool)> {
@@ -59,12 +67,34 @@ impl Op {
 
     /// Whether EL2 alone issues it.
     pub fn needs_el2(self) -> bool {
-        matches!(self, Op::Ipas2e1 | Op::Ipas2le1 | Op::Vmalls12e1 | Op::Alle1 | Op::Ripas2e1 | Op::Ripas2le1)
+        use Op::{Alle1, Ipas2e1, Ipas2le1, Ripas2e1, Ripas2le1, Vmalls12e1};
+        matches!(self, Ipas2e1 | Ipas2le1 | Vmalls12e1 | Alle1 | Ripas2e1 | Ripas2le1)
     }
 
     /// Whether its operand names an ASID.
     fn names_asid(self) -> bool {
         matches!(self, Op::Vae1 | Op::Vale1 | Op::Rvae1 | Op::Rvale1 | Op::Aside1)
+    }
+
+    /// Whether its operand names a range.
+    fn names_range(self) -> bool {
+        self.names_va_range() || matches!(self, Op::Ripas2e1 | Op::Ripas2le1)
+    }
+
+    /// Whether its operand names a range of virtual addresses.
+    fn names_va_range(self) -> bool {
+        matches!(self, Op::Rvae1 | Op::Rvaae1 | Op::Rvale1 | Op::Rvaale1)
+    }
+
+    /// The start and the length of what its operand names.
+    fn range(self, operand: u64) -> (u64, u64) {
+        match self {
+            Op::Vmalle1 | Op::Aside1 | Op::Vmalls12e1 | Op::Alle1 => (0, END_VA),
+            Op::Vae1 | Op::Vaae1 | Op::Vale1 | Op::Vaale1 => (field(operand, 43, 0) << 12, 4096),
+            Op::Ipas2e1 | Op::Ipas2le1 => (field(operand, 39, 0) << 12, 4096),
+            _ if self.names_va_range() => range(operand, END_VA, true),
+            _ => range(operand, END_IPA, false),
+        }
     }
 }
 
@@ -95,7 +125,8 @@ fn granule(operand: u64) -> Option<u32> {
     }
 }
 
-/// The start and the length of a range of an address space of this size; the start is extended where it is signed.
+/// The start and the length of a range of an address space of this size; the start is extended
+/// where it is signed.
 fn range(operand: u64, end: u64, signed: bool) -> (u64, u64) {
     let Some(granule) = granule(operand) else {
         return (0, 0);
@@ -110,21 +141,15 @@ fn range(operand: u64, end: u64, signed: bool) -> (u64, u64) {
 
 impl Invalidation {
     /// What a TLBI of a core gives, by its registers in force.
-    pub fn new(op: Op, shared: bool, at_el1: bool, operand: u64, regs: &Regs, issuer: u8, issued: u32) -> Invalidation {
-        let (start, count) = match op {
-            Op::Vmalle1 | Op::Aside1 | Op::Vmalls12e1 | Op::Alle1 => (0, END_VA),
-            Op::Vae1 | Op::Vaae1 | Op::Vale1 | Op::Vaale1 => (field(operand, 43, 0) << 12, 4096),
-            Op::Ipas2e1 | Op::Ipas2le1 => (field(operand, 39, 0) << 12, 4096),
-            Op::Rvae1 | Op::Rvaae1 | Op::Rvale1 | Op::Rvaale1 => range(operand, END_VA, true),
-            Op::Ripas2e1 | Op::Ripas2le1 => range(operand, END_IPA, false),
-        };
-        let is_range = matches!(op, Op::Rvae1 | Op::Rvaae1 | Op::Rvale1 | Op::Rvaale1 | Op::Ripas2e1 | Op::Ripas2le1);
+    pub fn new(operation: &Operation, regs: &Regs, issuer: u8, issued: u32) -> Invalidation {
+        let &Operation { op, shared, at_el1, operand } = operation;
+        let (start, count) = op.range(operand);
         let asid_mask = if regs.wide_asid() { 0xffff } else { 0xff };
         let forced = at_el1 && flag(regs.get(Reg::Hcr), 9) && !op.needs_el2();
         Invalidation {
             start,
             count,
-            granule: if is_range { granule(operand) } else { None },
+            granule: if op.names_range() { granule(operand) } else { None },
             issued,
             asid: if op.names_asid() { (operand >> 48) as u16 & asid_mask } else { 0 },
             vmid: regs.vmid(),

@@ -2,8 +2,7 @@
 
 use crate::attrs::{Attrs, El, Kind, LeafBits, MemType, Perms, Share, TableBits};
 use crate::memory::Memory;
-use crate::regs::{field, flag, Context, Side, Stage2, Tables};
-use std::mem::MaybeUninit;
+use crate::regs::{field, flag, Context, Level, Side, Stage2, Tables};
 
 /// A stage of translation.
 #[derive(Clone, Copy, PartialEq, Eq)]
@@ -19,12 +18,11 @@ pub enum What {
     Word,
 }
 
-/// One thing that a walk used: the base of a start table, or a descriptor with its place and its value.
+/// One thing that a walk used: the base of a start table, or a descriptor with its place and value.
 #[derive(Clone, Copy)]
 pub struct Item {
     pub pa: u64,
     pub value: u64,
-    pub moment: u32,
     pub stage: Stage,
     pub level: u8,
     pub what: What,
@@ -35,29 +33,32 @@ const MOST_ITEMS: usize = 42;
 
 /// The items of a walk in order.
 pub struct Trail {
-    len: u32,
-    items: [MaybeUninit<Item>; MOST_ITEMS],
+    items: [Item; MOST_ITEMS],
+    len: usize,
 }
 
 impl Trail {
     /// A trail without items.
-    #[inline]
     pub fn new() -> Trail {
-        Trail { len: 0, items: [const { MaybeUninit::uninit() }; MOST_ITEMS] }
+        let blank = Item { pa: 0, value: 0, stage: Stage::S1, level: 0, what: What::Base };
+        Trail { items: [blank; MOST_ITEMS], len: 0 }
+    }
+
+    /// Takes all items away.
+    pub fn clear(&mut self) {
+        self.len = 0;
     }
 
     /// Appends an item.
     #[inline]
-    pub fn push(&mut self, item: Item) {
-        self.items[self.len as usize].write(item);
+    fn push(&mut self, item: Item) {
+        self.items[self.len] = item;
         self.len += 1;
     }
 
     /// The items in order.
-    #[inline]
     pub fn items(&self) -> &[Item] {
-        // SAFETY: `push` alone changes `len`, behind the write of the item of that number.
-        unsafe { std::slice::from_raw_parts(self.items.as_ptr().cast(), self.len as usize) }
+        &self.items[..self.len]
     }
 }
 
@@ -81,6 +82,11 @@ pub struct Fault {
 }
 
 impl Fault {
+    /// A fault of stage 1.
+    fn stage1(level: u8, class: Class) -> Fault {
+        Fault { stage: Stage::S1, level, class, s1ptw: false }
+    }
+
     /// The fault status code.
     pub fn code(self) -> u8 {
         let first = match self.class {
@@ -103,25 +109,42 @@ pub struct Access {
     pub pan: bool,
 }
 
-/// How an access comes out.
+/// Where an access leads, and what both stages give there.
 #[derive(Clone, Copy)]
-pub enum Outcome {
-    Mapped {
-        pa: u64,
-        attrs: Attrs,
-    },
-    Faulted(Fault),
-    /// Two trails match. It needs rows, which no core keeps yet.
-    #[allow(dead_code)]
-    Conflict,
+pub struct Mapping {
+    pub pa: u64,
+    pub attrs: Attrs,
 }
 
-/// Where a stage leads: an address and what the stage gives there.
+/// How an access comes out.
+pub type Outcome = Result<Mapping, Fault>;
+
+/// Where stage 2 leads: an address, and the leaf's level and word.
 #[derive(Clone, Copy)]
-struct Leaf {
+struct Leaf2 {
     out: u64,
     level: u8,
-    attrs: Attrs,
+    word: u64,
+}
+
+impl Leaf2 {
+    /// The rights that it gives.
+    #[inline]
+    fn perms(self) -> Perms {
+        Perms::stage2(flag(self.word, 6), flag(self.word, 7), field(self.word, 54, 53))
+    }
+
+    /// The memory type that it gives.
+    #[inline]
+    fn mem(self) -> MemType {
+        MemType::of_stage2(field(self.word, 5, 2))
+    }
+
+    /// All that it gives.
+    fn attrs(self) -> Attrs {
+        let share = Share::of(field(self.word, 9, 8));
+        Attrs { perms: self.perms(), mem: self.mem(), share }
+    }
 }
 
 /// What a descriptor means, by its shape.
@@ -131,161 +154,113 @@ enum Descriptor {
     Leaf(u64),
 }
 
-/// One level of tables with a granule of `2 ^ G` bytes.
-#[derive(Clone, Copy)]
-struct Level<const G: u32> {
-    /// The level's number.
-    number: u32,
-    /// How many input bits an entry of it leaves.
-    class: u32,
-    /// How many input bits select an entry.
-    bits: u32,
-}
-
-impl<const G: u32> Level<G> {
-    /// The level that tables start at.
-    #[inline]
-    fn start(tables: &Tables) -> Level<G> {
-        let class = G + (3 - tables.start) * (G - 3);
-        Level { number: tables.start, class, bits: tables.input - class }
-    }
-
-    /// The level below.
-    #[inline]
-    fn below(self) -> Level<G> {
-        Level { number: self.number + 1, class: self.class - (G - 3), bits: G - 3 }
-    }
-
+impl Level {
     /// The place of the word that an address selects in a table of this level.
     #[inline]
-    fn place(self, table: u64, address: u64) -> u64 {
-        table + 8 * (address >> self.class & ((1 << self.bits) - 1))
+    fn place(&self, table: u64, address: u64) -> u64 {
+        table + 8 * (address >> self.class & self.indices)
     }
 
-    /// The address in a word from bit `class` up.
+    /// Where a leaf at a place, with output `out`, sends an address. The Contiguous bit counts
+    /// where `out` is that of the leaf's number in the run.
     #[inline]
-    fn address(word: u64, class: u32) -> u64 {
-        let low = field(word, 47, 0) >> class << class;
-        if G == 16 {
-            low | field(word, 15, 12) << 48
-        } else {
-            low
-        }
-    }
-
-    /// What a word of this level means.
-    #[inline]
-    fn decode(self, word: u64) -> Descriptor {
-        let is_leaf = match word & 3 {
-            1 => self.number == 2 || (self.number == 1 && G != 14),
-            3 if self.number < 3 => return Descriptor::Table(Level::<G>::address(word, G)),
-            3 => true,
-            _ => false,
-        };
-        if is_leaf {
-            Descriptor::Leaf(Level::<G>::address(word, self.class))
-        } else {
-            Descriptor::Invalid
-        }
-    }
-
-    /// The class of a run of entries with the Contiguous bit, None where the level has no run.
-    fn run(self) -> Option<u32> {
-        Some(match (G, self.number) {
-            (12, 1) => 34,
-            (12, 2) => 25,
-            (12, 3) => 16,
-            (14, 2) => 30,
-            (14, 3) => 21,
-            (16, 2) => 34,
-            (16, 3) => 21,
-            _ => return None,
-        })
-    }
-
-    /// The class of a leaf with the Contiguous bit whose word stands at `place`: that of its run where the bit counts.
-    fn run_class(self, input: u32, out: u64, place: u64) -> u32 {
-        match self.run() {
-            Some(run) if run <= input => {
-                let number = (place / 8) & ((1 << (run - self.class)) - 1);
-                if out & ((1 << run) - 1) == number << self.class {
-                    run
-                } else {
-                    self.class
-                }
+    fn output(&self, word: u64, out: u64, place: u64, address: u64) -> u64 {
+        let mut low = (1 << self.class) - 1;
+        if flag(word, 52) {
+            let run = (1 << self.run) - 1;
+            let number = (place / 8) << self.class;
+            if out & run == number & run {
+                low = run;
             }
-            _ => self.class,
         }
-    }
-
-    /// Where a leaf with output `out` sends an address.
-    #[inline]
-    fn output(self, tables: &Tables, word: u64, out: u64, place: u64, address: u64) -> u64 {
-        let class = if flag(word, 52) { self.run_class(tables.input, out, place) } else { self.class };
-        let low = (1 << class) - 1;
         out & !low | address & low
     }
 }
 
 impl Tables {
+    /// The level of a number.
+    #[inline]
+    fn level(&self, number: u8) -> &Level {
+        &self.levels[number as usize & 3]
+    }
+
+    /// What a word of a level means.
+    #[inline]
+    fn decode(&self, level: &Level, word: u64) -> Descriptor {
+        let high = (word & self.high) << 36;
+        match word & 3 {
+            3 if level.has_tables => Descriptor::Table(word & self.table | high),
+            3 => Descriptor::Leaf(word & level.leaf | high),
+            1 if level.has_blocks => Descriptor::Leaf(word & level.leaf | high),
+            _ => Descriptor::Invalid,
+        }
+    }
+
     /// Whether an address doesn't fit the output size.
     #[inline]
     fn is_too_large(&self, address: u64) -> bool {
-        address >> self.output != 0
+        address & self.too_large != 0
     }
 }
 
-/// The walk of one access at a moment.
+/// The walk of one access.
 pub struct Walk<'a> {
     pub context: &'a Context,
     pub memory: &'a Memory,
     pub access: &'a Access,
     pub trail: &'a mut Trail,
-    pub moment: u32,
 }
 
 impl Walk<'_> {
-    /// Walks both stages.
+    /// Walks both stages, one behind the other.
     pub fn run(&mut self) -> Outcome {
-        match self.both() {
-            Ok((pa, attrs)) => Outcome::Mapped { pa, attrs },
-            Err(fault) => Outcome::Faulted(fault),
-        }
-    }
-
-    /// Both stages, one behind the other.
-    fn both(&mut self) -> Result<(u64, Attrs), Fault> {
         let (out, attrs) = self.stage1()?;
         let Some(stage2) = &self.context.stage2 else {
-            return Ok((out, attrs.alone()));
+            return Ok(Mapping { pa: out, attrs: attrs.alone() });
         };
         let leaf = self.stage2(stage2, out, false)?;
-        if !leaf.attrs.perms.allows(self.access.el, self.access.kind) {
-            return Err(Fault { stage: Stage::S2, level: leaf.level, class: Class::Permission, s1ptw: false });
+        if !leaf.perms().allows(self.access.el, self.access.kind) {
+            let (stage, class) = (Stage::S2, Class::Permission);
+            return Err(Fault { stage, level: leaf.level, class, s1ptw: false });
         }
-        Ok((leaf.out, attrs.combine(leaf.attrs)))
+        Ok(Mapping { pa: leaf.out, attrs: attrs.combine(leaf.attrs()) })
     }
 
     /// Appends the base of a start table.
     #[inline]
     fn keep_base(&mut self, stage: Stage, tables: &Tables) {
-        let base = tables.base;
-        self.trail.push(Item {
-            pa: base,
-            value: base,
-            moment: self.moment,
-            stage,
-            level: tables.start as u8,
-            what: What::Base,
-        });
+        let (pa, value, level) = (tables.base, tables.base, tables.start);
+        self.trail.push(Item { pa, value, stage, level, what: What::Base });
     }
 
     /// Reads a descriptor and appends it; None where memory lacks it.
     #[inline]
-    fn read(&mut self, stage: Stage, level: u32, pa: u64) -> Option<u64> {
+    fn read(&mut self, stage: Stage, level: u8, pa: u64) -> Option<u64> {
         let value = self.memory.load(pa)?;
-        self.trail.push(Item { pa, value, moment: self.moment, stage, level: level as u8, what: What::Word });
+        self.trail.push(Item { pa, value, stage, level, what: What::Word });
         Some(value)
+    }
+
+    /// Stage 1 of the access: its output, and what it gives there.
+    fn stage1(&mut self) -> Result<(u64, Attrs), Fault> {
+        let (context, Access { va, kind, .. }) = (self.context, *self.access);
+        let high = flag(va, 55);
+        let side = &context.sides[high as usize];
+        let top = if kind == Kind::Fetch { side.top_of_fetch } else { side.top };
+        if !context.mmu_on {
+            if va << (63 - top) >> (63 - top + 52) != 0 {
+                return Err(Fault::stage1(0, Class::AddressSize));
+            }
+            return Ok((field(va, 51, 0), Attrs::mmu_off(kind, context.icache)));
+        }
+        let Some(tables) = self.tables(side, top, high) else {
+            return Err(Fault::stage1(0, Class::Translation));
+        };
+        self.keep_base(Stage::S1, tables);
+        if tables.is_too_large(tables.base) {
+            return Err(Fault::stage1(0, Class::AddressSize));
+        }
+        self.walk1(side, tables)
     }
 
     /// The tables of an access, None where stage 1 refuses it before any of them.
@@ -293,52 +268,25 @@ impl Walk<'_> {
     fn tables<'c>(&self, side: &'c Side, top: u32, high: bool) -> Option<&'c Tables> {
         let tables = side.tables.as_ref()?;
         let upper = ((self.access.va << (63 - top)) as i64) >> (63 - top + tables.input);
-        let extended = upper == -(high as i64);
-        let stopped = side.epd | (side.e0pd & (self.access.el == El::El0));
-        (extended & !stopped).then_some(tables)
-    }
-
-    /// Stage 1 of the access: its output, and what it gives there.
-    fn stage1(&mut self) -> Result<(u64, Attrs), Fault> {
-        let (context, va) = (self.context, self.access.va);
-        let fault = |class| Err(Fault { stage: Stage::S1, level: 0, class, s1ptw: false });
-        let high = flag(va, 55);
-        let side = &context.sides[high as usize];
-        let is_tagged = side.tbi & !(side.tbid & (self.access.kind == Kind::Fetch));
-        let top = if is_tagged { 55 } else { 63 };
-        if !context.mmu_on {
-            if va << (63 - top) >> (63 - top + 52) != 0 {
-                return fault(Class::AddressSize);
-            }
-            return Ok((field(va, 51, 0), Attrs::mmu_off(self.access.kind, context.icache)));
-        }
-        let Some(tables) = self.tables(side, top, high) else {
-            return fault(Class::Translation);
-        };
-        self.keep_base(Stage::S1, tables);
-        if tables.is_too_large(tables.base) {
-            return fault(Class::AddressSize);
-        }
-        match tables.granule {
-            12 => self.walk1::<12>(side, tables),
-            14 => self.walk1::<14>(side, tables),
-            _ => self.walk1::<16>(side, tables),
-        }
+        let is_extended = upper == -(high as i64);
+        let is_stopped = side.e0pd & (self.access.el == El::El0);
+        (is_extended & !is_stopped).then_some(tables)
     }
 
     /// The words of stage 1.
-    fn walk1<const G: u32>(&mut self, side: &Side, tables: &Tables) -> Result<(u64, Attrs), Fault> {
-        let (context, va) = (self.context, self.access.va);
-        let mut level = Level::<G>::start(tables);
+    fn walk1(&mut self, side: &Side, tables: &Tables) -> Result<(u64, Attrs), Fault> {
+        let va = self.access.va;
+        let mut number = tables.start;
         let mut table = tables.base;
         let mut bits = TableBits::default();
         loop {
-            let fault = |class| Err(Fault { stage: Stage::S1, level: level.number as u8, class, s1ptw: false });
+            let level = tables.level(number);
+            let fault = |class| Err(Fault::stage1(number, class));
             let place = self.descriptor_place(level.place(table, va))?;
-            let Some(word) = self.read(Stage::S1, level.number, place) else {
+            let Some(word) = self.read(Stage::S1, number, place) else {
                 return fault(Class::External);
             };
-            match level.decode(word) {
+            match tables.decode(level, word) {
                 Descriptor::Invalid => return fault(Class::Translation),
                 Descriptor::Table(out) | Descriptor::Leaf(out) if tables.is_too_large(out) => {
                     return fault(Class::AddressSize);
@@ -346,14 +294,14 @@ impl Walk<'_> {
                 Descriptor::Table(next) => {
                     table = next;
                     bits = bits.join(word & side.table_mask);
-                    level = level.below();
+                    number += 1;
                 }
-                Descriptor::Leaf(_) if !(flag(word, 10) | context.ha) => return fault(Class::AccessFlag),
+                Descriptor::Leaf(_) if !flag(word, 10) => return fault(Class::AccessFlag),
                 Descriptor::Leaf(out) => {
                     let Some(attrs) = self.permit(word, bits) else {
                         return fault(Class::Permission);
                     };
-                    return Ok((level.output(tables, word, out, place, va), attrs));
+                    return Ok((level.output(word, out, place, va), attrs));
                 }
             }
         }
@@ -366,16 +314,17 @@ impl Walk<'_> {
         let leaf = LeafBits {
             user: flag(word, 6),
             read_only: flag(word, 7),
-            dbm: flag(word, 51),
             pxn: flag(word, 53),
             uxn: flag(word, 54),
         };
-        let perms = Perms::stage1(leaf, tables, context.dirty, context.wxn);
+        let perms = Perms::stage1(leaf, tables, context.wxn);
         let Access { el, kind, pan, .. } = *self.access;
-        let user = perms.allows(El::El0, Kind::Read) | (context.epan & !(leaf.uxn | tables.uxn()));
+        let fetches = context.epan & !(leaf.uxn | tables.uxn());
+        let user = perms.allows(El::El0, Kind::Read) | fetches;
         let guarded = pan & (el == El::El1) & (kind != Kind::Fetch) & user;
         let mem = context.mair[field(word, 4, 2) as usize];
-        (perms.allows(el, kind) & !guarded).then(|| Attrs { perms, mem, share: Share::of(field(word, 9, 8)) })
+        let share = Share::of(field(word, 9, 8));
+        (perms.allows(el, kind) & !guarded).then_some(Attrs { perms, mem, share })
     }
 
     /// Where a descriptor of stage 1 stands, by the stage 2 of its place.
@@ -385,14 +334,15 @@ impl Walk<'_> {
             return Ok(ipa);
         };
         let leaf = self.stage2(stage2, ipa, true)?;
-        if !leaf.attrs.perms.allows(El::El1, Kind::Read) | (stage2.ptw & leaf.attrs.mem.is_device()) {
-            return Err(Fault { stage: Stage::S2, level: leaf.level, class: Class::Permission, s1ptw: true });
+        if !leaf.perms().allows(El::El1, Kind::Read) | (stage2.ptw & leaf.mem().is_device()) {
+            let (stage, class) = (Stage::S2, Class::Permission);
+            return Err(Fault { stage, level: leaf.level, class, s1ptw: true });
         }
         Ok(leaf.out)
     }
 
     /// Stage 2 of an address; `s1ptw` says that a descriptor of stage 1 stands there.
-    fn stage2(&mut self, stage2: &Stage2, ipa: u64, s1ptw: bool) -> Result<Leaf, Fault> {
+    fn stage2(&mut self, stage2: &Stage2, ipa: u64, s1ptw: bool) -> Result<Leaf2, Fault> {
         let fault = |class| Err(Fault { stage: Stage::S2, level: 0, class, s1ptw });
         let Some(tables) = stage2.tables.as_ref().filter(|tables| ipa >> tables.input == 0) else {
             return fault(Class::Translation);
@@ -401,42 +351,33 @@ impl Walk<'_> {
         if tables.is_too_large(tables.base) {
             return fault(Class::AddressSize);
         }
-        match tables.granule {
-            12 => self.walk2::<12>(stage2, tables, ipa, s1ptw),
-            14 => self.walk2::<14>(stage2, tables, ipa, s1ptw),
-            _ => self.walk2::<16>(stage2, tables, ipa, s1ptw),
-        }
+        self.walk2(tables, ipa, s1ptw)
     }
 
     /// The words of stage 2.
-    fn walk2<const G: u32>(&mut self, stage2: &Stage2, tables: &Tables, ipa: u64, s1ptw: bool) -> Result<Leaf, Fault> {
-        let mut level = Level::<G>::start(tables);
+    fn walk2(&mut self, tables: &Tables, ipa: u64, s1ptw: bool) -> Result<Leaf2, Fault> {
+        let mut number = tables.start;
         let mut table = tables.base;
         loop {
-            let fault = |class| Err(Fault { stage: Stage::S2, level: level.number as u8, class, s1ptw });
+            let level = tables.level(number);
+            let fault = |class| Err(Fault { stage: Stage::S2, level: number, class, s1ptw });
             let place = level.place(table, ipa);
-            let Some(word) = self.read(Stage::S2, level.number, place) else {
+            let Some(word) = self.read(Stage::S2, number, place) else {
                 return fault(Class::External);
             };
-            match level.decode(word) {
+            match tables.decode(level, word) {
                 Descriptor::Invalid => return fault(Class::Translation),
                 Descriptor::Table(out) | Descriptor::Leaf(out) if tables.is_too_large(out) => {
                     return fault(Class::AddressSize);
                 }
                 Descriptor::Table(next) => {
                     table = next;
-                    level = level.below();
+                    number += 1;
                 }
-                Descriptor::Leaf(_) if !(flag(word, 10) | stage2.ha) => return fault(Class::AccessFlag),
+                Descriptor::Leaf(_) if !flag(word, 10) => return fault(Class::AccessFlag),
                 Descriptor::Leaf(out) => {
-                    let (read, write, dbm) = (flag(word, 6), flag(word, 7), flag(word, 51));
-                    let attrs = Attrs {
-                        perms: Perms::stage2(read, write, field(word, 54, 53), dbm, stage2.dirty),
-                        mem: MemType::of_stage2(field(word, 5, 2)),
-                        share: Share::of(field(word, 9, 8)),
-                    };
-                    let out = level.output(tables, word, out, place, ipa);
-                    return Ok(Leaf { out, level: level.number as u8, attrs });
+                    let out = level.output(word, out, place, ipa);
+                    return Ok(Leaf2 { out, level: number, word });
                 }
             }
         }
