@@ -110,3 +110,26 @@ fn stores_words(rt: HostRuntime) -> Result<(), Fail> {
     }
     Ok(())
 }
+
+/// 64 MiB: a store changes one word of its page, and no word of the other pages.
+#[test]
+fn stores_into_one_page_of_many(rt: HostRuntime) -> Result<(), Fail> {
+    let mut phys = Phys::of(rt.alloc(), &[(0x8000_0000, 0x400_0000)])?;
+    assert!(rt; phys.store(0x8000_1008, 5));
+    for (pa, want) in [
+        (0x8000_0000, Some(0)),
+        (0x8000_0008, Some(0)),
+        (0x8000_0ff8, Some(0)),
+        (0x8000_1000, Some(0)),
+        (0x8000_1008, Some(5)),
+        (0x8000_1010, Some(0)),
+        (0x8000_2008, Some(0)),
+        (0x83ff_fff8, Some(0)),
+        (0x8400_0000, None),
+    ] {
+        assert!(rt; phys.load(pa) == want);
+    }
+    assert!(rt; phys.store(0x83ff_fff8, 6));
+    assert!(rt; phys.load(0x83ff_fff8) == Some(6) && phys.load(0x8000_1008) == Some(5));
+    Ok(())
+}

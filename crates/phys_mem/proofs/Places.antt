@@ -1,12 +1,12 @@
 -- Which word holds a place, and the memory that words are.
-use Rattle.std.proofs.Common.{◌≡◌, ◌≤◌, ◌<◌, ◌+◌, ◌-◌, ◌*◌, ◌%◌, ◌/◌, ℕ, zero, suc, Bool, true, false, nat_eq, List, [], ◌∷◌, length, replicate, slice_set, slice_index_or, Some, None, Option, All, IfSome, refl, sym, ◌∙◌, ap, arith, inl, inr, if◌then◌else◌}
+use Rattle.std.proofs.Common.{◌≡◌, ◌≤◌, ◌<◌, ◌+◌, ◌-◌, ◌*◌, ◌%◌, ◌/◌, ℕ, zero, suc, Bool, true, false, nat_eq, List, [], ◌∷◌, length, replicate, slice_set, Some, None, Option, All, IfSome, refl, sym, ◌∙◌, ap, arith, inl, inr, if◌then◌else◌}
 use Rattle.std.specs.Prelude.{◌&&◌, slice_index, is_some}
 use Rattle.std.proofs.Math.Path.{fun_ext}
 use Rattle.std.proofs.lemmas.Bool.{cases_Bool, eqb-true, eqb-false}
 use Rattle.std.proofs.Math.Bool.{true≢false}
 use Rattle.std.proofs.lemmas.Bool.Decides.{nat_tests}
 use Rattle.std.proofs.lemmas.Option.{none-some, same_Some}
-use Rattle.std.proofs.lemmas.List.{get_or_read, get_or-set_same, get_or-set_other}
+use Rattle.std.proofs.lemmas.List.{get_or-set_same, get_or-set_other}
 use Rattle.std.proofs.lemmas.List.Elements.{All-head, All-tail}
 use Rattle.phys_mem.specs.Memory.{zeros, stored_at, loaded, is_aligned}
 use Rattle.phys_mem.specs.Ranges.{bytes_of}
@@ -97,14 +97,9 @@ word_seen words true (Some j) k e = ap (λ (n : ℕ). Some (slice_index words n)
 word_seen words false index k e = absurd (none-some k e)
 
 -- what is loaded is the word that holds the place
-loaded_some : (h : Held) (pa k : ℕ) → index_of h.ranges pa ≡ Some k → Some (slice_index h.words k) ≡ loaded (memory_of h) pa
+pub loaded_some : (h : Held) (pa k : ℕ) → index_of h.ranges pa ≡ Some k → Some (slice_index h.words k) ≡ loaded (memory_of h) pa
 unfolding memory_of
 loaded_some h pa k e = word_seen h.words (is_aligned pa) (index_from 0 h.ranges pa) k e
-
--- the same, as the word is read
-pub loaded_read : (h : Held) (pa k x : ℕ) → index_of h.ranges pa ≡ Some k → k < length h.words → x ≡ slice_index_or h.words k x →
-    Some x ≡ loaded (memory_of h) pa
-loaded_read h pa k x e within read = ap (λ (v : ℕ). Some v) (get_or_read h.words k x within read 0) ∙ loaded_some h pa k e
 
 nothing_seen : (words : List ℕ) (aligned : Bool) (index : Option ℕ) →
     is_some (if aligned then index else None) ≡ (aligned && is_some (seen_at words aligned index))

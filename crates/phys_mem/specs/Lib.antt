@@ -1,3 +1,4 @@
 pub mod Memory
 pub mod Ranges
 pub mod Words
+pub mod Pages

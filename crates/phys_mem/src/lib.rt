@@ -2,6 +2,7 @@
 #![tactic(auto)]
 
 mod checks;
+mod paged_words;
 mod phys;
 pub mod ranges;
 mod refusal;

@@ -4,16 +4,18 @@ ghost use Rattle.phys_mem.specs.Ranges.{bytes_of, refusal_of, refusal_in};
 ghost use Rattle.phys_mem.specs.Words.{IsWhole, AreHeld, memory_of, index_from, index_of};
 
 use crate::checks::check;
+use crate::paged_words::PagedWords;
 use crate::ranges::{WORD, bytes_in, is_aligned};
 use crate::refusal::PhysError;
 use std::alloc::Global;
 use std::marker::Model;
 
-/// Physical memory: ranges of words. A load takes time in proportion to the number of ranges.
+/// Physical memory: ranges of words. A load takes time in proportion to the number of ranges, and memory is touched for the
+/// pages that were stored to.
 #[derive(Drop)]
 pub struct Phys {
     ranges: Vec<(u64, u64)>,
-    words: Vec<u64>,
+    words: PagedWords,
 }
 
 impl Model for Phys {
@@ -21,9 +23,9 @@ impl Model for Phys {
 
     ghost Value = { Held };
 
-    ghost view = { λ p. record { ranges = p.ranges.items; words = p.words.items } };
+    ghost view = { λ p. record { ranges = p.ranges.items; words = p.words } };
 
-    ghost invariant = { λ p. IsHeld (record { ranges = p.ranges.items; words = p.words.items }) };
+    ghost invariant = { λ p. IsHeld (record { ranges = p.ranges.items; words = p.words }) };
 }
 
 /// Which word holds the eight bytes from a place on, where the words of all ranges stand one behind the other.
@@ -63,7 +65,7 @@ impl Phys {
         ensures refused { IfErr result (λ e. refusal_of ranges.now ≡ refusal_in e) }
     {
         check(ranges)?;
-        let words = vec![in alloc; 0u64; (bytes_in(ranges) / WORD) as usize]?;
+        let words = PagedWords::zeros(alloc, (bytes_in(ranges) / WORD) as usize)?;
         let ranges = Vec::from_slice(alloc, ranges)?;
         Ok(Phys { ranges, words })
     }
@@ -73,7 +75,7 @@ impl Phys {
         ensures { result ≡ loaded (memory_of self.now) pa }
     {
         let index = index_of(self.ranges.as_slice(), pa)?;
-        Some(self.words[index])
+        Some(self.words.get(index))
     }
 
     /// Changes the word at a place in bytes, and answers whether there is one.
@@ -85,7 +87,7 @@ impl Phys {
         let Some(index) = index_of(self.ranges.as_slice(), pa) else {
             return false;
         };
-        self.words[index] = value;
+        self.words.set(index, value);
         true
     }
 }

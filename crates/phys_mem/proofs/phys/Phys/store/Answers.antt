@@ -11,6 +11,6 @@ returns-clause-there c = rw (← c.self.view_is)
 
 pub returns-clause-after : goal.returns-clause-after
 returns-clause-after c =
-    rw (← c.self.view_is) (stored _ c.args.pa c.args.value c.in-Some.index c.self.invariant.kept.whole
+    rw (← c.self.view_is, c.set.ensures) (stored _ c.args.pa c.args.value c.in-Some.index c.self.invariant.kept.whole
     (rw (← c.as_slice.ensures.value, ← c.index_of.ensures.is) c.in-Some.is)
     (omega (arith, c.self.invariant.all, rw c.as_slice.ensures.value at c.in-Some.ensures.within)))
