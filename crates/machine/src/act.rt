@@ -75,7 +75,7 @@ fn finish_all(seats: &mut [Seat], core: u8, kind: Barrier)
 }
 
 /// The core and the access of an event that asks for one.
-pub fn asked(event: &Event) -> Option<(u8, Access)>
+fn asked(event: &Event) -> Option<(u8, Access)>
     ensures { result ≡ asked_of event.now }
 {
     match *event {
@@ -93,7 +93,7 @@ pub fn asked(event: &Event) -> Option<(u8, Access)>
 
 /// The answer of an access that an event asks for.
 #[inline(always)]
-pub fn answer(phys: &Phys, seats: &mut [Seat], moment: u32, core: u8, access: &Access) -> Answer
+fn answer(phys: &Phys, seats: &mut [Seat], moment: u32, core: u8, access: &Access) -> Answer
     requires { core < length seats.old }
     ensures answer { (h : Header) → (e : TheEvent) → asked_of e ≡ Some (core, access.now) → AreSeats h seats.old →
         Some result ≡ answer_to h (world_of moment (memory_of phys.now) seats.old) e }
@@ -108,7 +108,7 @@ pub fn answer(phys: &Phys, seats: &mut [Seat], moment: u32, core: u8, access: &A
 
 /// Does an event that asks for no access.
 #[tactic(auto, unfolding(machine_spec::specs::Moments::stored))]
-pub fn act(phys: &mut Phys, seats: &mut [Seat], moment: u32, event: &Event)
+fn act(phys: &mut Phys, seats: &mut [Seat], moment: u32, event: &Event)
     requires here { core_of event.now < length seats.old }
     requires doable { IsDoable (memory_of phys.old) event.now }
     requires quiet { asked_of event.now ≡ None }
@@ -135,5 +135,32 @@ pub fn act(phys: &mut Phys, seats: &mut [Seat], moment: u32, event: &Event)
         Event::Dsb { core, kind } => finish_all(seats, core, kind),
         Event::Deliver { core } => seats[core as usize].deliver(),
         Event::Access { .. } | Event::Prefetch { .. } => unreachable!(),
+    }
+}
+
+/// Does an event, and answers it where it asks for an access.
+#[inline(always)]
+pub fn act_and_answer(
+    phys: &mut Phys,
+    seats: &mut [Seat],
+    moment: u32,
+    event: &Event,
+) -> Option<Answer>
+    requires here { core_of event.now < length seats.old }
+    requires doable { IsDoable (memory_of phys.old) event.now }
+    ensures memory { memory_of phys.new ≡ stored (memory_of phys.old) event.now }
+    ensures ranges { phys.new.ranges ≡ phys.old.ranges }
+    ensures answer { (h : Header) → AreSeats h seats.old → result ≡ answer_to h (world_of moment (memory_of phys.old) seats.old) event.now }
+    ensures cores { (h : Header) → AreSeats h seats.old → (c : ℕ) → c < length seats.old → core_at (slice_index_or seats.new c no_seat)
+        ≡ moved h (world_of moment (memory_of phys.old) seats.old) event.now c (core_at (slice_index_or seats.old c no_seat)) }
+    ensures builds { (c : ℕ) → c < length seats.old → build_of (slice_index_or seats.new c no_seat) ≡ build_of (slice_index_or seats.old c no_seat) }
+    ensures text { HasTextInRun result }
+{
+    match asked(event) {
+        Some((core, access)) => Some(answer(phys, seats, moment, core, &access)),
+        None => {
+            act(phys, seats, moment, event);
+            None
+        }
     }
 }
