@@ -17,7 +17,7 @@ use crate::seat::Seat;
 use phys_mem::Phys;
 use sysregs::Op;
 use tlbi_ops::{Inval, decode};
-use trails::{Access, Answer, Barrier, Event, Origin};
+use trails::{Access, Answer, Barrier, Event, Origin, StepSlot};
 
 /// Whether a TLBI is issued at EL1.
 fn is_at_el1(from: Origin) -> bool
@@ -91,19 +91,25 @@ fn asked(event: &Event) -> Option<(u8, Access)>
     }
 }
 
-/// The answer of an access that an event asks for.
-#[inline(always)]
-fn answer(phys: &Phys, seats: &mut [Seat], moment: u32, core: u8, access: &Access) -> Answer
+/// Writes the answer of an access that an event asks for, where an earlier one stood.
+fn answer(
+    phys: &Phys,
+    seats: &mut [Seat],
+    moment: u32,
+    core: u8,
+    access: &Access,
+    answer: &mut Answer,
+)
     requires { core < length seats.old }
     ensures answer { (h : Header) → (e : TheEvent) → asked_of e ≡ Some (core, access.now) → AreSeats h seats.old →
-        Some result ≡ answer_to h (world_of moment (memory_of phys.now) seats.old) e }
+        Some answer.new ≡ answer_to h (world_of moment (memory_of phys.now) seats.old) e }
     ensures cores { (h : Header) → (e : TheEvent) → asked_of e ≡ Some (core, access.now) → AreSeats h seats.old → (c : ℕ) →
         c < length seats.old → core_at (slice_index_or seats.new c no_seat)
         ≡ moved h (world_of moment (memory_of phys.now) seats.old) e c (core_at (slice_index_or seats.old c no_seat)) }
     ensures builds { (c : ℕ) → c < length seats.old → build_of (slice_index_or seats.new c no_seat) ≡ build_of (slice_index_or seats.old c no_seat) }
-    ensures text { HasTextInRun (Some result) }
+    ensures text { HasTextInRun (Some answer.new) }
 {
-    seats[core as usize].access(phys, moment, access)
+    seats[core as usize].access(phys, moment, access, answer);
 }
 
 /// Does an event that asks for no access.
@@ -138,29 +144,34 @@ fn act(phys: &mut Phys, seats: &mut [Seat], moment: u32, event: &Event)
     }
 }
 
-/// Does an event, and answers it where it asks for an access.
-#[inline(always)]
+/// Does an event, and leaves its step in a slot: it is answered where it asks for an access.
 pub fn act_and_answer(
     phys: &mut Phys,
     seats: &mut [Seat],
     moment: u32,
     event: &Event,
-) -> Option<Answer>
+    slot: &mut StepSlot,
+)
     requires here { core_of event.now < length seats.old }
     requires doable { IsDoable (memory_of phys.old) event.now }
     ensures memory { memory_of phys.new ≡ stored (memory_of phys.old) event.now }
     ensures ranges { phys.new.ranges ≡ phys.old.ranges }
-    ensures answer { (h : Header) → AreSeats h seats.old → result ≡ answer_to h (world_of moment (memory_of phys.old) seats.old) event.now }
+    ensures answer { (h : Header) → AreSeats h seats.old → slot.new.answer ≡ answer_to h (world_of moment (memory_of phys.old) seats.old) event.now }
     ensures cores { (h : Header) → AreSeats h seats.old → (c : ℕ) → c < length seats.old → core_at (slice_index_or seats.new c no_seat)
         ≡ moved h (world_of moment (memory_of phys.old) seats.old) event.now c (core_at (slice_index_or seats.old c no_seat)) }
     ensures builds { (c : ℕ) → c < length seats.old → build_of (slice_index_or seats.new c no_seat) ≡ build_of (slice_index_or seats.old c no_seat) }
-    ensures text { HasTextInRun result }
+    ensures event { slot.new.event ≡ event.now }
+    ensures text { HasTextInRun slot.new.answer }
 {
+    slot.event = *event;
     match asked(event) {
-        Some((core, access)) => Some(answer(phys, seats, moment, core, &access)),
+        Some((core, access)) => {
+            answer(phys, seats, moment, core, &access, &mut slot.answer);
+            slot.is_answered = true;
+        }
         None => {
             act(phys, seats, moment, event);
-            None
+            slot.is_answered = false;
         }
     }
 }

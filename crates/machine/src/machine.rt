@@ -13,7 +13,7 @@ use bitwords::NoMemory;
 use std::alloc::Global;
 use std::marker::Model;
 use trace_lang::Trace;
-use trails::Step;
+use trails::{Step, StepSlot};
 
 /// A machine in the middle of a trace, with the log of the steps that were done.
 #[derive(Drop)]
@@ -73,7 +73,8 @@ impl Machine {
         ensures machine { machine_of self.new ≡ world_after self.old.trace.header (take (length self.new.log) self.old.trace.events) }
         ensures texts { HaveTexts self.new.log }
     {
-        let step = self.runner.step();
-        self.log.push_reserved(step);
+        let mut slot = StepSlot::new();
+        self.runner.step(&mut slot);
+        self.log.push_reserved(slot.into_step());
     }
 }

@@ -20,7 +20,7 @@ use phys_mem::{Phys, PhysError};
 use std::alloc::Global;
 use std::marker::Model;
 use trace_lang::{Policy, Size, Trace};
-use trails::Step;
+use trails::StepSlot;
 
 /// A machine in the middle of a trace. It counts the events that were done and keeps no step: a contract sees the log of
 /// these events.
@@ -114,13 +114,13 @@ impl Runner {
         self.trace.events().len() - self.done
     }
 
-    /// Does the next event, and gives its step, which is allowed behind the log before it.
-    pub fn step(&mut self) -> Step
+    /// Does the next event, and leaves its step in a slot. It is allowed behind the log before it.
+    pub fn step(&mut self, slot: &mut StepSlot)
         requires { length self.old.log < length self.old.trace.events }
         ensures trace { self.new.trace ≡ self.old.trace }
-        ensures log { self.new.log ≡ self.old.log ++ result ∷ [] }
-        ensures event { slice_get self.old.trace.events (length self.old.log) ≡ Some result.event }
-        ensures allowed { IsAllowed self.old.trace.header self.old.log result }
+        ensures log { self.new.log ≡ self.old.log ++ slot.new ∷ [] }
+        ensures event { slice_get self.old.trace.events (length self.old.log) ≡ Some slot.new.event }
+        ensures allowed { IsAllowed self.old.trace.header self.old.log slot.new }
         ensures run { self.new.log ≡ run_of self.old.trace.header (take (length self.new.log) self.old.trace.events) }
         ensures machine { machine_of self.new ≡ world_after self.old.trace.header (take (length self.new.log) self.old.trace.events) }
         ensures texts { HaveTexts self.new.log }
@@ -130,7 +130,6 @@ impl Runner {
         let event = self.trace.events()[k];
         self.done += 1;
         let seats = self.seats.as_mut_slice();
-        let answer = act_and_answer(&mut self.phys, seats, k as u32, &event);
-        Step { event, answer }
+        act_and_answer(&mut self.phys, seats, k as u32, &event, slot);
     }
 }

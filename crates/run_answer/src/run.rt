@@ -18,6 +18,7 @@ use report_text::Report;
 use statuses::{Status, no_file};
 use std::alloc::Global;
 use trace_lang::{MOST_BYTES, Trace, TraceError, TraceRefusal, parse};
+use trails::StepSlot;
 
 /// Room for the first read of a file that tells no size, as a device.
 const FIRST_ROOM: usize = 64 * 1024;
@@ -140,9 +141,10 @@ pub fn play<O: Sink>(alloc: Global, out: &mut O, machine: &mut Runner) -> Result
     ensures cause { HasCause (O.faults out.old) (O.faults out.new) result }
 {
     let mut report = Report::new(alloc);
+    let mut slot = StepSlot::new();
     for k in 0..machine.left() {
-        let step = machine.step();
-        report.step(out, &step)?;
+        machine.step(&mut slot);
+        report.step(out, &slot)?;
     }
     report.end(out)
 }
