@@ -7,7 +7,7 @@ ghost use Rattle.answers.specs.Texts.{raw_access_text, raw_mapped_text, raw_outc
 ghost use Rattle.answers.specs.Due.{answer_text, HasAnswerText, IsOfWalk};
 
 use explain_text::{QuietMemory, Sink, WriteFailed, absent_line, explain, fault_line, item_lines};
-use machine::Machine;
+use machine::Runner;
 use run_answer::play;
 use std::alloc::Global;
 use sysregs::Regs;
@@ -37,7 +37,7 @@ pub enum Answer {
     },
     /// A trace that is run while its report is written: the machine before the first event.
     Run {
-        machine: Machine,
+        machine: Runner,
     },
 }
 

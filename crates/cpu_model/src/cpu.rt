@@ -62,6 +62,15 @@ fn write_all(force: &mut InForce, queue: &[(Reg, u64)])
     }
 }
 
+/// Leaves no second trail. Where there was none, nothing is written.
+fn no_second(second: &mut Option<Trail>)
+    ensures { second.new ≡ None }
+{
+    if second.is_some() {
+        *second = None;
+    }
+}
+
 impl Cpu {
     /// A core of a number whose registers are all 0. It keeps no rows.
     pub fn opened(alloc: Global, number: u8, size: Size, policy: Policy) -> Result<Cpu, NoMemory>
@@ -124,26 +133,22 @@ impl Cpu {
         let _no_rows = self.size;
     }
 
-    /// The answer of an access at a moment, which is the number of the step. Without rows it is the walk of that moment.
-    #[inline(always)]
-    pub fn access(&mut self, phys: &Phys, moment: u32, access: &Access) -> Answer
-        ensures answer { (h : Header) → Suits h self.old → result ≡ (visited (visit_at h self.old (memory_of phys.now) moment) access.now).answer }
+    /// Writes the answer of an access at a moment, which is the number of the step, where an earlier one stood. Without rows
+    /// it is the walk of that moment.
+    pub fn access(&mut self, phys: &Phys, moment: u32, access: &Access, answer: &mut Answer)
+        ensures answer { (h : Header) → Suits h self.old → answer.new ≡ (visited (visit_at h self.old (memory_of phys.now) moment) access.now).answer }
         ensures after { (h : Header) → Suits h self.old →
             self.new ≡ cpu_with_cache self.old (visited (visit_at h self.old (memory_of phys.now) moment) access.now).cache }
-        ensures line { HasLine (printed true result.outcome) }
+        ensures line { HasLine (printed true answer.new.outcome) }
     {
         let mut words = Words { phys };
-        let mut first = Trail::none();
-        let outcome = translate_at(&self.force, access, moment, &mut words, &mut first);
-        Answer {
-            asid: asid(self.force.regs()),
-            vmid: vmid(self.force.regs()),
-            outcome,
-            first,
-            second: None,
-            old: false,
-            stale: false,
-            evicted: 0,
-        }
+        answer.first.cut(0);
+        answer.outcome = translate_at(&self.force, access, moment, &mut words, &mut answer.first);
+        no_second(&mut answer.second);
+        answer.asid = asid(self.force.regs());
+        answer.vmid = vmid(self.force.regs());
+        answer.old = false;
+        answer.stale = false;
+        answer.evicted = 0;
     }
 }

@@ -1,7 +1,7 @@
 -- One step keeps log and machine those of the trace's first events.
 use Rattle.std.proofs.Common.{◌≡◌, ℕ, ◌<◌, ◌+◌, List, [], ◌∷◌, ◌++◌, length, get_or, take, map, replicate, refl, sym, ap, ◌∙◌, subst, Option, Some, arith}
 use Rattle.std.specs.Prelude.{slice_get}
-use Rattle.std.proofs.lemmas.List.{take_more, take_at, length-append, length-map, length-replicate, get_or-map, get_or-replicate, ext_get_or}
+use Rattle.std.proofs.lemmas.List.{take_more, take_at, length-append, length-map, length-replicate, get_or_default, get_or-map, get_or-replicate, ext_get_or}
 use Rattle.std.proofs.lemmas.List.Elements.{All-nil, All-push, All-take}
 use Rattle.std.proofs.lemmas.Option.{slice_get-get_or}
 use Rattle.trails.specs.declared.step.Answer.{Answer}
@@ -26,7 +26,7 @@ use Rattle.machine_laws.proofs.Theorem.{world_on, run_on}
 use Rattle.machine.specs.Seats.{SeatState, core_at, build_of, no_seat, new_seat, AreSeats, world_of}
 use Rattle.machine.specs.Events.{IsDoable}
 use Rattle.trails.specs.Printed.{HasTextInRun}
-use Rattle.machine.specs.Runs.{IsRun}
+use Rattle.machine.specs.Runs.{MachineState, IsRun, log_at}
 use Rattle.machine.proofs.Ranges.{has_word, same_zeros}
 
 -- AN EVENT OF A TRACE
@@ -54,6 +54,17 @@ module _ (t : Parts) (limits : IsTrace t) (k : ℕ) (lt : k < length t.events) (
 
 pub all_of_cores : (t : Parts) → IsTrace t → AreOfCores t.header t.events
 all_of_cores t limits = λ i d lt. (limits.each i d lt).0
+
+-- a machine before its end has an event left
+pub is_left : (s v : MachineState) (k : ℕ) → s ≡ v → length v.log < length v.trace.events → k ≡ length s.log → k < length s.trace.events
+is_left s v k e lt n =
+    let left : length s.log < length s.trace.events = subst (λ (x : MachineState). length x.log < length x.trace.events) (sym e) lt in
+    omega (arith, left, n)
+
+-- the next event, where a body names the trace's events by another, equal term
+pub next_is : (t : Parts) (k : ℕ) (events : List Event) (d : Event) → events ≡ t.events → k < length t.events
+    → get_or events k d ≡ get_or t.events k (get_or events k d)
+next_is t k events d same lt = ap (λ l. get_or l k d) same ∙ get_or_default t.events k d (get_or events k d) lt
 
 -- THE MACHINE AT FIRST
 
@@ -197,3 +208,22 @@ goes_from laws t m seats log limits run are e a next after k t2 m2 seats2 ek et 
     (subst (λ x. Did t x seats2 (length log) e a next after) em
     (subst (λ x. Did x m2 seats2 (length log) e a next after) et
     (subst (λ x. Did t2 m2 seats2 x e a next after) ek did))))
+
+-- A LOG THAT ISN'T KEPT
+
+-- what a step ensures where the log is that of the events that were done
+pub record Went (t : Parts) (k : ℕ) (next : Memory) (after : List SeatState) (s : Step) : Type 0 where
+  pub log : log_at t (k + 1) ≡ log_at t k ++ s ∷ []
+  pub run : IsRun t (log_at t (k + 1)) (world_of (length (log_at t (k + 1))) next after)
+  pub done : k + 1 ≡ length (log_at t (k + 1))
+
+pub went : (t : Parts) (k : ℕ) (next : Memory) (after : List SeatState) (s : Step) → k ≡ length (log_at t k) → Goes t (log_at t k) next after s
+    → Went t k next after s
+went t k next after s n g =
+    let e : log_at t k ++ s ∷ [] ≡ log_at t (k + 1) =
+    g.kept.log_is ∙ ap (log_at t) (length-append (log_at t k) (s ∷ []) ∙ ap (λ i. i + 1) (sym n)) in
+    record {
+      log = sym e;
+      run = subst (λ (l : List Step). IsRun t l (world_of (length l) next after)) e g.kept;
+      done = ap (λ i. i + 1) n ∙ sym (length-append (log_at t k) (s ∷ [])) ∙ ap length e;
+    }

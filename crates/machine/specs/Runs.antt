@@ -1,8 +1,5 @@
 -- A machine in the middle of a trace (this project's own rules).
-use Rattle.std.specs.Prelude.{◌≡◌, ◌≤◌, ℕ, List, length, take, Option, Some, None}
-use Rattle.trails.specs.declared.event.Event.{Event}
-use Rattle.trails.specs.declared.event.Event.TheVariants.{Access as AccessOf, Prefetch}
-use Rattle.trails.specs.declared.outcome.Access.{Access}
+use Rattle.std.specs.Prelude.{◌≡◌, ◌≤◌, ℕ, List, length, take}
 use Rattle.trails.specs.declared.step.Step.{Step}
 use Rattle.trails.specs.Printed.{HaveTexts}
 use Rattle.trace_lang.specs.Traces.{Parts}
@@ -20,6 +17,10 @@ pub record MachineState : Type 0 where
 -- the machine of the definitions that it is
 abbrev pub machine_of : (state : MachineState) → World
 machine_of s = world_of (length s.log) (memory_of s.phys) s.seats
+
+-- the log of so many first events of a trace
+abbrev pub log_at : (trace : Parts) (done : ℕ) → List Step
+log_at t k = run_of t.header (take k t.events)
 
 -- log and machine are those of the first events of the trace
 pub record IsRun (t : Parts) (log : List Step) (w : World) : Type 0 where

@@ -1,15 +1,11 @@
 -- A core with its inbox (this project's own rules).
-use Rattle.std.specs.Prelude.{◌≡◌, ◌<◌, ℕ, true, List, [], length, get_or, map, is_some, None}
-use Rattle.sysregs.specs.Refused.{refused_field}
+use Rattle.std.specs.Prelude.{◌≡◌, ◌<◌, ℕ, List, [], length, get_or, map}
 use Rattle.tlbi_ops.specs.declared.inval.Inval.{Inval}
 use Rattle.table_reads.specs.Memory.{Memory}
 use Rattle.trace_lang.specs.declared.header.Size.{Size}
 use Rattle.trace_lang.specs.declared.header.Size.TheVariants.{NoRows}
 use Rattle.trace_lang.specs.declared.header.Policy.{Policy}
 use Rattle.trace_lang.specs.declared.header.Policy.TheVariants.{Lru}
-use Rattle.trails.specs.declared.event.Event.{Event}
-use Rattle.trails.specs.declared.event.Event.TheVariants.{Store, Msr}
-use Rattle.phys_mem.specs.Memory.{is_aligned}
 use Rattle.machine_spec.specs.Header.{Header}
 use Rattle.machine_spec.specs.Machine.{Core, World}
 use Rattle.cpu_model.specs.Cores.{CoreState, new_core}

@@ -17,7 +17,7 @@ use crate::seat::Seat;
 use phys_mem::Phys;
 use sysregs::Op;
 use tlbi_ops::{Inval, decode};
-use trails::{Access, Answer, Barrier, Event, Origin};
+use trails::{Access, Answer, Barrier, Event, Origin, StepSlot};
 
 /// Whether a TLBI is issued at EL1.
 fn is_at_el1(from: Origin) -> bool
@@ -75,7 +75,7 @@ fn finish_all(seats: &mut [Seat], core: u8, kind: Barrier)
 }
 
 /// The core and the access of an event that asks for one.
-pub fn asked(event: &Event) -> Option<(u8, Access)>
+fn asked(event: &Event) -> Option<(u8, Access)>
     ensures { result ≡ asked_of event.now }
 {
     match *event {
@@ -91,24 +91,30 @@ pub fn asked(event: &Event) -> Option<(u8, Access)>
     }
 }
 
-/// The answer of an access that an event asks for.
-#[inline(always)]
-pub fn answer(phys: &Phys, seats: &mut [Seat], moment: u32, core: u8, access: &Access) -> Answer
+/// Writes the answer of an access that an event asks for, where an earlier one stood.
+fn answer(
+    phys: &Phys,
+    seats: &mut [Seat],
+    moment: u32,
+    core: u8,
+    access: &Access,
+    answer: &mut Answer,
+)
     requires { core < length seats.old }
     ensures answer { (h : Header) → (e : TheEvent) → asked_of e ≡ Some (core, access.now) → AreSeats h seats.old →
-        Some result ≡ answer_to h (world_of moment (memory_of phys.now) seats.old) e }
+        Some answer.new ≡ answer_to h (world_of moment (memory_of phys.now) seats.old) e }
     ensures cores { (h : Header) → (e : TheEvent) → asked_of e ≡ Some (core, access.now) → AreSeats h seats.old → (c : ℕ) →
         c < length seats.old → core_at (slice_index_or seats.new c no_seat)
         ≡ moved h (world_of moment (memory_of phys.now) seats.old) e c (core_at (slice_index_or seats.old c no_seat)) }
     ensures builds { (c : ℕ) → c < length seats.old → build_of (slice_index_or seats.new c no_seat) ≡ build_of (slice_index_or seats.old c no_seat) }
-    ensures text { HasTextInRun (Some result) }
+    ensures text { HasTextInRun (Some answer.new) }
 {
-    seats[core as usize].access(phys, moment, access)
+    seats[core as usize].access(phys, moment, access, answer);
 }
 
 /// Does an event that asks for no access.
 #[tactic(auto, unfolding(machine_spec::specs::Moments::stored))]
-pub fn act(phys: &mut Phys, seats: &mut [Seat], moment: u32, event: &Event)
+fn act(phys: &mut Phys, seats: &mut [Seat], moment: u32, event: &Event)
     requires here { core_of event.now < length seats.old }
     requires doable { IsDoable (memory_of phys.old) event.now }
     requires quiet { asked_of event.now ≡ None }
@@ -135,5 +141,37 @@ pub fn act(phys: &mut Phys, seats: &mut [Seat], moment: u32, event: &Event)
         Event::Dsb { core, kind } => finish_all(seats, core, kind),
         Event::Deliver { core } => seats[core as usize].deliver(),
         Event::Access { .. } | Event::Prefetch { .. } => unreachable!(),
+    }
+}
+
+/// Does an event, and leaves its step in a slot: it is answered where it asks for an access.
+pub fn act_and_answer(
+    phys: &mut Phys,
+    seats: &mut [Seat],
+    moment: u32,
+    event: &Event,
+    slot: &mut StepSlot,
+)
+    requires here { core_of event.now < length seats.old }
+    requires doable { IsDoable (memory_of phys.old) event.now }
+    ensures memory { memory_of phys.new ≡ stored (memory_of phys.old) event.now }
+    ensures ranges { phys.new.ranges ≡ phys.old.ranges }
+    ensures answer { (h : Header) → AreSeats h seats.old → slot.new.answer ≡ answer_to h (world_of moment (memory_of phys.old) seats.old) event.now }
+    ensures cores { (h : Header) → AreSeats h seats.old → (c : ℕ) → c < length seats.old → core_at (slice_index_or seats.new c no_seat)
+        ≡ moved h (world_of moment (memory_of phys.old) seats.old) event.now c (core_at (slice_index_or seats.old c no_seat)) }
+    ensures builds { (c : ℕ) → c < length seats.old → build_of (slice_index_or seats.new c no_seat) ≡ build_of (slice_index_or seats.old c no_seat) }
+    ensures event { slot.new.event ≡ event.now }
+    ensures text { HasTextInRun slot.new.answer }
+{
+    slot.event = *event;
+    match asked(event) {
+        Some((core, access)) => {
+            answer(phys, seats, moment, core, &access, &mut slot.answer);
+            slot.is_answered = true;
+        }
+        None => {
+            act(phys, seats, moment, event);
+            slot.is_answered = false;
+        }
     }
 }

@@ -150,15 +150,14 @@ impl Seat {
         self.inbox.retain(|inval| !completes(core, kind, inval));
     }
 
-    /// The answer of an access at a moment, which is the number of the step.
-    #[inline(always)]
-    pub fn access(&mut self, phys: &Phys, moment: u32, access: &Access) -> Answer
-        ensures answer { (h : Header) → Suits h self.old.core → result ≡ (visited (visit_at h self.old.core (memory_of phys.now) moment) access.now).answer }
+    /// Writes the answer of an access at a moment, which is the number of the step, where an earlier one stood.
+    pub fn access(&mut self, phys: &Phys, moment: u32, access: &Access, answer: &mut Answer)
+        ensures answer { (h : Header) → Suits h self.old.core → answer.new ≡ (visited (visit_at h self.old.core (memory_of phys.now) moment) access.now).answer }
         ensures core { (h : Header) → Suits h self.old.core →
             core_at self.new ≡ with_cache (core_at self.old) (visited (visit_at h self.old.core (memory_of phys.now) moment) access.now).cache }
         ensures build { build_of self.new ≡ build_of self.old }
-        ensures line { HasLine (printed true result.outcome) }
+        ensures line { HasLine (printed true answer.new.outcome) }
     {
-        self.cpu.access(phys, moment, access)
+        self.cpu.access(phys, moment, access, answer);
     }
 }

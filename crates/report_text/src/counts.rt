@@ -3,7 +3,7 @@ ghost use Rattle.machine_spec.specs.Summary.{no_steps, with_event, with_outcome,
 ghost use Rattle.report_text.specs.Bounds.{CanCount, HasRoom};
 
 use std::marker::Model;
-use trails::{Answer, Event, Outcome, Step};
+use trails::{Answer, Event, Outcome, StepSlot};
 
 /// The numbers of a summary, counted while a log is written.
 #[derive(Drop)]
@@ -96,15 +96,15 @@ impl Counts {
     }
 
     /// Counts a step.
-    pub fn step(&mut self, step: &Step)
+    pub fn step(&mut self, step: &StepSlot)
         requires { HasRoom self.old }
         ensures counted { self.new ≡ with_answer (with_event self.old step.now.event) step.now.answer }
         ensures range { IfSome step.now.answer (λ a. a.evicted < 2 ^ 32) }
     {
         self.event(&step.event);
-        if let Some(answer) = &step.answer {
-            self.outcome(&answer.outcome);
-            self.marks(answer);
+        if step.is_answered {
+            self.outcome(&step.answer.outcome);
+            self.marks(&step.answer);
         }
     }
 }

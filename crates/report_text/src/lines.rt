@@ -9,7 +9,7 @@ ghost use Rattle.trails.specs.Printed.{HasTextInRun};
 use crate::counts::Counts;
 use explain_text::{Sink, WriteFailed, item_lines, outcome_line, put_access};
 use texts::Line;
-use trails::{Access, Answer, Event, Outcome, Step, Trail};
+use trails::{Access, Answer, Event, Outcome, StepSlot, Trail};
 
 /// The second trail of a conflict, behind the line `or`.
 #[tactic(auto, using(explain_text::proofs::Sinks::fails_first, explain_text::proofs::Sinks::goes_on))]
@@ -94,14 +94,15 @@ fn event_lines<O: Sink>(
 }
 
 /// The lines of a step, of which only an access and a prefetch have some.
-pub fn step_lines<O: Sink>(out: &mut O, number: u64, step: &Step) -> Result<(), WriteFailed>
+pub fn step_lines<O: Sink>(out: &mut O, number: u64, step: &StepSlot) -> Result<(), WriteFailed>
     requires { HasTextInRun step.now.answer }
     ensures text { Wrote (O.written out.old) (O.written out.new) result (step_text number step.now) }
     ensures cause { HasCause (O.faults out.old) (O.faults out.new) result }
 {
-    let Some(answer) = &step.answer else {
+    if !step.is_answered {
         return Ok(());
-    };
+    }
+    let answer = &step.answer;
     match &step.event {
         Event::Access { core, access } => event_lines(out, number, *core, "access", access, answer),
         Event::Prefetch { core, access } => {

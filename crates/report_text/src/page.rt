@@ -9,7 +9,7 @@ use crate::counts::Counts;
 use crate::lines::{step_lines, summary_line};
 use explain_text::{Sink, WriteFailed};
 use std::alloc::Global;
-use trails::Step;
+use trails::StepSlot;
 
 /// How many bytes wait at least before they are handed on.
 const LEAST: usize = 32 * 1024;
@@ -78,7 +78,7 @@ pub fn put_step<O: Sink>(
     page: &mut Page,
     out: &mut O,
     number: u64,
-    step: &Step,
+    step: &StepSlot,
 ) -> Result<(), WriteFailed>
     requires { HasTextInRun step.now.answer }
     ensures text { Adds (O.written out.old) (O.written out.new) result page.old.bytes.items page.new.bytes.items (step_text number step.now) }

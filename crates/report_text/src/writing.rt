@@ -11,7 +11,7 @@ use crate::page::{Page, put_step, put_summary};
 use explain_text::{Sink, WriteFailed};
 use std::alloc::Global;
 use std::marker::Model;
-use trails::Step;
+use trails::StepSlot;
 
 /// The room of a page in bytes: what waits before it is handed on, and then the lines of one step.
 const ROOM: usize = 64 * 1024;
@@ -51,7 +51,7 @@ impl Report {
     }
 
     /// Writes the lines of the next step. After an error a first part of the report was written.
-    pub fn step<O: Sink>(&mut self, out: &mut O, step: &Step) -> Result<(), WriteFailed>
+    pub fn step<O: Sink>(&mut self, out: &mut O, step: &StepSlot) -> Result<(), WriteFailed>
         requires printable { HasTextInRun step.now.answer }
         requires few { self.old.steps < 2 ^ 32 }
         ensures text { (before : Option (List ℕ)) (log : List TheStep) → IsReportOf before (O.written out.old) self.old log →

@@ -1,5 +1,5 @@
 -- A trace that is run while its report is written: what is written so far, and that each step has a text.
-use Rattle.std.proofs.Common.{◌≡◌, ℕ, zero, suc, ◌+◌, ◌≤◌, ◌^◌, List, [], ◌∷◌, ◌++◌, length, take, get_or, Option, Result, Ok, Err, IsOk, IsErr, IfOk, refl, ap, sym, subst, append_assoc, ◌∙◌, arith}
+use Rattle.std.proofs.Common.{◌≡◌, ℕ, zero, suc, ◌+◌, ◌≤◌, ◌^◌, List, [], ◌∷◌, ◌++◌, length, take, Option, Result, Ok, Err, IsOk, IsErr, IfOk, refl, ap, sym, subst, append_assoc, ◌∙◌, arith}
 use Rattle.std.proofs.lemmas.List.{length-append}
 use Rattle.trails.specs.declared.step.Step.{Step}
 use Rattle.trails.specs.declared.event.Event.{Event}
@@ -40,27 +40,19 @@ pub more : (new old : List Step) (s : Step) (n : ℕ) → new ≡ old ++ s ∷ [
 more new old s n e l = ap length e ∙ length-append old (s ∷ []) ∙ ap (λ k. k + 1) l
 
 -- a report that has the steps so far has one more, or a first part of the whole was written
-module _ {T E : Type 0} (before now : Option (List ℕ)) (report : ReportState) (h : Header) (events : List Event) (old new : List Step) (s x : Step)
-    (e : new ≡ old ++ s ∷ []) (d : x ≡ s) where
-  pub one_more : (r : Result T E) → IsOk r → GoesOn before now r report old x → IsReportOf before now report new
-  one_more (Ok y) k g = subst (IsReportOf before now report) (ap (λ (z : Step). old ++ z ∷ []) d ∙ sym e) g
+module _ {T E : Type 0} (before now : Option (List ℕ)) (report : ReportState) (h : Header) (events : List Event) (old new : List Step) (s : Step)
+    (e : new ≡ old ++ s ∷ []) where
+  pub one_more : (r : Result T E) → IsOk r → GoesOn before now r report old s → IsReportOf before now report new
+  one_more (Ok y) k g = subst (IsReportOf before now report) (sym e) g
   one_more (Err y) k g = cc
 
   pub part_written : {U F : Type 0} (n : ℕ) → new ≡ run_of h (take n events) → (r : Result T E) (q : Result U F) → IsErr r → IsErr q
-      → GoesOn before now r report old x
+      → GoesOn before now r report old s
       → Wrote before now q (report_text (run_of h events))
   part_written n is (Ok y) q k l g = cc
   part_written n is (Err y) (Ok z) k l g = cc
   part_written n is (Err y) (Err z) k l g =
       let rest = run_rest h (opened h) n events in
-      let whole : old ++ x ∷ rest.0 ≡ run_of h events =
-      sym (append_assoc old (x ∷ []) rest.0) ∙ ap (λ (log : List Step). log ++ rest.0) (ap (λ (z : Step). old ++ z ∷ []) d ∙ sym e ∙ is) ∙ sym rest.1 in
+      let whole : old ++ s ∷ rest.0 ≡ run_of h events =
+      sym (append_assoc old (s ∷ []) rest.0) ∙ ap (λ (log : List Step). log ++ rest.0) (sym e ∙ is) ∙ sym rest.1 in
       subst (λ (log : List Step). Started before now (report_text log)) whole (g rest.0)
-
--- the last step
-last_or : (old : List Step) (s d : Step) → get_or (old ++ s ∷ []) (length old) d ≡ s
-last_or [] s d = refl
-last_or (y ∷ old) s d = last_or old s d
-
-pub last_is : (new old : List Step) (s x : Step) (k : ℕ) → new ≡ old ++ s ∷ [] → length old ≡ k → x ≡ get_or new k x → x ≡ s
-last_is new old s x k e l h = h ∙ ap (λ (log : List Step). get_or log k x) e ∙ ap (λ n. get_or (old ++ s ∷ []) n x) (sym l) ∙ last_or old s x

@@ -13,12 +13,13 @@ ghost use Rattle.statuses.specs.Stops.{Form, Stops, IsOfWhatCame};
 use bitwords::NoMemory;
 use dump_file::{Files, fill_from};
 use explain_text::{Sink, WriteFailed};
-use machine::Machine;
+use machine::Runner;
 use machine_laws::runs_keep_their_promise;
 use report_text::Report;
 use statuses::{Status, no_file};
 use std::alloc::Global;
 use trace_lang::{MOST_BYTES, Trace, TraceError, TraceRefusal, parse};
+use trails::StepSlot;
 
 /// Room for the first read of a file that tells no size, as a device.
 const FIRST_ROOM: usize = 64 * 1024;
@@ -131,25 +132,26 @@ pub fn trace<F: Files>(alloc: Global, name: &str, files: &mut F) -> Result<Trace
 }
 
 /// The machine before the first event of a trace.
-pub fn ready(alloc: Global, trace: Trace) -> Result<Machine, NoMemory>
+pub fn ready(alloc: Global, trace: Trace) -> Result<Runner, NoMemory>
     requires { IsBuilt trace.header }
     ensures report { IfOk result (λ m. IsReport trace (run_text m)) }
     ensures printable { IfOk result (λ m. IsReady m) }
 {
     runs_keep_their_promise();
-    Machine::opened(alloc, trace)
+    Runner::opened(alloc, trace)
 }
 
 /// Runs a machine to the end of its trace. The report is written meanwhile, each step while it is at hand.
-pub fn play<O: Sink>(alloc: Global, out: &mut O, machine: &mut Machine) -> Result<(), WriteFailed>
+pub fn play<O: Sink>(alloc: Global, out: &mut O, machine: &mut Runner) -> Result<(), WriteFailed>
     requires { IsReady machine.old }
     ensures text { Wrote (O.written out.old) (O.written out.new) result (run_text machine.old) }
     ensures cause { HasCause (O.faults out.old) (O.faults out.new) result }
 {
     let mut report = Report::new(alloc);
+    let mut slot = StepSlot::new();
     for k in 0..machine.left() {
-        machine.step();
-        report.step(out, &machine.log()[k])?;
+        machine.step(&mut slot);
+        report.step(out, &slot)?;
     }
     report.end(out)
 }

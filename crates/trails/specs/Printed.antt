@@ -3,7 +3,7 @@ use Rattle.std.specs.Prelude.{Bool, true, List, All, Option, Some, None}
 use Rattle.fault_codes.specs.declared.fault.Class.TheVariants.{External}
 use Rattle.fault_codes.specs.Status.{HasStatus}
 use Rattle.trails.specs.declared.outcome.Outcome.{Outcome}
-use Rattle.trails.specs.declared.outcome.Outcome.TheVariants.{Mapped, Faulted, Absent, Conflict}
+use Rattle.trails.specs.declared.outcome.Outcome.TheVariants.{Faulted, Absent}
 use Rattle.trails.specs.declared.outcome.Stop.{Stop}
 use Rattle.trails.specs.declared.outcome.Stop.TheVariants.{Fault}
 use Rattle.trails.specs.declared.step.Answer.{Answer}

@@ -20,7 +20,7 @@ returns-clause-answer c h e is are =
     let by_walk = ap Some (c.access.ensures.answer h (suits h c.args.moment m s are j x c.requires)
     ∙ ap (λ (p : Visit). (visited p a).answer)
     (visit_is h c.args.moment m s are j x c.requires ∙ ap (visit_of h w j) (sym (core_in c.args.moment m s j x c.requires)))) in
-    by_asked (λ (v : Event). Some c.access.result ≡ answer_to h w v) j a by_walk by_walk e is
+    by_asked (λ (v : Event). Some c.access.new.answer ≡ answer_to h w v) j a by_walk by_walk e is
 
 pub returns-clause-cores : goal.returns-clause-cores
 returns-clause-cores c h e is are d lt =
@@ -38,4 +38,4 @@ returns-clause-cores c h e is are d lt =
     d) e is
 
 pub returns-clause-text : goal.returns-clause-text
-returns-clause-text c = line_text (printed true c.access.result.outcome) c.access.ensures.line
+returns-clause-text c = line_text (printed true c.access.new.answer.outcome) c.access.ensures.line

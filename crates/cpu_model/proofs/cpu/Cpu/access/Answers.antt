@@ -9,11 +9,11 @@ returns-clause-answer c =
     let s = c.self.inside in
     let core : CoreState =
     record { number = s.number; size = s.size; policy = s.policy; bank = record { regs = s.force; queue = s.queue.items }; cache = no_rows } in
-    rw (← c.self.view_is, c.asid.ensures, c.vmid.ensures, c.regs.ensures, c.regs-2.ensures)
+    rw (← c.self.view_is, c.asid-answer.ensures, c.vmid-answer.ensures, c.regs.ensures, c.regs-2.ensures, c.no_second.ensures)
     (λ h suits.
-    answered core (memory_of c.args.phys.now) c.args.moment c.args.access.now c.self.invariant.2 refl h suits c.translate_at-outcome.result
-    c.translate_at-outcome.new.trail
-    c.translate_at-outcome.ensures.fresh)
+    answered core (memory_of c.args.phys.now) c.args.moment c.args.access.now c.self.invariant.2 refl h suits c.translate_at-answer.result
+    c.translate_at-answer.new.trail
+    c.translate_at-answer.ensures.fresh)
 
 pub returns-clause-after : goal.returns-clause-after
 returns-clause-after c =
@@ -24,5 +24,5 @@ returns-clause-after c =
 
 pub returns-clause-line : goal.returns-clause-line
 returns-clause-line c =
-    has_run_line c.self.inside.force (memory_of c.args.phys.now) c.args.access.now c.args.moment c.translate_at-outcome.new.trail c.translate_at-outcome.result
-    c.translate_at-outcome.ensures.fresh c.translate_at-outcome.ensures.line
+    has_run_line c.self.inside.force (memory_of c.args.phys.now) c.args.access.now c.args.moment c.translate_at-answer.new.trail c.translate_at-answer.result
+    c.translate_at-answer.ensures.fresh c.translate_at-answer.ensures.line

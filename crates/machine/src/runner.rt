@@ -1,0 +1,135 @@
+//! The machine in the middle of a trace. It keeps no step.
+ghost use Rattle.std.specs.Prelude.{◌≡◌, ◌<◌, ◌≤◌, ◌+◌, ℕ, [], ◌∷◌, ◌++◌, length, take};
+ghost use Rattle.std.specs.Prelude.{slice_get, slice_index_or, Some, None, IfOk};
+ghost use Rattle.phys_mem.specs.Words.{memory_of};
+ghost use Rattle.phys_mem.specs.Memory.{zeros};
+ghost use Rattle.phys_mem.specs.Ranges.{refusal_in};
+ghost use Rattle.trace_lang.specs.declared.header.Size.TheVariants.{NoRows};
+ghost use Rattle.trace_lang.specs.Traces.{RangesFitBehind, IsTrace};
+ghost use Rattle.machine_spec.specs.Allowed.{IsAllowed};
+ghost use Rattle.machine_spec.specs.Machine.{run_of, world_after};
+ghost use Rattle.machine.specs.Seats.{no_seat, new_seat};
+ghost use Rattle.trails.specs.Printed.{HaveTexts};
+ghost use Rattle.machine.specs.Runs.{machine_of};
+
+use crate::act::act_and_answer;
+use crate::seat::Seat;
+use bitwords::NoMemory;
+use machine_laws::runs_are_allowed;
+use phys_mem::{Phys, PhysError};
+use std::alloc::Global;
+use std::marker::Model;
+use trace_lang::{Policy, Size, Trace};
+use trails::StepSlot;
+
+/// A machine in the middle of a trace. It counts the events that were done and keeps no step: a contract sees the log of
+/// these events.
+#[derive(Drop)]
+pub struct Runner {
+    trace: Trace,
+    phys: Phys,
+    seats: Vec<Seat>,
+    done: usize,
+}
+
+impl Model for Runner {
+    ghost use Rattle.std.specs.Prelude.{◌≡◌, length};
+    ghost use Rattle.phys_mem.specs.Words.{memory_of};
+    ghost use Rattle.machine.specs.Seats.{AreSeats, world_of};
+    ghost use Rattle.machine.specs.Runs.{MachineState, IsRun, log_at};
+
+    ghost Value = { MachineState };
+
+    ghost view = { λ s. record { trace = s.trace; log = log_at s.trace s.done; phys = s.phys; seats = s.seats.items } };
+
+    ghost invariant = { λ s. IsRun s.trace (log_at s.trace s.done) (world_of (length (log_at s.trace s.done)) (memory_of s.phys) s.seats.items)
+        × AreSeats s.trace.header s.seats.items × (length s.seats.items ≡ s.trace.header.cores) × (s.phys.ranges ≡ s.trace.header.ranges)
+        × (s.done ≡ length (log_at s.trace s.done)) };
+}
+
+/// Want of memory, where nothing else is refused.
+fn shortage(why: PhysError) -> NoMemory
+    requires { refusal_in why ≡ None }
+{
+    match why {
+        PhysError::NoMemory => NoMemory,
+        PhysError::BadRange { .. } => unreachable!(),
+        PhysError::Overlap { .. } => unreachable!(),
+        PhysError::TooLarge => unreachable!(),
+    }
+}
+
+/// Memory of the ranges of a trace, all 0.
+fn memory(alloc: Global, ranges: &[(u64, u64)]) -> Result<Phys, NoMemory>
+    requires few { length ranges.now ≤ 16 }
+    requires fit { RangesFitBehind [] ranges.now }
+    ensures memory { IfOk result (λ p. memory_of p ≡ zeros ranges.now) }
+    ensures ranges { IfOk result (λ p. p.ranges ≡ ranges.now) }
+{
+    match Phys::of(alloc, ranges) {
+        Ok(phys) => Ok(phys),
+        Err(why) => Err(shortage(why)),
+    }
+}
+
+/// So many cores at first.
+fn seats_of(alloc: Global, cores: u8, size: Size, policy: Policy) -> Result<Vec<Seat>, NoMemory>
+    requires { size ≡ NoRows }
+    ensures count { IfOk result (λ v. length v.items ≡ cores) }
+    ensures each { IfOk result (λ v. (c : ℕ) → c < cores → slice_index_or v.items c no_seat ≡ new_seat c size policy) }
+{
+    let Ok(mut seats) = Vec::with_capacity(alloc, cores as usize) else {
+        return Err(NoMemory);
+    };
+    for number in 0..cores {
+        let seat = Seat::opened(alloc, number, size, policy)?;
+        seats.push_reserved(seat);
+    }
+    Ok(seats)
+}
+
+impl Runner {
+    /// The machine before the first event of a trace. All memory of the run is taken here.
+    pub fn opened(alloc: Global, trace: Trace) -> Result<Runner, NoMemory>
+        requires { trace.header.size ≡ NoRows }
+        ensures limits { IsTrace trace }
+        ensures trace { IfOk result (λ m. m.trace ≡ trace) }
+        ensures log { IfOk result (λ m. m.log ≡ []) }
+        ensures machine { IfOk result (λ m. machine_of m ≡ world_after trace.header []) }
+    {
+        let phys = memory(alloc, trace.ranges())?;
+        let seats = seats_of(alloc, trace.cores(), trace.size(), trace.policy())?;
+        Ok(Runner {
+            trace,
+            phys,
+            seats,
+            done: 0,
+        })
+    }
+
+    /// How many events are left.
+    pub fn left(&self) -> usize
+        ensures { result + length self.now.log ≡ length self.now.trace.events }
+    {
+        self.trace.events().len() - self.done
+    }
+
+    /// Does the next event, and leaves its step in a slot. It is allowed behind the log before it.
+    pub fn step(&mut self, slot: &mut StepSlot)
+        requires { length self.old.log < length self.old.trace.events }
+        ensures trace { self.new.trace ≡ self.old.trace }
+        ensures log { self.new.log ≡ self.old.log ++ slot.new ∷ [] }
+        ensures event { slice_get self.old.trace.events (length self.old.log) ≡ Some slot.new.event }
+        ensures allowed { IsAllowed self.old.trace.header self.old.log slot.new }
+        ensures run { self.new.log ≡ run_of self.old.trace.header (take (length self.new.log) self.old.trace.events) }
+        ensures machine { machine_of self.new ≡ world_after self.old.trace.header (take (length self.new.log) self.old.trace.events) }
+        ensures texts { HaveTexts self.new.log }
+    {
+        runs_are_allowed();
+        let k = self.done;
+        let event = self.trace.events()[k];
+        self.done += 1;
+        let seats = self.seats.as_mut_slice();
+        act_and_answer(&mut self.phys, seats, k as u32, &event, slot);
+    }
+}
