@@ -1,5 +1,5 @@
 -- How stage 1 is walked from its base, on or off.
-use Rattle.std.proofs.Common.{◌≡◌, ℕ, ◌≤◌, List, [], ◌∷◌, Bool, true, false, Option, None, refl, sym, ap, subst, arith, Result, Ok, Err, ◌%◌, ◌^◌, if◌then◌else◌}
+use Rattle.std.proofs.Common.{◌≡◌, ℕ, ◌≤◌, List, [], ◌∷◌, Bool, true, false, None, refl, sym, ap, subst, arith, Result, Ok, Err, ◌%◌, ◌^◌, if◌then◌else◌}
 use Rattle.std.specs.Prelude.{ℤ, pos, negsuc, ◌≤ℤ◌}
 use Rattle.std.proofs.lemmas.Int.{ints}
 use Rattle.geometry.specs.Tables.{most_left, level_of, left_below}
@@ -31,6 +31,7 @@ use Rattle.walk_spec.specs.Walked.{ReadsNow, Walked}
 use Rattle.walk_spec.proofs.Walks.{walked_done, walked_ends, walked_goes, walked_weaker}
 use Rattle.stage1_walk.specs.declared.walk.From1.{From1}
 use Rattle.translate.specs.declared.begin.Begin1.TheVariants.{Off, On}
+use Rattle.translate.specs.declared.stage1.Output1.{Output1}
 use Rattle.translate.specs.Checked.{RegsAt}
 use Rattle.translate.specs.Parts.{refusal, begin1_on, begin1_of, root1_of}
 use Rattle.translate.specs.Deep.{Reads2, WalkedFrom1, WalkedOn1, WalkedStage1, leaf_answer}
@@ -141,9 +142,9 @@ module _ (under : RegsAt) (a : Access) (m : Told) where
   stage_refused F new f h n = refused_at F [] new f (config_of under.regs).m h n
 
   -- stage 1 is off
-  pub stage_off : (F : Type 0) (new : List Item) → ((config_of under.regs).m ≡ false) × (is_refused_off (config_of under.regs) a ≡ false) → new ≡ []
-      → WalkedStage1 m F under a new (Ok None)
-  stage_off F new h n =
+  pub stage_off : (F : Type 0) (new : List Item) (out : ℕ) → ((config_of under.regs).m ≡ false) × (is_refused_off (config_of under.regs) a ≡ false)
+      → new ≡ [] → WalkedStage1 m F under a new (Ok record { out = out; leaf = None })
+  stage_off F new out h n =
       let s : stage1_off q ≡ done (reaches (off_leaf (config_of under.regs) a)) =
       ap done (off_with (is_refused_off (config_of under.regs) a) h.1 (stops (fault1 AddressSize most_left))
       (reaches (off_leaf (config_of under.regs) a))) in
@@ -153,7 +154,7 @@ module _ (under : RegsAt) (a : Access) (m : Told) where
       (walked_done reads m F (reaches (off_leaf (config_of under.regs) a)) [] new (Ok (off_leaf (config_of under.regs) a)) n refl))
 
   -- stage 1 is on
-  pub stage_on : (F : Type 0) (new : List Item) (r : Result Leaf1 Stop) (s : Result (Option Leaf1) Stop) → (config_of under.regs).m ≡ true
+  pub stage_on : (F : Type 0) (new : List Item) (r : Result Leaf1 Stop) (s : Result Output1 Stop) → (config_of under.regs).m ≡ true
       → leaf_answer (config_of under.regs) a s ≡ r → WalkedOn1 m F under a new r → WalkedStage1 m F under a new s
   stage_on F new r s h e w =
       subst (λ t. Walked reads m F t [] new (leaf_answer (config_of under.regs) a s)) (sym (on_with (config_of under.regs).m h (stage1_on q) (stage1_off q)))
