@@ -8,7 +8,7 @@ use Rattle.sysregs.specs.declared.regs.Side.{Side}
 use Rattle.sysregs.specs.Registers.{config_of}
 use Rattle.sysregs.specs.Sides.{side_of, txsz_of, epd_of, e0pd_of}
 use Rattle.fault_codes.specs.declared.fault.Fault.{Fault}
-use Rattle.fault_codes.specs.declared.fault.Stage.TheVariants.{S1, S2}
+use Rattle.fault_codes.specs.declared.fault.Stage.TheVariants.{S1}
 use Rattle.fault_codes.specs.declared.fault.Class.TheVariants.{Translation, AddressSize}
 use Rattle.trails.specs.declared.item.Item.{Item}
 use Rattle.trails.specs.declared.outcome.Access.{Access}
@@ -28,7 +28,7 @@ use Rattle.stage1_walk.specs.Sized.{IsSized1}
 use Rattle.stage2_walk.specs.Entered.{IsSized2, enter2_of}
 use Rattle.stage2_walk.proofs.Entered.{entered, refused}
 use Rattle.translate.specs.declared.begin.Begin1.{Begin1}
-use Rattle.translate.specs.declared.begin.Begin1.TheVariants.{Off, On}
+use Rattle.translate.specs.declared.begin.Begin1.TheVariants.{Off}
 use Rattle.translate.specs.declared.start.Start.{Start}
 use Rattle.translate.specs.Checked.{HasBase, IsStart1, IsStart2}
 use Rattle.translate.specs.Parts.{refusal, off1_of, enter1_of, begin1_on, begin1_of, begin2_of}
@@ -77,12 +77,6 @@ module _ (c : Config) (a : Access) where
   off_begins r m h = h ∙ sym (off_with c.m m _ _)
 
   -- stage 1 begins as it is entered
-  pub begins_on : (n : Sizes) → c.m ≡ true → Ok n ≡ enter1_of c a → Ok (On (side_of a.va) (level_of n.start)) ≡ begin1_of c a
-  begins_on n m h =
-      let e = entered1 n h in
-      on_begins (Ok (On (side_of a.va) (level_of n.start))) m
-      (ap (λ z. Ok (On (side_of a.va) (level_of z.start))) e.1 ∙ sym (off_with (is_refused1 c a) e.0 _ _))
-
   pub begins_refused : (f : Fault) → c.m ≡ true → Err f ≡ enter1_of c a → Err f ≡ begin1_of c a
   begins_refused f m h =
       let e = err_by (is_refused1 c a) (refusal S1 false Translation) f (sizes1 c (side_of a.va)) h in
@@ -97,10 +91,6 @@ module _ (c : Config) (a : Access) where
   begins_refused_off f m h =
       let e = err_by (is_refused_off c a) (refusal S1 false AddressSize) f (a.va % 2 ^ 52) h in
       off_begins (Err f) m (ap Err e.1 ∙ sym (on_with (is_refused_off c a) e.0 _ _))
-
-  -- the IPA of a stage that is off
-  pub off_is : (ipa : ℕ) → Ok ipa ≡ off1_of c a → ipa ≡ a.va % 2 ^ 52
-  off_is ipa h = (ok_by (is_refused_off c a) (refusal S1 false AddressSize) (a.va % 2 ^ 52) ipa h).1
 
   -- what a walk is done under is what is asked
   asked_is : (w : Under1) → IsUnderFor c a w → asked_under w ≡ asked c true a

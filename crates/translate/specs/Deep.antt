@@ -1,5 +1,5 @@
 -- How the words of stage 1 are had over a supply of words of memory: with stage 2 on, by stage 2 of each place.
-use Rattle.std.specs.Prelude.{ℕ, ℤ, ◌≡◌, ◌≤◌, List, [], ◌∷◌, ◌++◌, Bool, Option, Result, Ok, Err, true, false}
+use Rattle.std.specs.Prelude.{ℕ, ℤ, ◌≡◌, ◌≤◌, List, [], ◌∷◌, ◌++◌, Bool, Result, Ok, Err, true, false}
 use Rattle.bitwords.specs.Causes.{Rose}
 use Rattle.geometry.specs.Tables.{level_of}
 use Rattle.sysregs.specs.declared.regs.Regs.{Regs}

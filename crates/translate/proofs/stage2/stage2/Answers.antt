@@ -1,4 +1,4 @@
-use Rattle.std.proofs.Common.{◌≡◌, refl, ap, Err, ◌∙◌}
+use Rattle.std.proofs.Common.{refl, ap, Err}
 use Rattle.sysregs.specs.Registers.{config_of}
 use Rattle.trails.specs.declared.outcome.Stop.TheVariants.{Fault as FaultStop}
 use Rattle.stage2_walk.proofs.Accepted.{accepted_sizes}

@@ -1,9 +1,6 @@
-use Rattle.std.proofs.Common.{◌≡◌, true}
 use Rattle.sysregs.specs.Registers.{config_of}
 use Rattle.sysregs.specs.Sides.{side_of}
-use Rattle.table_reads.specs.Numbers.{is_sized1}
 use Rattle.stage1_walk.proofs.Accepted.{accepted_size}
-use Rattle.stage1_walk.specs.Sized.{IsSized1}
 use Rattle.translate.proofs.Entering.{none_sized1}
 use Rattle.translate.proofs.tables.walk1_from.Goals as goal
 
