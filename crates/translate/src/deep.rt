@@ -43,7 +43,9 @@ impl<'a, S: Supply> Supply1 for Deep<'a, S> {
     }
 }
 
-/// Stage 1 from a table, over a supply that keeps its reference.
+/// Stage 1 from a table, over a supply that keeps its reference. It is a call of its own so that this has a clause: what
+/// the caller's supply becomes is known only where the walk's clause says that the reference is the same, and that of
+/// `walk1_left` speaks of any supply.
 fn walk_kept<S: Supply>(
     under: &Under,
     walk: &Under1,
