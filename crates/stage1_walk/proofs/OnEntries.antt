@@ -16,7 +16,7 @@ use Rattle.walk_spec.specs.declared.leaf.Leaf1.{Leaf1}
 use Rattle.walk_spec.specs.Ask.{Ask, done, ask, Ran}
 use Rattle.walk_spec.specs.Steps.{End, stops, reaches, step_then}
 use Rattle.walk_spec.specs.Stage1.{Asked, untagged, fault1, step1, entry1, walk1_from}
-use Rattle.stage1_walk.specs.declared.step.Under1.{Under1}
+use Rattle.stage1_walk.specs.declared.under.Under1.{Under1}
 use Rattle.stage1_walk.specs.Under.{IsUnder, asked_under}
 use Rattle.stage1_walk.specs.Gave.{Gave, IsLastPlace, by_entry, Walked1, answer_of}
 

@@ -5,6 +5,7 @@ pub use Rattle.walk_spec.specs.Stage2
 pub use Rattle.walk_spec.specs.Stage1
 pub use Rattle.walk_spec.specs.BothStages
 pub mod Gave
+pub mod Sized
 pub mod Under
 pub mod SoundSteps
 pub mod Clauses

@@ -7,7 +7,7 @@ use Rattle.trails.specs.declared.outcome.Access.{Access}
 use Rattle.table_reads.specs.Numbers.{AreSound, sizes1}
 use Rattle.walk_spec.specs.Needs.{Regime, regime_with}
 use Rattle.walk_spec.specs.Stage1.{Asked, untagged}
-use Rattle.stage1_walk.specs.declared.step.Under1.{Under1}
+use Rattle.stage1_walk.specs.declared.under.Under1.{Under1}
 
 -- the regime
 abbrev pub regime_under : (under : Under1) → Regime

@@ -8,13 +8,12 @@ ghost use Rattle.descriptors.specs.Meaning.{means1_of};
 ghost use Rattle.walk_spec.specs.Needs.{fits, word, mapping1, serves_run, regime_of};
 ghost use Rattle.walk_spec.specs.Stage1;
 ghost use Rattle.walk_spec.specs.BothStages.{asked, is_refused1};
-ghost use Rattle.stage1_walk.specs.Under.{IsUnder, IsUnderFor, asked_under, regime_under};
+ghost use Rattle.stage1_walk.specs.Under.{IsUnder, regime_under};
 ghost use Rattle.stage1_walk.specs.SoundSteps.{IsSoundStep};
 ghost use Rattle.stage1_walk.specs.Kept.{needed1};
 
-use crate::sizes::sizes1;
-use crate::step::{Under1, meaning, step_by};
-use crate::walk::untagged;
+use crate::step::{meaning, step_by};
+use crate::under::Under1;
 use descriptors::Kind1;
 use fault_codes::Stage;
 use geometry::serves_run;
@@ -23,23 +22,6 @@ use sysregs::Config;
 use table_reads::{Lead, place};
 use trails::{Access, Item};
 use walk_spec::{Entry1, Leaf1, Table1};
-
-/// What a walk of an access that is not refused is done under.
-fn under<'a>(config: &'a Config, access: &'a Access) -> Under1<'a>
-    requires config { InRange config.now }
-    requires accepted { IsFalse (is_refused1 config.now access.now) }
-    ensures under { IsUnder result }
-    ensures value { IsUnderFor config.now access.now result }
-{
-    let side = sysregs::side(access.va);
-    Under1 {
-        config,
-        access,
-        address: untagged(access.va),
-        sizes: sizes1(config, side),
-        side,
-    }
-}
 
 /// The entry that an access selects in a table with so many levels left.
 pub fn entry1<const G: u32>(config: &Config, access: &Access, left: u32, table: Table1) -> Entry1
@@ -50,7 +32,7 @@ pub fn entry1<const G: u32>(config: &Config, access: &Access, left: u32, table: 
     requires table { table.address < 2 ^ 52 × table.address % 8 ≡ 0 }
     ensures { result ≡ Stage1.entry1 (asked config.now true access.now) left table }
 {
-    let under = under(config, access);
+    let under = Under1::accepted(config, access);
     Entry1 {
         table,
         place: place::<G>(&under.sizes, left, table.address, under.address),
@@ -102,7 +84,7 @@ pub fn fits_entry<const G: u32>(
     requires left { entry.now.left ≤ most_left }
     ensures { result ≡ fits (regime_of config.now (side_of access.now.va)) (word (needed1 entry.now place)) item.now }
 {
-    fits_under::<G>(&under(config, access), entry, place, item)
+    fits_under::<G>(&Under1::accepted(config, access), entry, place, item)
 }
 
 /// What the word of an item leads to, for an access that is judged.
@@ -119,5 +101,10 @@ pub fn step_kept<const G: u32>(
     ensures value { result ≡ Stage1.step1 (asked config.now true access.now) entry.now item.now.pa item.now.value }
     ensures sound { IsSoundStep entry.now.left result }
 {
-    step_by::<G>(&under(config, access), entry, item.pa, item.value)
+    step_by::<G>(
+        &Under1::accepted(config, access),
+        entry,
+        item.pa,
+        item.value,
+    )
 }

@@ -11,6 +11,7 @@ ghost use Rattle.walk_spec.specs.Stage1.{fault1, leaf1_of, judged1, step1};
 ghost use Rattle.stage1_walk.specs.Under.{IsUnder, regime_under, asked_under};
 ghost use Rattle.stage1_walk.specs.SoundSteps.{IsSoundStep};
 
+use crate::under::Under1;
 use attributes::types::{mair, share};
 use bitwords::power;
 use descriptors::{Kind1, decode1};
@@ -18,19 +19,9 @@ use fault_codes::{Class, Fault, Stage};
 use geometry::{case_table, goes_to, leaf_class};
 use permissions::{TableBits, allows1, perms1};
 use sysregs::{Config, Side};
-use table_reads::{Lead, Sizes, Walker, is_too_large, level};
+use table_reads::{Lead, Walker, is_too_large, level};
 use trails::Access;
 use walk_spec::{Entry1, Fields1, Leaf1, Table1};
-
-/// What a walk through stage 1 is done under. `address` is the access's without its tag.
-#[derive(Clone, Copy)]
-pub(crate) struct Under1<'a> {
-    pub config: &'a Config,
-    pub access: &'a Access,
-    pub address: u64,
-    pub sizes: Sizes,
-    pub side: Side,
-}
 
 /// A fault with so many levels left.
 fn fault(class: Class, left: u32) -> Fault

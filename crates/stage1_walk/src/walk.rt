@@ -4,15 +4,14 @@ ghost use Rattle.sysregs.specs.Registers.{InRange, granule_of};
 ghost use Rattle.sysregs.specs.Sides.{side_of, tg_of};
 ghost use Rattle.trails.specs.Lengths.{most_items, most_per_word};
 ghost use Rattle.trails.specs.Printed.{HasTextStop};
-ghost use Rattle.walk_spec.specs.Stage1.{untagged};
 ghost use Rattle.walk_spec.specs.BothStages.{asked, is_refused1};
 ghost use Rattle.stage1_walk.specs.Under.{IsUnder, asked_under};
 ghost use Rattle.stage1_walk.specs.Clauses.{IsTableOf, table_from};
 ghost use Rattle.stage1_walk.specs.Gave.{Gave, IsLastPlace, Walked1};
 
-use crate::sizes::sizes1;
-use crate::step::{Under1, step_by};
+use crate::step::step_by;
 use crate::supply::Supply1;
+use crate::under::Under1;
 use permissions::TableBits;
 use sysregs::Config;
 use table_reads::{Lead, left_below, level, place};
@@ -49,8 +48,9 @@ fn word_of<S: Supply1>(entry: &Entry1, supply: &mut S, trail: &mut Trail) -> Res
     supply.word_at(level(entry.left), entry.place, trail)
 }
 
-/// The walk from a table with so many levels left.
-fn walk_left<const G: u32, S: Supply1>(
+/// The walk from a table with so many levels left down to a leaf, under numbers that are at hand, over any supply of its
+/// words.
+pub fn walk1_under<const G: u32, S: Supply1>(
     under: &Under1,
     mut left: u32,
     mut table: Table1,
@@ -85,13 +85,6 @@ fn walk_left<const G: u32, S: Supply1>(
     }
 }
 
-/// The address as indices and offsets see it, without what stands above bit 55.
-pub(crate) fn untagged(va: u64) -> u64
-    ensures { result ≡ untagged va }
-{
-    va % (1 << 56)
-}
-
 /// The walk through stage 1 from a table down to a leaf, over any supply of its words, which appends their items.
 pub fn walk1<const G: u32, S: Supply1>(
     config: &Config,
@@ -110,17 +103,10 @@ pub fn walk1<const G: u32, S: Supply1>(
     ensures walked { Walked1 S.gives (asked config.now true access.now) (left_below from.now.level) (table_from from.now)
         supply.old trail.old trail.new result supply.new }
 {
-    let side = sysregs::side(access.va);
-    let under = Under1 {
-        config,
-        access,
-        address: untagged(access.va),
-        sizes: sizes1(config, side),
-        side,
-    };
+    let under = Under1::accepted(config, access);
     let table = Table1 {
         address: from.base,
         bits: from.tables,
     };
-    walk_left::<G, S>(&under, left_below(from.level), table, supply, trail)
+    walk1_under::<G, S>(&under, left_below(from.level), table, supply, trail)
 }

@@ -9,7 +9,7 @@ use Rattle.table_reads.specs.Memory.{Told}
 use Rattle.walk_spec.specs.declared.leaf.Leaf2.{Leaf2}
 use Rattle.walk_spec.specs.Stage2.{Asked2, walk2_from}
 use Rattle.walk_spec.specs.Walked.{Walked, ReadsWord}
-use Rattle.stage2_walk.specs.declared.step.Under2.{Under2}
+use Rattle.stage2_walk.specs.declared.under.Under2.{Under2}
 use Rattle.stage2_walk.specs.declared.walk.From2.{From2}
 use Rattle.stage2_walk.specs.Under.{asked_under}
 

@@ -4,6 +4,7 @@ pub use Rattle.walk_spec.specs.Steps
 pub use Rattle.walk_spec.specs.Stage2
 pub use Rattle.walk_spec.specs.Walked
 pub mod Under
+pub mod Entered
 pub mod SoundSteps
 pub mod Clauses
 pub mod Standing

@@ -7,7 +7,7 @@ use Rattle.table_reads.specs.declared.levels.Walker.{Walker}
 use Rattle.table_reads.specs.Numbers.{AreSound, sizes1}
 use Rattle.walk_spec.specs.Needs.{Regime}
 use Rattle.walk_spec.specs.Stage2.{Asked2}
-use Rattle.stage2_walk.specs.declared.step.Under2.{Under2}
+use Rattle.stage2_walk.specs.declared.under.Under2.{Under2}
 
 -- what is asked
 abbrev pub asked_under : (under : Under2) → Asked2

@@ -1,14 +1,18 @@
-ghost use Rattle.std.specs.Prelude.{◌≡◌, ◌<◌, pos, ◌≤ℤ◌};
-ghost use Rattle.geometry.specs.Tables.{is_suited_at};
+ghost use Rattle.std.specs.Prelude.{◌≡◌, ◌<◌, pos, ◌≤ℤ◌, IfSome, IfOk, IfErr};
+ghost use Rattle.geometry.specs.Tables.{most_left, is_suited_at};
 ghost use Rattle.sysregs.specs.Registers.{InRange, granule_of};
-ghost use Rattle.table_reads.specs.Numbers.{is_sized2};
-ghost use Rattle.walk_spec.specs.Stage2;
+ghost use Rattle.fault_codes.specs.Status.{HasStatus};
+ghost use Rattle.fault_codes.specs.declared.fault.Stage.TheVariants.{S2};
+ghost use Rattle.table_reads.specs.Numbers.{AreSound, is_sized2};
+ghost use Rattle.table_reads.specs.Items.{fault_at};
+ghost use Rattle.stage2_walk.specs.Entered.{IsSized2, enter2_of};
 
-use crate::sizes::start_level;
+use crate::sizes::{sizes2, start_level};
 use bitwords::power;
+use fault_codes::{Class, Fault, Stage};
 use geometry::{case_table, suits2};
 use sysregs::{Config, Tg};
-use table_reads::is_sized;
+use table_reads::{MOST_LEFT, Sizes, Walker, fault, is_sized};
 
 /// Whether a stage 2 input size suits a start level.
 fn is_suited(tg: Tg, start: i8, input: u32) -> bool
@@ -34,14 +38,42 @@ fn has_sizes(config: &Config) -> bool
     is_suited(config.tg2, start, 64 - config.t2sz)
 }
 
-/// Whether stage 2 refuses an IPA before any table.
-#[tactic(auto, unfolding(walk_spec::specs::Stage2::is_refused2), using(crate::proofs::Starts::sized_input))]
-pub fn is_refused2(config: &Config, ipa: u64) -> bool
+/// The numbers of stage 2, where its sizes are in range and suit each other.
+pub fn sized2(config: &Config) -> Option<Sizes>
     requires { InRange config.now }
-    ensures { result ≡ Stage2.is_refused2 config.now ipa }
+    ensures sized { IsSized2 config.now result }
+    ensures sound { IfSome result AreSound }
 {
-    if !has_sizes(config) {
-        return true;
+    if has_sizes(config) {
+        Some(sizes2(config))
+    } else {
+        None
     }
-    ipa >= power(64 - config.t2sz)
+}
+
+/// A fault before any word.
+pub(crate) fn refusal(s1ptw: bool, class: Class) -> Fault
+    ensures value { result ≡ fault_at S2 s1ptw class most_left }
+    ensures status { HasStatus result }
+{
+    let walker = Walker {
+        moment: 0,
+        stage: Stage::S2,
+        s1ptw,
+    };
+    fault(&walker, class, MOST_LEFT)
+}
+
+/// What stage 2 checks before any table, with its numbers where they are in range and suit each other: the numbers, or
+/// the fault of an IPA that is refused. `s1ptw` marks the place of a stage 1 descriptor.
+pub fn enter2(sizes: Option<Sizes>, ipa: u64, s1ptw: bool) -> Result<Sizes, Fault>
+    requires { IfSome sizes AreSound }
+    ensures entered { (c : Config) → IsSized2 c sizes → result ≡ enter2_of c ipa s1ptw }
+    ensures sound { IfOk result AreSound }
+    ensures status { IfErr result HasStatus }
+{
+    match sizes {
+        Some(sizes) if ipa < power(sizes.input) => Ok(sizes),
+        _ => Err(refusal(s1ptw, Class::Translation)),
+    }
 }

@@ -14,16 +14,16 @@ ghost use Rattle.walk_spec.specs.Stage2.{walk2_from, walk2_behind};
 ghost use Rattle.stage2_walk.specs.Under.{IsUnder, asked_under, regime_under};
 ghost use Rattle.stage2_walk.specs.Standing.{IsStood2, needed, table_at, asked2_at};
 
-use crate::refusals::is_refused2;
-use crate::sizes::sizes2;
-use crate::step::{Under2, meaning, step_by};
+use crate::refusals::{enter2, refusal, sized2};
+use crate::step::{meaning, step_by};
+use crate::under::Under2;
 use crate::walk::From2;
 use descriptors::Kind2;
 use fault_codes::{Class, Fault, Stage};
 use geometry::{case_table, serves_run};
 use kept_items::{fits_base, is_word, item_at};
 use sysregs::{Config, Tg};
-use table_reads::{Lead, MOST_LEFT, Walker, fault, is_too_large, level, place};
+use table_reads::{Lead, is_too_large, level, place};
 use trails::Item;
 use walk_spec::Leaf2;
 
@@ -122,18 +122,6 @@ fn fits_start(under: &Under2, item: &Item) -> bool
     fits_base(&under.sizes, Stage::S2, item)
 }
 
-/// A fault before any word.
-fn refusal(s1ptw: bool, class: Class) -> Fault
-    ensures { result ≡ fault_at S2 s1ptw class most_left }
-{
-    let walker = Walker {
-        moment: 0,
-        stage: Stage::S2,
-        s1ptw,
-    };
-    fault(&walker, class, MOST_LEFT)
-}
-
 /// How the walk from a base that fits stands on the items behind it, by the granule of stage 2.
 fn stand_behind(under: &Under2, base: u64, items: &[Item], at: usize) -> Stood2
     requires under { IsUnder under.now }
@@ -179,18 +167,17 @@ pub fn stand2(config: &Config, ipa: u64, ptw: bool, items: &[Item], at: usize) -
     ensures { (s : Side) → IsStood2 config.now items.now result
         (on (fits (regime_of config.now s)) (Stage2.walk2 (asked2_at config.now ptw ipa)) (drop at items.now)) }
 {
-    if is_refused2(config, ipa) {
-        return Stood2::Refused {
-            fault: refusal(ptw, Class::Translation),
-            at,
-        };
+    match enter2(sized2(config), ipa, ptw) {
+        Ok(sizes) => {
+            let under = Under2 {
+                config,
+                ipa,
+                sizes,
+                moment: 0,
+                s1ptw: ptw,
+            };
+            stand_on(&under, items, at)
+        }
+        Err(fault) => Stood2::Refused { fault, at },
     }
-    let under = Under2 {
-        config,
-        ipa,
-        sizes: sizes2(config),
-        moment: 0,
-        s1ptw: ptw,
-    };
-    stand_on(&under, items, at)
 }

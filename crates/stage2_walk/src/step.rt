@@ -6,40 +6,18 @@ ghost use Rattle.fault_codes.specs.declared.fault.Class.TheVariants.{Permission}
 ghost use Rattle.descriptors.specs.Meaning.{means2_of};
 ghost use Rattle.descriptors.specs.Bounds.{IsBounded2};
 ghost use Rattle.walk_spec.specs.Stage2.{fault2, leaf2_of, step2};
-ghost use Rattle.stage2_walk.specs.Under.{IsUnder, asked_under, walker_under};
+ghost use Rattle.stage2_walk.specs.Under.{IsUnder, asked_under};
 ghost use Rattle.stage2_walk.specs.SoundSteps.{IsSoundStep};
 
+use crate::under::Under2;
 use attributes::types::{s2_attr, share};
 use descriptors::{Kind2, decode2};
-use fault_codes::{Class, Stage};
+use fault_codes::Class;
 use geometry::{case_table, goes_to, leaf_class};
 use permissions::perms2;
 use sysregs::Config;
-use table_reads::{Lead, Sizes, Walker, fault, is_too_large, level};
+use table_reads::{Lead, fault, is_too_large, level};
 use walk_spec::{Fields2, Leaf2};
-
-/// What a walk through stage 2 is done under: `s1ptw` marks the place of a stage 1 descriptor.
-#[derive(Clone, Copy)]
-pub(crate) struct Under2<'a> {
-    pub config: &'a Config,
-    pub ipa: u64,
-    pub sizes: Sizes,
-    pub moment: u32,
-    pub s1ptw: bool,
-}
-
-impl<'a> Under2<'a> {
-    /// Stage 2 with this mark at this moment.
-    pub fn walker(&self) -> Walker
-        ensures { result ≡ walker_under self.now }
-    {
-        Walker {
-            moment: self.moment,
-            stage: Stage::S2,
-            s1ptw: self.s1ptw,
-        }
-    }
-}
 
 fn decode_at<const G: u32>(left: u32, word: u64, config: &Config) -> Kind2
     requires granule { G ≡ granule_of config.now.tg2 }

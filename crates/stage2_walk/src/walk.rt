@@ -11,7 +11,8 @@ ghost use Rattle.stage2_walk.specs.SoundSteps.{IsSoundLeaf};
 ghost use Rattle.stage2_walk.specs.Clauses.{IsTableOf, WalkedLeft, WalkedFrom};
 
 use crate::sizes::sizes2;
-use crate::step::{Under2, step_by};
+use crate::step::step_by;
+use crate::under::Under2;
 use sysregs::Config;
 use table_reads::{Lead, Supply, left_below, level, place, read};
 use trails::{Stop, Trail};
@@ -44,8 +45,9 @@ fn read_word<S: Supply>(
     read(&under.walker(), level(left), place, supply, trail)
 }
 
-/// The walk from a table with so many levels left.
-fn walk_left<const G: u32, S: Supply>(
+/// The walk from a table with so many levels left down to a leaf, under numbers that are at hand. The items of its words
+/// are appended.
+pub fn walk2_under<const G: u32, S: Supply>(
     under: &Under2,
     mut left: u32,
     mut table: u64,
@@ -111,5 +113,5 @@ pub fn walk2<const G: u32, S: Supply>(
         moment,
         s1ptw: ptw,
     };
-    walk_left::<G, S>(&under, left_below(from.level), from.base, supply, trail)
+    walk2_under::<G, S>(&under, left_below(from.level), from.base, supply, trail)
 }

@@ -1,13 +1,9 @@
 -- How stage 2 is walked from its base.
-use Rattle.std.proofs.Common.{◌≡◌, ℕ, List, [], ◌∷◌, ◌++◌, Bool, true, false, refl, sym, subst, Result, Ok, Err}
-use Rattle.std.specs.Prelude.{ℤ}
-use Rattle.geometry.specs.Tables.{most_left, level_of}
-use Rattle.sysregs.specs.declared.regs.Regs.{Regs}
-use Rattle.sysregs.specs.declared.regs.Config.{Config}
+use Rattle.std.proofs.Common.{◌≡◌, ℕ, List, [], ◌∷◌, ◌++◌, Bool, true, false, refl, sym, subst, Result, Err}
+use Rattle.geometry.specs.Tables.{most_left}
 use Rattle.sysregs.specs.Registers.{config_of}
 use Rattle.fault_codes.specs.declared.fault.Stage.TheVariants.{S2}
 use Rattle.fault_codes.specs.declared.fault.Class.TheVariants.{Translation, AddressSize}
-use Rattle.fault_codes.specs.declared.fault.Fault.{Fault}
 use Rattle.trails.specs.declared.item.Item.{Item}
 use Rattle.trails.specs.declared.outcome.Stop.{Stop}
 use Rattle.trails.specs.declared.outcome.Stop.TheVariants.{Fault as FaultStop}
@@ -23,31 +19,10 @@ use Rattle.walk_spec.specs.Stage2.{Asked2, fault2, is_refused2, walk2_from, walk
 use Rattle.walk_spec.specs.Fresh.{start_base2}
 use Rattle.walk_spec.specs.Walked.{ReadsWord, Walked}
 use Rattle.walk_spec.proofs.Walks.{walked_done, walked_ends, walked_goes, walked_weaker}
-use Rattle.stage2_walk.specs.declared.walk.From2.{From2}
 use Rattle.translate.specs.Checked.{RegsAt}
-use Rattle.translate.specs.Parts.{refusal, begin2_of, root2_of}
+use Rattle.translate.specs.Parts.{refusal}
 use Rattle.translate.specs.Deep.{Reads2, asked2_of, Walked2}
-use Rattle.translate.proofs.Choices.{on_with, off_with, ok_by, err_by}
-
--- stage 2 begins
-pub begun2 : (c : Config) (ipa : ℕ) (p : Bool) (l : ℤ) → Ok l ≡ begin2_of c ipa p → (is_refused2 c ipa ≡ false) × (l ≡ level_of (sizes2 c).start)
-begun2 c ipa p l h = ok_by (is_refused2 c ipa) (refusal S2 p Translation) (level_of (sizes2 c).start) l h
-
--- stage 2 is refused
-pub refused_begin2 : (c : Config) (ipa : ℕ) (p : Bool) (f : Fault) → Err f ≡ begin2_of c ipa p → (is_refused2 c ipa ≡ true) × (f ≡ refusal S2 p Translation)
-refused_begin2 c ipa p f h = err_by (is_refused2 c ipa) (refusal S2 p Translation) f (level_of (sizes2 c).start) h
-
--- the start table
-abbrev pub first2 : (regs : Regs) → From2
-first2 regs = record { base = start_base2 regs; level = level_of (sizes2 (config_of regs)).start }
-
-pub rooted2 : (regs : Regs) (p : Bool) (from : From2) → Ok from ≡ root2_of regs p
-    → (is_too_large (sizes2 (config_of regs)) (start_base2 regs) ≡ false) × (from ≡ first2 regs)
-rooted2 regs p from h = ok_by (is_too_large (sizes2 (config_of regs)) (start_base2 regs)) (refusal S2 p AddressSize) (first2 regs) from h
-
-pub refused_root2 : (regs : Regs) (p : Bool) (f : Fault) → Err f ≡ root2_of regs p
-    → (is_too_large (sizes2 (config_of regs)) (start_base2 regs) ≡ true) × (f ≡ refusal S2 p AddressSize)
-refused_root2 regs p f h = err_by (is_too_large (sizes2 (config_of regs)) (start_base2 regs)) (refusal S2 p AddressSize) f (first2 regs) h
+use Rattle.translate.proofs.Choices.{on_with, off_with}
 
 module _ (under : RegsAt) (m : Told) (p : Bool) (ipa : ℕ) where
   abbrev q : Asked2

@@ -24,6 +24,7 @@ use Rattle.walk_spec.specs.BothStages.{Landing, landed, piece, judged2, outcome_
 use Rattle.walk_spec.specs.Walked.{LacksFor, WalkedWhole, HasLine, result_of}
 use Rattle.walk_spec.proofs.Feeding.{took_after, took_after_lacks, took_weaker}
 use Rattle.walk_spec.proofs.Walks.{lacks_weaker}
+use Rattle.translate.specs.declared.stage1.Output1.{Output1}
 use Rattle.translate.specs.Checked.{RegsAt}
 use Rattle.translate.specs.Parts.{leaf1_or_off, out_of, finish_of}
 use Rattle.translate.specs.Deep.{Reads2, asked2_of, Walked2, WalkedStage1, outcome_by}
@@ -81,7 +82,10 @@ module _ (under : RegsAt) (a : Access) (m : Told) where
   whole_stop1 F new x w =
       subst (λ is. WalkedWhole under.regs a under.moment m F is (outcome_by (Err x))) (sym w.grown) (whole_stops F w.more x w.end w.took w.cause w.answer)
 
-  module _ (F : Type 0) (l : Option Leaf1) (mid : List Item) (w1 : WalkedStage1 m F under a mid (Ok l)) where
+  module _ (F : Type 0) (o1 : Output1) (mid : List Item) (w1 : WalkedStage1 m F under a mid (Ok o1)) where
+    abbrev l : Option Leaf1
+    l = o1.leaf
+
     abbrev leaf1 : Leaf1
     leaf1 = leaf1_or_off (config_of under.regs) a l
 

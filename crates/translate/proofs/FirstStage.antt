@@ -1,11 +1,7 @@
 -- How stage 1 is walked from its base, on or off.
-use Rattle.std.proofs.Common.{◌≡◌, ℕ, ◌≤◌, List, [], ◌∷◌, Bool, true, false, Option, None, refl, sym, ap, subst, arith, Result, Ok, Err, ◌%◌, ◌^◌, if◌then◌else◌}
-use Rattle.std.specs.Prelude.{ℤ, pos, negsuc, ◌≤ℤ◌}
-use Rattle.std.proofs.lemmas.Int.{ints}
-use Rattle.geometry.specs.Tables.{most_left, level_of, left_below}
-use Rattle.sysregs.specs.declared.regs.Regs.{Regs}
+use Rattle.std.proofs.Common.{◌≡◌, ℕ, List, [], ◌∷◌, Bool, true, false, None, refl, sym, ap, subst, Result, Ok, Err, ◌%◌, ◌^◌, if◌then◌else◌}
+use Rattle.geometry.specs.Tables.{most_left}
 use Rattle.sysregs.specs.declared.regs.Config.{Config}
-use Rattle.sysregs.specs.declared.regs.Side.{Side}
 use Rattle.sysregs.specs.Registers.{config_of}
 use Rattle.sysregs.specs.Sides.{side_of}
 use Rattle.permissions.specs.Rights.{no_bits}
@@ -29,38 +25,12 @@ use Rattle.walk_spec.specs.BothStages.{is_refused1, is_refused_off, stage1_behin
 use Rattle.walk_spec.specs.Fresh.{start_base1}
 use Rattle.walk_spec.specs.Walked.{ReadsNow, Walked}
 use Rattle.walk_spec.proofs.Walks.{walked_done, walked_ends, walked_goes, walked_weaker}
-use Rattle.stage1_walk.specs.declared.walk.From1.{From1}
-use Rattle.translate.specs.declared.begin.Begin1.TheVariants.{Off, On}
+use Rattle.translate.specs.declared.begin.Begin1.TheVariants.{Off}
+use Rattle.translate.specs.declared.stage1.Output1.{Output1}
 use Rattle.translate.specs.Checked.{RegsAt}
-use Rattle.translate.specs.Parts.{refusal, begin1_on, begin1_of, root1_of}
+use Rattle.translate.specs.Parts.{refusal, begin1_on, begin1_of}
 use Rattle.translate.specs.Deep.{Reads2, WalkedFrom1, WalkedOn1, WalkedStage1, leaf_answer}
 use Rattle.translate.proofs.Choices.{on_with, off_with, ok_by, err_by}
-
--- a table of a level that is not -1 has three levels below at most
-pub left_most : (level : ℤ) → pos 0 ≤ℤ level → left_below level ≤ most_left
-left_most (pos n) h = omega arith
-left_most (negsuc n) h = absurd (omega (arith, ints, h))
-
--- Stage 1 begins: what each answer tells.
-
-pub record Begins (c : Config) (a : Access) (side : Side) (level : ℤ) : Type 0 where
-  pub on : c.m ≡ true
-  pub accepted : is_refused1 c a ≡ false
-  pub side_is : side ≡ side_of a.va
-  pub level_is : level ≡ level_of (sizes1 c (side_of a.va)).start
-
-begins_by : (c : Config) (a : Access) (side : Side) (level : ℤ) → c.m ≡ true
-    → (is_refused1 c a ≡ false) × (On side level ≡ On (side_of a.va) (level_of (sizes1 c (side_of a.va)).start)) → Begins c a side level
-begins_by c a side level m h = let e = h.1 in record { on = m; accepted = h.0; side_is = cc; level_is = cc }
-
-begins_at : (m : Bool) (c : Config) (a : Access) (side : Side) (level : ℤ) → c.m ≡ m
-    → Ok (On side level) ≡ (if m then begin1_on c a else (if is_refused_off c a then Err (refusal S1 false AddressSize) else Ok (Off (a.va % 2 ^ 52))))
-    → Begins c a side level
-begins_at true c a side level e h = begins_by c a side level e (ok_by (is_refused1 c a) (refusal S1 false Translation) _ _ h)
-begins_at false c a side level e h = let k = ok_by (is_refused_off c a) (refusal S1 false AddressSize) _ _ h in let f = k.1 in absurd cc
-
-pub begins : (c : Config) (a : Access) (side : Side) (level : ℤ) → Ok (On side level) ≡ begin1_of c a → Begins c a side level
-begins c a side level h = begins_at c.m c a side level refl h
 
 is_off_at : (m : Bool) (c : Config) (a : Access) (ipa : ℕ) → c.m ≡ m
     → Ok (Off ipa) ≡ (if m then begin1_on c a else (if is_refused_off c a then Err (refusal S1 false AddressSize) else Ok (Off (a.va % 2 ^ 52))))
@@ -71,18 +41,6 @@ is_off_at false c a ipa e h = let k = ok_by (is_refused_off c a) (refusal S1 fal
 -- stage 1 is off, and gives an IPA
 pub is_off : (c : Config) (a : Access) (ipa : ℕ) → Ok (Off ipa) ≡ begin1_of c a → (c.m ≡ false) × (is_refused_off c a ≡ false)
 is_off c a ipa h = is_off_at c.m c a ipa refl h
-
--- the start table
-abbrev pub first1 : (regs : Regs) (side : Side) → From1
-first1 regs s = record { base = start_base1 regs s; level = level_of (sizes1 (config_of regs) s).start; tables = no_bits }
-
-pub rooted1 : (regs : Regs) (s : Side) (from : From1) → Ok from ≡ root1_of regs s
-    → (is_too_large (sizes1 (config_of regs) s) (start_base1 regs s) ≡ false) × (from ≡ first1 regs s)
-rooted1 regs s from h = ok_by (is_too_large (sizes1 (config_of regs) s) (start_base1 regs s)) (refusal S1 false AddressSize) (first1 regs s) from h
-
-pub refused_root1 : (regs : Regs) (s : Side) (f : Fault) → Err f ≡ root1_of regs s
-    → (is_too_large (sizes1 (config_of regs) s) (start_base1 regs s) ≡ true) × (f ≡ refusal S1 false AddressSize)
-refused_root1 regs s f h = err_by (is_too_large (sizes1 (config_of regs) s) (start_base1 regs s)) (refusal S1 false AddressSize) f (first1 regs s) h
 
 module _ (under : RegsAt) (a : Access) (m : Told) where
   abbrev pub q : Asked
@@ -141,9 +99,9 @@ module _ (under : RegsAt) (a : Access) (m : Told) where
   stage_refused F new f h n = refused_at F [] new f (config_of under.regs).m h n
 
   -- stage 1 is off
-  pub stage_off : (F : Type 0) (new : List Item) → ((config_of under.regs).m ≡ false) × (is_refused_off (config_of under.regs) a ≡ false) → new ≡ []
-      → WalkedStage1 m F under a new (Ok None)
-  stage_off F new h n =
+  pub stage_off : (F : Type 0) (new : List Item) (out : ℕ) → ((config_of under.regs).m ≡ false) × (is_refused_off (config_of under.regs) a ≡ false)
+      → new ≡ [] → WalkedStage1 m F under a new (Ok record { out = out; leaf = None })
+  stage_off F new out h n =
       let s : stage1_off q ≡ done (reaches (off_leaf (config_of under.regs) a)) =
       ap done (off_with (is_refused_off (config_of under.regs) a) h.1 (stops (fault1 AddressSize most_left))
       (reaches (off_leaf (config_of under.regs) a))) in
@@ -153,7 +111,7 @@ module _ (under : RegsAt) (a : Access) (m : Told) where
       (walked_done reads m F (reaches (off_leaf (config_of under.regs) a)) [] new (Ok (off_leaf (config_of under.regs) a)) n refl))
 
   -- stage 1 is on
-  pub stage_on : (F : Type 0) (new : List Item) (r : Result Leaf1 Stop) (s : Result (Option Leaf1) Stop) → (config_of under.regs).m ≡ true
+  pub stage_on : (F : Type 0) (new : List Item) (r : Result Leaf1 Stop) (s : Result Output1 Stop) → (config_of under.regs).m ≡ true
       → leaf_answer (config_of under.regs) a s ≡ r → WalkedOn1 m F under a new r → WalkedStage1 m F under a new s
   stage_on F new r s h e w =
       subst (λ t. Walked reads m F t [] new (leaf_answer (config_of under.regs) a s)) (sym (on_with (config_of under.regs).m h (stage1_on q) (stage1_off q)))

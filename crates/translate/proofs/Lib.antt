@@ -1,4 +1,5 @@
 pub mod Choices
+mod Entering
 pub mod Fields
 pub mod Starts
 pub mod OnWords1

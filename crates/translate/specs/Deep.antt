@@ -1,5 +1,5 @@
 -- How the words of stage 1 are had over a supply of words of memory: with stage 2 on, by stage 2 of each place.
-use Rattle.std.specs.Prelude.{ℕ, ℤ, ◌≡◌, ◌≤◌, List, [], ◌∷◌, ◌++◌, Bool, Option, Result, Ok, Err, true, false}
+use Rattle.std.specs.Prelude.{ℕ, ℤ, ◌≡◌, ◌≤◌, List, [], ◌∷◌, ◌++◌, Bool, Result, Ok, Err, true, false}
 use Rattle.bitwords.specs.Causes.{Rose}
 use Rattle.geometry.specs.Tables.{level_of}
 use Rattle.sysregs.specs.declared.regs.Regs.{Regs}
@@ -33,6 +33,7 @@ use Rattle.walk_spec.specs.Walked.{ReadsWord, ReadsNow, LacksFor, Walked}
 use Rattle.translate.specs.Checked.{RegsAt}
 use Rattle.translate.specs.Parts.{leaf1_or_off}
 use Rattle.translate.specs.declared.deep.Deep.{Deep}
+use Rattle.translate.specs.declared.stage1.Output1.{Output1}
 
 -- an item behind the base of stage 1: the base of stage 2 of the registers, or a word, read at the moment
 abbrev pub Reads2 : (under : RegsAt) (told : Told) (need : Need) (item : Item) → Type 0
@@ -94,12 +95,12 @@ abbrev pub WalkedOn1 : (told : Told) (failed : Type 0) (under : RegsAt) (access 
 WalkedOn1 told failed u a new r = Walked (ReadsNow u.regs (side_of a.va) u.moment told) told failed (stage1_on (asked (config_of u.regs) true a)) [] new r
 
 -- what stage 1 answers, on or off, as a leaf
-abbrev pub leaf_answer : (config : Config) (access : Access) (answer : Result (Option Leaf1) Stop) → Result Leaf1 Stop
-leaf_answer c a (Ok l) = Ok (leaf1_or_off c a l)
+abbrev pub leaf_answer : (config : Config) (access : Access) (answer : Result Output1 Stop) → Result Leaf1 Stop
+leaf_answer c a (Ok o) = Ok (leaf1_or_off c a o.leaf)
 leaf_answer c a (Err stop) = Err stop
 
 -- stage 1 was walked, on or off
-abbrev pub WalkedStage1 : (told : Told) (failed : Type 0) (under : RegsAt) (access : Access) (new : List Item) (result : Result (Option Leaf1) Stop) → Type 0
+abbrev pub WalkedStage1 : (told : Told) (failed : Type 0) (under : RegsAt) (access : Access) (new : List Item) (result : Result Output1 Stop) → Type 0
 WalkedStage1 told failed u a new r =
     Walked (ReadsNow u.regs (side_of a.va) u.moment told) told failed (stage1 (asked (config_of u.regs) true a)) [] new (leaf_answer (config_of u.regs) a r)
 

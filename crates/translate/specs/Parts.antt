@@ -14,6 +14,7 @@ use Rattle.fault_codes.specs.declared.fault.Class.TheVariants.{Translation, Addr
 use Rattle.fault_codes.specs.declared.fault.Fault.{Fault}
 use Rattle.trails.specs.declared.outcome.Access.{Access}
 use Rattle.trails.specs.declared.outcome.Outcome.{Outcome}
+use Rattle.table_reads.specs.declared.sizes.Sizes.{Sizes}
 use Rattle.table_reads.specs.Numbers.{sizes1, sizes2}
 use Rattle.table_reads.specs.Places.{is_too_large}
 use Rattle.table_reads.specs.Items.{fault_at}
@@ -36,6 +37,14 @@ AreFieldsOf c regs = c ≡ record (config_of regs) { ha1 = c.ha1; hd1 = c.hd1 }
 -- a fault that has no word, of level 0
 abbrev pub refusal : (stage : Stage) (s1ptw : Bool) (class : Class) → Fault
 refusal s s1ptw class = fault_at s s1ptw class most_left
+
+-- stage 1 while it is off gives VA bits 51 to 0, or refuses the access
+abbrev pub off1_of : (config : Config) (access : Access) → Result ℕ Fault
+off1_of c a = if is_refused_off c a then Err (refusal S1 false AddressSize) else Ok (a.va % 2 ^ 52)
+
+-- stage 1 while it is on walks with the numbers of the access's side, or refuses the access
+abbrev pub enter1_of : (config : Config) (access : Access) → Result Sizes Fault
+enter1_of c a = if is_refused1 c a then Err (refusal S1 false Translation) else Ok (sizes1 c (side_of a.va))
 
 -- before the base of stage 1, while it is on
 abbrev pub begin1_on : (config : Config) (access : Access) → Result Begin1 Fault

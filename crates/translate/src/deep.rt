@@ -1,42 +1,26 @@
 //! The words of stage 1, each by the stage 2 of its place.
-ghost use Rattle.std.specs.Prelude.{◌≡◌, ◌+◌, ◌*◌, ◌≤◌, length, true, IsFalse, IfErr};
+ghost use Rattle.std.specs.Prelude.{◌≡◌, ◌+◌, ◌*◌, ◌≤◌, ◌<◌, ◌%◌, ◌^◌, length, IfErr};
 ghost use Rattle.bitwords.specs.Causes.{Rose};
-ghost use Rattle.geometry.specs.Tables.{left_below};
 ghost use Rattle.sysregs.specs.Registers.{config_of};
-ghost use Rattle.sysregs.specs.Sides.{side_of};
 ghost use Rattle.trails.specs.Lengths.{most_items, most_per_word};
-ghost use Rattle.walk_spec.specs.BothStages.{is_refused1};
 ghost use Rattle.walk_spec.specs.Walked.{HasLineStop};
-ghost use Rattle.stage1_walk.specs.Clauses.{IsTableOf, table_from};
-ghost use Rattle.stage1_walk.specs.Gave.{Walked1};
-ghost use Rattle.translate.specs.Deep.{DeepGave, WalkedFrom1, walker1};
+ghost use Rattle.stage1_walk.specs.Under.{IsUnder, IsUnderFor};
+ghost use Rattle.translate.specs.Deep.{DeepGave, WalkedFrom1};
 
-use crate::parts::descriptor_read;
+use crate::parts::{descriptor_read, walker1};
 use crate::stage2::stage2;
-use crate::tables::walk1_from;
+use crate::tables::walk1_left;
 use crate::under::Under;
-use fault_codes::Stage;
-use stage1_walk::{From1, Supply1};
-use table_reads::{Supply, Walker, read};
-use trails::{Access, Stop, Trail};
-use walk_spec::Leaf1;
+use stage1_walk::{Supply1, Under1};
+use table_reads::{Supply, read};
+use trails::{Stop, Trail};
+use walk_spec::{Leaf1, Table1};
 
 /// Words of stage 1 over a supply of words of memory.
 #[derive(Drop)]
 pub struct Deep<'a, S> {
     under: &'a Under<'a>,
     supply: &'a mut S,
-}
-
-/// Stage 1 at a moment.
-fn walker1(moment: u32) -> Walker
-    ensures { result ≡ walker1 moment }
-{
-    Walker {
-        moment,
-        stage: Stage::S1,
-        s1ptw: false,
-    }
 }
 
 impl<'a, S: Supply> Supply1 for Deep<'a, S> {
@@ -59,49 +43,57 @@ impl<'a, S: Supply> Supply1 for Deep<'a, S> {
     }
 }
 
-/// Stage 1 from a table, over a supply that keeps its reference.
+/// Stage 1 from a table, over a supply that keeps its reference. It is a call of its own so that this has a clause: what
+/// the caller's supply becomes is known only where the walk's clause says that the reference is the same, and that of
+/// `walk1_left` speaks of any supply.
 fn walk_kept<S: Supply>(
     under: &Under,
-    access: &Access,
-    from: &From1,
+    walk: &Under1,
+    left: u32,
+    table: Table1,
     deep: &mut Deep<S>,
     trail: &mut Trail,
 ) -> Result<Leaf1, Stop>
     requires under { deep.old.under.now ≡ under.now }
-    requires accepted { IsFalse (is_refused1 (config_of under.now.regs) access.now) }
-    requires table { IsTableOf (config_of under.now.regs) (side_of access.now.va) from.now }
-    requires room { length trail.old + most_per_word * (left_below from.now.level + 1) ≤ most_items }
+    requires walk { IsUnder walk.now }
+    requires of { IsUnderFor (config_of under.now.regs) walk.now.access.now walk.now }
+    requires left { left ≤ walk.now.sizes.start }
+    requires table { table.address < 2 ^ 52 × table.address % 8 ≡ 0 }
+    requires room { length trail.old + most_per_word * (left + 1) ≤ most_items }
     ensures same_reference { deep.new.supply.ghost_name ≡ deep.old.supply.ghost_name }
     ensures same { S.memory deep.new.supply.now ≡ S.memory deep.old.supply.now }
     ensures later { S.faults deep.old.supply.now ≤ S.faults deep.new.supply.now }
     ensures kept { S.keeps deep.old.supply.now deep.new.supply.now }
-    ensures most { length trail.new ≤ length trail.old + most_per_word * (left_below from.now.level + 1) }
+    ensures most { length trail.new ≤ length trail.old + most_per_word * (left + 1) }
     ensures line { IfErr result HasLineStop }
     ensures walked { WalkedFrom1 (S.memory deep.old.supply.now) (Rose (S.faults deep.old.supply.now) (S.faults deep.new.supply.now))
-        under.now access.now (left_below from.now.level) (table_from from.now) trail.old trail.new result }
+        under.now walk.now.access.now left table trail.old trail.new result }
 {
-    walk1_from::<Deep<S>>(under.config(), access, from, deep, trail)
+    walk1_left::<Deep<S>>(walk, left, table, deep, trail)
 }
 
-/// Stage 1 from a table, with the stage 2 of its words.
+/// Stage 1 from a table with so many levels left, with the stage 2 of its words.
 pub(crate) fn stage1_from<S: Supply>(
     under: &Under,
-    access: &Access,
-    from: &From1,
+    walk: &Under1,
+    left: u32,
+    table: Table1,
     supply: &mut S,
     trail: &mut Trail,
 ) -> Result<Leaf1, Stop>
-    requires accepted { IsFalse (is_refused1 (config_of under.now.regs) access.now) }
-    requires table { IsTableOf (config_of under.now.regs) (side_of access.now.va) from.now }
-    requires room { length trail.old + most_per_word * (left_below from.now.level + 1) ≤ most_items }
+    requires walk { IsUnder walk.now }
+    requires of { IsUnderFor (config_of under.now.regs) walk.now.access.now walk.now }
+    requires left { left ≤ walk.now.sizes.start }
+    requires table { table.address < 2 ^ 52 × table.address % 8 ≡ 0 }
+    requires room { length trail.old + most_per_word * (left + 1) ≤ most_items }
     ensures same { S.memory supply.new ≡ S.memory supply.old }
     ensures later { S.faults supply.old ≤ S.faults supply.new }
     ensures kept { S.keeps supply.old supply.new }
-    ensures most { length trail.new ≤ length trail.old + most_per_word * (left_below from.now.level + 1) }
+    ensures most { length trail.new ≤ length trail.old + most_per_word * (left + 1) }
     ensures line { IfErr result HasLineStop }
     ensures walked { WalkedFrom1 (S.memory supply.old) (Rose (S.faults supply.old) (S.faults supply.new))
-        under.now access.now (left_below from.now.level) (table_from from.now) trail.old trail.new result }
+        under.now walk.now.access.now left table trail.old trail.new result }
 {
     let mut deep = Deep { under, supply };
-    walk_kept::<S>(under, access, from, &mut deep, trail)
+    walk_kept::<S>(under, walk, left, table, &mut deep, trail)
 }

@@ -9,6 +9,7 @@ mod replayed;
 mod stage1;
 mod stage2;
 mod stand;
+mod start;
 mod tables;
 mod under;
 mod whole;

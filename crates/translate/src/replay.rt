@@ -3,7 +3,6 @@ ghost use Rattle.std.specs.Prelude.{◌≡◌, ◌↔◌, ◌≤◌, ◌<◌, �
 ghost use Rattle.geometry.specs.Tables.{most_left};
 ghost use Rattle.sysregs.specs.Registers.{InRange};
 ghost use Rattle.sysregs.specs.Sides.{side_of};
-ghost use Rattle.permissions.specs.Rights.{no_bits};
 ghost use Rattle.table_reads.specs.Numbers;
 ghost use Rattle.table_reads.specs.Numbers.{AreSound};
 ghost use Rattle.walk_spec.specs.Needs.{fits, regime_of, stage1_base};
@@ -15,14 +14,13 @@ ghost use Rattle.translate.specs.Standing.{EndsAtTop, IsStood1};
 ghost use Rattle.translate.specs.Replayed.{IsReplayed, IsStoodOn, stands_stage1};
 
 use crate::begin::Begin1;
-use crate::parts::{begin1, finish, refusal};
+use crate::parts::{begin1, finish, refusal, start_table};
 use crate::replayed::Replay;
 use crate::stand::{Stood1, stand1};
 use crate::whole::output;
 use fault_codes::{Class, Fault, Stage};
 use geometry::case_table;
 use kept_items::{fits_base, item_at};
-use permissions::TableBits;
 use stage1_walk::sizes1;
 use stage2_walk::{Stood2, stand2};
 use sysregs::{Config, Tg};
@@ -72,21 +70,6 @@ fn replay_output(
         Stood2::Within { .. } => Replay::Other,
         Stood2::Before => Replay::Other,
         Stood2::Unfit => Replay::Other,
-    }
-}
-
-/// The start table of stage 1.
-fn start_table(base: u64) -> Table1
-    ensures { result ≡ record { address = base; bits = no_bits } }
-{
-    Table1 {
-        address: base,
-        bits: TableBits {
-            no_el0: false,
-            read_only: false,
-            pxn: false,
-            uxn: false,
-        },
     }
 }
 

@@ -6,9 +6,10 @@ ghost use Rattle.walk_spec.specs.Walked.{HasLineStop};
 ghost use Rattle.stage2_walk.specs.SoundSteps.{IsSoundLeaf};
 ghost use Rattle.translate.specs.Deep.{Walked2};
 
-use crate::parts::{begin2, root2};
-use crate::tables::walk2_from;
+use crate::parts::keep_root;
+use crate::tables::walk2_left;
 use crate::under::Under;
+use stage2_walk::{Under2, enter2};
 use table_reads::Supply;
 use trails::{Stop, Trail};
 use walk_spec::Leaf2;
@@ -31,14 +32,20 @@ pub(crate) fn stage2<S: Supply>(
     ensures walked { Walked2 (S.memory supply.old) (Rose (S.faults supply.old) (S.faults supply.new))
         under.now ptw ipa trail.old trail.new result }
 {
-    let config = under.config();
-    let level = match begin2(config, ipa, ptw) {
-        Ok(level) => level,
+    let start = under.start2();
+    let sizes = match enter2(start.sizes, ipa, ptw) {
+        Ok(sizes) => sizes,
         Err(fault) => return Err(Stop::Fault { fault }),
     };
-    let from = match root2(under.regs(), config, level, ptw, under.moment(), trail) {
-        Ok(from) => from,
-        Err(fault) => return Err(Stop::Fault { fault }),
+    let walk = Under2 {
+        config: under.config(),
+        ipa,
+        sizes,
+        moment: under.moment(),
+        s1ptw: ptw,
     };
-    walk2_from(config, &from, ipa, ptw, under.moment(), supply, trail)
+    if let Err(fault) = keep_root(&walk.walker(), &sizes, start.base, trail) {
+        return Err(Stop::Fault { fault });
+    }
+    walk2_left(&walk, sizes.start, start.base, supply, trail)
 }

@@ -1,35 +1,46 @@
 ghost use Rattle.std.specs.Prelude.{◌≡◌};
 ghost use Rattle.sysregs.specs.Registers.{InRange, config_of, set_of};
+ghost use Rattle.translate.specs.Checked.{IsStart1, IsStart2};
 
+use crate::start::{Start, start1, start2};
 use std::marker::Model;
 use sysregs::fields::config;
-use sysregs::{Config, Reg, Regs};
+use sysregs::{Config, Reg, Regs, Side};
 
-/// The registers in force with their fields, which are read once for each change.
+/// The registers in force with their fields and with what they decide of each stage, all of which is read once for each
+/// change.
 #[derive(Drop)]
 pub struct InForce {
     regs: Regs,
     config: Config,
+    low: Start,
+    high: Start,
+    stage2: Start,
 }
 
 impl Model for InForce {
     ghost use Rattle.sysregs.specs.declared.regs.Regs.{Regs};
-    ghost use Rattle.translate.specs.Checked.{AreChecked};
+    ghost use Rattle.sysregs.specs.declared.regs.Side.TheVariants.{Low, High};
+    ghost use Rattle.translate.specs.Checked.{AreChecked, IsStart1, IsStart2};
 
     ghost Value = { Regs };
 
     ghost view = { λ f. f.regs };
 
-    ghost invariant = { λ f. AreChecked f.config f.regs };
+    ghost invariant = { λ f. AreChecked f.config f.regs × IsStart1 f.regs Low f.low × IsStart1 f.regs High f.high × IsStart2 f.regs f.stage2 };
 }
 
 impl InForce {
-    /// These registers with their fields.
+    /// These registers with what is read off them.
     pub fn of(regs: Regs) -> InForce
         ensures { result ≡ regs }
     {
+        let config = config(&regs);
         InForce {
-            config: config(&regs),
+            low: start1(&regs, &config, Side::Low),
+            high: start1(&regs, &config, Side::High),
+            stage2: start2(&regs, &config),
+            config,
             regs,
         }
     }
@@ -38,8 +49,9 @@ impl InForce {
     pub fn set(&mut self, reg: Reg, value: u64)
         ensures { self.new ≡ set_of self.old reg value }
     {
-        self.regs.set(reg, value);
-        self.config = config(&self.regs);
+        let mut regs = self.regs;
+        regs.set(reg, value);
+        *self = InForce::of(regs);
     }
 
     pub fn regs(&self) -> &Regs
@@ -53,6 +65,23 @@ impl InForce {
         ensures range { InRange result.now }
     {
         &self.config
+    }
+
+    /// What they decide of stage 1 for a side.
+    pub(crate) fn start1(&self, side: Side) -> &Start
+        ensures { IsStart1 self.now side result.now }
+    {
+        match side {
+            Side::Low => &self.low,
+            Side::High => &self.high,
+        }
+    }
+
+    /// What they decide of stage 2.
+    pub(crate) fn start2(&self) -> &Start
+        ensures { IsStart2 self.now result.now }
+    {
+        &self.stage2
     }
 }
 
@@ -89,6 +118,20 @@ impl<'a> Under<'a> {
         ensures range { InRange result.now }
     {
         self.force.config()
+    }
+
+    /// What the registers decide of stage 1 for a side.
+    pub fn start1(&self, side: Side) -> &Start
+        ensures { IsStart1 self.now.regs side result.now }
+    {
+        self.force.start1(side)
+    }
+
+    /// What the registers decide of stage 2.
+    pub fn start2(&self) -> &Start
+        ensures { IsStart2 self.now.regs result.now }
+    {
+        self.force.start2()
     }
 
     pub fn moment(&self) -> u32

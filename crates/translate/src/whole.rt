@@ -7,7 +7,7 @@ ghost use Rattle.translate.specs.Parts.{out_of};
 ghost use Rattle.translate.specs.Deep.{outcome_by};
 
 use crate::parts::finish;
-use crate::stage1::stage1;
+use crate::stage1::{Output1, stage1};
 use crate::stage2::stage2;
 use crate::under::{InForce, Under};
 use sysregs::{Config, Regs};
@@ -42,11 +42,10 @@ fn whole<S: Supply>(
         trail.new (outcome_by result) }
 {
     let config = under.config();
-    let leaf1 = match stage1(under, access, supply, trail) {
-        Ok(leaf) => leaf,
+    let Output1 { out, leaf: leaf1 } = match stage1(under, access, supply, trail) {
+        Ok(output) => output,
         Err(stop) => return Err(stop),
     };
-    let out = output(access, leaf1.as_ref());
     if !config.vm {
         return Ok(finish(config, access, out, leaf1.as_ref(), None));
     }

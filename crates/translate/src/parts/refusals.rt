@@ -1,18 +1,21 @@
 //! What each stage refuses before its base.
-ghost use Rattle.std.specs.Prelude.{◌≡◌, ◌≤◌, ◌<◌, ◌+◌, ◌-◌, ◌^◌, ◌==◌, pos, ◌≤ℤ◌, if◌then◌else◌};
+ghost use Rattle.std.specs.Prelude.{◌≡◌, ◌≤◌, ◌<◌, ◌+◌, ◌-◌, ◌^◌, ◌==◌, pos, ◌≤ℤ◌, if◌then◌else◌, IsTrue, IfSome, IfOk};
 ghost use Rattle.bitwords.specs.Fields.{bits_of, bit};
 ghost use Rattle.sysregs.specs.Registers.{InRange};
+ghost use Rattle.sysregs.specs.Sides.{side_of};
+ghost use Rattle.table_reads.specs.Numbers.{AreSound, is_sized1};
 ghost use Rattle.walk_spec.specs.BothStages.{top_bit, is_fetch, is_el0, is_refused1, is_refused_off};
-ghost use Rattle.translate.specs.Parts.{begin1_of, begin2_of};
+ghost use Rattle.stage1_walk.specs.Sized.{IsSized1};
+ghost use Rattle.translate.specs.Parts.{begin1_of, begin2_of, off1_of, enter1_of};
 
 use crate::begin::Begin1;
 use bitwords::{flag, power};
 use fault_codes::{Class, Fault, Stage};
 use permissions::{El, Kind};
-use stage1_walk::sizes1;
-use stage2_walk::{is_refused2, sizes2};
-use sysregs::Config;
-use table_reads::{MOST_LEFT, Walker, fault, is_sized, level};
+use stage1_walk::sized1;
+use stage2_walk::{enter2, sized2};
+use sysregs::{Config, Side};
+use table_reads::{MOST_LEFT, Sizes, Walker, fault, level};
 use trails::Access;
 
 pub(crate) fn is_fetch(kind: Kind) -> bool
@@ -50,18 +53,16 @@ fn is_extended(va: u64, top: u32, input: u32) -> bool
     upper == if flag::<55>(va) { size - 1 } else { 0 }
 }
 
-/// Whether stage 1 refuses an access before any table.
+/// Whether stage 1 refuses an access before any table, whose TxSZ is in range.
 #[tactic(auto, unfolding(walk_spec::specs::BothStages::is_refused1))]
-fn is_refused(config: &Config, access: &Access) -> bool
-    requires { InRange config.now }
+fn is_refused(config: &Config, access: &Access, side: Side, sizes: &Sizes) -> bool
+    requires side { side ≡ side_of access.now.va }
+    requires sized { IsTrue (is_sized1 config.now side) }
+    requires sizes { sizes.now ≡ Rattle.table_reads.specs.Numbers.sizes1 config.now side }
+    requires sound { AreSound sizes.now }
     ensures { result ≡ is_refused1 config.now access.now }
 {
-    let side = sysregs::side(access.va);
-    let txsz = config.txsz(side);
-    if !is_sized(config.tg(side), txsz) {
-        return true;
-    }
-    let in_range = is_extended(access.va, top_bit(config, access), 64 - txsz);
+    let in_range = is_extended(access.va, top_bit(config, access), sizes.input);
     !in_range | (is_el0(access.el) & config.e0pd(side)) | config.epd(side)
 }
 
@@ -85,6 +86,36 @@ pub(crate) fn refusal(stage: Stage, s1ptw: bool, class: Class) -> Fault
     fault(&walker, class, MOST_LEFT)
 }
 
+/// The output of stage 1 in bytes while it is off, or the fault of an access that it refuses.
+pub(crate) fn off1(config: &Config, access: &Access) -> Result<u64, Fault>
+    ensures { result ≡ off1_of config.now access.now }
+{
+    if is_refused_off(config, access) {
+        return Err(refusal(Stage::S1, false, Class::AddressSize));
+    }
+    Ok(access.va % (1 << 52))
+}
+
+/// What stage 1 checks before its base while it is on, with the numbers of the access's side where they are in range:
+/// the numbers, or the fault of an access that it refuses.
+pub(crate) fn enter1(
+    config: &Config,
+    access: &Access,
+    side: Side,
+    sizes: Option<Sizes>,
+) -> Result<Sizes, Fault>
+    requires side { side ≡ side_of access.now.va }
+    requires sized { IsSized1 config.now side sizes }
+    requires sound { IfSome sizes AreSound }
+    ensures value { result ≡ enter1_of config.now access.now }
+    ensures sound { IfOk result AreSound }
+{
+    match sizes {
+        Some(sizes) if !is_refused(config, access, side, &sizes) => Ok(sizes),
+        _ => Err(refusal(Stage::S1, false, Class::Translation)),
+    }
+}
+
 /// What stage 1 checks before its base: the output of a stage that is off, or the side and its start level, or the
 /// fault of an access that is refused.
 pub fn begin1(config: &Config, access: &Access) -> Result<Begin1, Fault>
@@ -92,21 +123,19 @@ pub fn begin1(config: &Config, access: &Access) -> Result<Begin1, Fault>
     ensures { result ≡ begin1_of config.now access.now }
 {
     if !config.m {
-        if is_refused_off(config, access) {
-            return Err(refusal(Stage::S1, false, Class::AddressSize));
-        }
-        return Ok(Begin1::Off {
-            ipa: access.va % (1 << 52),
-        });
-    }
-    if is_refused(config, access) {
-        return Err(refusal(Stage::S1, false, Class::Translation));
+        return match off1(config, access) {
+            Ok(ipa) => Ok(Begin1::Off { ipa }),
+            Err(fault) => Err(fault),
+        };
     }
     let side = sysregs::side(access.va);
-    Ok(Begin1::On {
-        side,
-        level: level(sizes1(config, side).start),
-    })
+    match enter1(config, access, side, sized1(config, side)) {
+        Ok(sizes) => Ok(Begin1::On {
+            side,
+            level: level(sizes.start),
+        }),
+        Err(fault) => Err(fault),
+    }
 }
 
 /// What stage 2 checks before its base: the start level, or the fault of an IPA that is refused. `ptw` marks the place
@@ -115,8 +144,8 @@ pub fn begin2(config: &Config, ipa: u64, ptw: bool) -> Result<i8, Fault>
     requires { InRange config.now }
     ensures { result ≡ begin2_of config.now ipa ptw }
 {
-    if is_refused2(config, ipa) {
-        return Err(refusal(Stage::S2, ptw, Class::Translation));
+    match enter2(sized2(config), ipa, ptw) {
+        Ok(sizes) => Ok(level(sizes.start)),
+        Err(fault) => Err(fault),
     }
-    Ok(level(sizes2(config).start))
 }

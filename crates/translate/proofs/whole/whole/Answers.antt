@@ -1,7 +1,6 @@
-use Rattle.std.proofs.Common.{◌∙◌, arith}
-use Rattle.sysregs.specs.Registers.{config_of}
+use Rattle.std.proofs.Common.{arith}
 use Rattle.table_reads.proofs.Weaker.{rose_weaker}
-use Rattle.translate.proofs.BothStages.{whole_stop1, whole_flat, whole_stop2, whole_ends, out_same}
+use Rattle.translate.proofs.BothStages.{whole_stop1, whole_flat, whole_stop2, whole_ends}
 use Rattle.translate.proofs.whole.whole.Goals as goal
 
 pub returns-in-Err-clause-walked : goal.returns-in-Err-clause-walked
@@ -10,21 +9,19 @@ returns-in-Err-clause-walked g c =
 
 pub returns-then-not-config-clause-walked : goal.returns-then-not-config-clause-walked
 returns-then-not-config-clause-walked g c =
-    whole_flat c.args.under.now c.args.access.now (g.S.Supply.memory c.args.supply.now) _ c.in-Ok.leaf _ c.in-Ok.ensures.walked _
+    whole_flat c.args.under.now c.args.access.now (g.S.Supply.memory c.args.supply.now) _ c.in-Ok.output _ c.in-Ok.ensures.walked _
     (rw c.config-config.ensures.same at c.if-not-config.true)
-    (rw (c.as_ref-then-not-config.ensures.value, c.config-config.ensures.same) at c.finish.ensures)
+    (rw (c.as_ref.ensures.value, c.config-config.ensures.same) at c.finish.ensures)
 
 pub returns-in-Err-stage2-clause-walked : goal.returns-in-Err-stage2-clause-walked
 returns-in-Err-stage2-clause-walked g c =
-    let o = (rw c.as_ref.ensures.value at c.output-out.ensures) ∙ out_same (config_of c.args.under.now.regs) c.args.access.now c.in-Ok.leaf in
-    let w = rw (o, c.in-Ok.ensures.same) at c.in-Err-stage2.ensures.walked in
-    whole_stop2 c.args.under.now c.args.access.now (g.S.Supply.memory c.args.supply.now) _ c.in-Ok.leaf _ c.in-Ok.ensures.walked _ _
+    let w = rw (c.in-Ok.ensures.out, c.in-Ok.ensures.same) at c.in-Err-stage2.ensures.walked in
+    whole_stop2 c.args.under.now c.args.access.now (g.S.Supply.memory c.args.supply.now) _ c.in-Ok.output _ c.in-Ok.ensures.walked _ _
     (rose_weaker _ _ _ _ c.in-Ok.ensures.later (omega arith)) (rw c.config-config.ensures.same at c.if-not-config.false) _ c.in-Err-stage2.stop w
 
 pub returns-clause-walked : goal.returns-clause-walked
 returns-clause-walked g c =
-    let o = (rw c.as_ref.ensures.value at c.output-out.ensures) ∙ out_same (config_of c.args.under.now.regs) c.args.access.now c.in-Ok.leaf in
-    let w = rw (o, c.in-Ok.ensures.same) at c.in-Ok-stage2.ensures.walked in
-    whole_ends c.args.under.now c.args.access.now (g.S.Supply.memory c.args.supply.now) _ c.in-Ok.leaf _ c.in-Ok.ensures.walked _ _
+    let w = rw (c.in-Ok.ensures.out, c.in-Ok.ensures.same) at c.in-Ok-stage2.ensures.walked in
+    whole_ends c.args.under.now c.args.access.now (g.S.Supply.memory c.args.supply.now) _ c.in-Ok.output _ c.in-Ok.ensures.walked _ _
     (rose_weaker _ _ _ _ c.in-Ok.ensures.later (omega arith)) (rw c.config-config.ensures.same at c.if-not-config.false) _ c.in-Ok-stage2.leaf _ w
     (rw (c.as_ref-2.ensures.value, c.config-config.ensures.same) at c.finish-2.ensures)

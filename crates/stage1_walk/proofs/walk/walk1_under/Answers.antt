@@ -1,7 +1,7 @@
 use Rattle.std.proofs.Common.{rules, arith, ◌≡◌, ◌≤◌, ◌+◌, length, length-append, Err, refl, ap}
 use Rattle.trails.specs.Lengths.{most_per_word}
 use Rattle.stage1_walk.proofs.OnEntries.{entry_here, word_stopped, word_reaches, word_stops, word_goes}
-use Rattle.stage1_walk.proofs.walk.walk_left.Goals as goal
+use Rattle.stage1_walk.proofs.walk.walk1_under.Goals as goal
 
 pub returns-in_err-word-clause-walked : goal.returns-in_err-word-clause-walked
 returns-in_err-word-clause-walked g c =

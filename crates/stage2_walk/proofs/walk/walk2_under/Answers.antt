@@ -2,7 +2,7 @@ use Rattle.std.proofs.Common.{rules, arith, ◌≡◌, ◌+◌, length, Err, ref
 use Rattle.table_reads.proofs.Weaker.{rose_weaker}
 use Rattle.walk_spec.proofs.Walks.{one_longer}
 use Rattle.stage2_walk.proofs.OnWords.{word_lacks, word_reaches, word_stops, word_goes}
-use Rattle.stage2_walk.proofs.walk.walk_left.Goals as goal
+use Rattle.stage2_walk.proofs.walk.walk2_under.Goals as goal
 
 pub returns-in_err-word-clause-walked : goal.returns-in_err-word-clause-walked
 returns-in_err-word-clause-walked g c =

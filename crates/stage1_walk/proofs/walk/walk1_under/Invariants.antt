@@ -5,7 +5,7 @@ use Rattle.trails.specs.declared.outcome.Stop.{Stop}
 use Rattle.walk_spec.specs.declared.leaf.Leaf1.{Leaf1}
 use Rattle.stage1_walk.specs.Under.{asked_under}
 use Rattle.stage1_walk.specs.Gave.{Walked1}
-use Rattle.stage1_walk.proofs.walk.walk_left.Given as goal
+use Rattle.stage1_walk.proofs.walk.walk1_under.Given as goal
 
 -- a walk from the table that is reached is the rest of the walk from the first one
 abbrev pub invariant-loop-word : goal.invariant-loop-word
