@@ -81,10 +81,7 @@ pub(crate) fn stage1<S: Supply>(
     let config = under.config();
     if !config.m {
         return match off1(config, access) {
-            Ok(ipa) => Ok(Output1 {
-                out: ipa,
-                leaf: None,
-            }),
+            Ok(out) => Ok(Output1 { out, leaf: None }),
             Err(fault) => Err(Stop::Fault { fault }),
         };
     }

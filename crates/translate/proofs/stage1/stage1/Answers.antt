@@ -10,8 +10,8 @@ pub returns-in-Ok-clause-walked : goal.returns-in-Ok-clause-walked
 returns-in-Ok-clause-walked g c =
     let k = config_of c.args.under.now.regs in
     let off = rw c.config-config.ensures.same at c.if-not-config.true in
-    let h = begins_off k c.args.access.now c.in-Ok.ipa off (rw c.config-config.ensures.same at c.in-Ok.ensures) in
-    stage_off c.args.under.now c.args.access.now (g.S.Supply.memory c.args.supply.now) _ _ c.in-Ok.ipa (is_off k c.args.access.now c.in-Ok.ipa h)
+    let h = begins_off k c.args.access.now c.in-Ok.out off (rw c.config-config.ensures.same at c.in-Ok.ensures) in
+    stage_off c.args.under.now c.args.access.now (g.S.Supply.memory c.args.supply.now) _ _ c.in-Ok.out (is_off k c.args.access.now c.in-Ok.out h)
     c.requires.empty
 
 pub returns-in-Err-clause-walked : goal.returns-in-Err-clause-walked
