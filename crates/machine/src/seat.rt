@@ -152,7 +152,8 @@ impl Seat {
 
     /// Writes the answer of an access at a moment, which is the number of the step, where an earlier one stood.
     pub fn access(&mut self, phys: &Phys, moment: u32, access: &Access, answer: &mut Answer)
-        ensures answer { (h : Header) → Suits h self.old.core → answer.new ≡ (visited (visit_at h self.old.core (memory_of phys.now) moment) access.now).answer }
+        ensures answer { (h : Header) → Suits h self.old.core →
+            answer.new ≡ (visited (visit_at h self.old.core (memory_of phys.now) moment) access.now).answer }
         ensures core { (h : Header) → Suits h self.old.core →
             core_at self.new ≡ with_cache (core_at self.old) (visited (visit_at h self.old.core (memory_of phys.now) moment) access.now).cache }
         ensures build { build_of self.new ≡ build_of self.old }

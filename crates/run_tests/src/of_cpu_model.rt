@@ -4,7 +4,7 @@ use phys_mem::Phys;
 use std::test::Fail;
 use sysregs::Reg;
 use trace_lang::{Policy, Size};
-use trails::{Access, Outcome};
+use trails::{Access, Outcome, StepSlot};
 
 /// What is done to the registers of a core.
 #[derive(Clone, Copy)]
@@ -82,9 +82,10 @@ fn accesses_read_now(rt: HostRuntime) -> Result<(), Fail> {
     };
     cpu.msr(Reg::Ttbr0El1, 0x1000);
     cpu.msr(Reg::MairEl1, 0xff);
+    let mut answer = StepSlot::new().answer;
     for (now, word) in [(0, 0), (1, 0), (7, 0x8000_0441)] {
         phys.store(0x1008, word);
-        let answer = cpu.access(&phys, now, &access);
+        cpu.access(&phys, now, &access, &mut answer);
         assert!(rt;
             matches!(
                 answer.outcome,

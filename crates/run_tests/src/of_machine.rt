@@ -1,7 +1,7 @@
-use machine::Machine;
+use machine::{Machine, Runner};
 use std::test::Fail;
 use trace_lang::{Size, parse};
-use trails::Outcome;
+use trails::{Outcome, Step, StepSlot};
 
 /// Two cores with 39-bit low addresses. A table at 0x1000 has a block of 1 GB at 0x80000000 for 0x40000000.
 const RUN: &str = "cores 2
@@ -103,5 +103,35 @@ fn runs_a_trace(rt: HostRuntime) -> Result<(), Fail> {
         }
     }
     assert!(rt; wanted.next().is_none());
+    Ok(())
+}
+
+/// Whether a slot has the step of a log: its event and what its answer says.
+fn is_step(slot: &StepSlot, step: &Step) -> bool {
+    let Some(answer) = &step.answer else {
+        return slot.event == step.event && !slot.is_answered;
+    };
+    slot.event == step.event
+        && slot.is_answered
+        && slot.answer.outcome == answer.outcome
+        && slot.answer.first.items() == answer.first.items()
+        && slot.answer.second.is_none() == answer.second.is_none()
+}
+
+#[test]
+fn a_runner_has_the_steps_of_the_log(rt: HostRuntime) -> Result<(), Fail> {
+    let alloc = rt.alloc();
+    let mut machine = Machine::opened(alloc, parse(alloc, RUN.as_bytes())?)?;
+    let mut runner = Runner::opened(alloc, parse(alloc, RUN.as_bytes())?)?;
+    let mut slot = StepSlot::new();
+    for k in 0..runner.left() {
+        if machine.left() > 0 && runner.left() > 0 {
+            machine.step();
+            runner.step(&mut slot);
+        }
+        let step = machine.log().get(k);
+        assert!(rt; step.is_some_and(|step| is_step(&slot, step)));
+    }
+    assert!(rt; (machine.left(), runner.left()) == (0, 0));
     Ok(())
 }

@@ -9,7 +9,7 @@ use fault_codes::{Class, Fault, Stage};
 use permissions::{El, Kind, Perms};
 use report_text::Report;
 use std::alloc::{AllocError, Global};
-use trails::{Access, Answer, Event, Item, Outcome, Step, Trail, What};
+use trails::{Access, Answer, Event, Item, Outcome, StepSlot, Trail, What};
 
 /// The numbers of a log without accesses.
 const NONE: &str =
@@ -131,17 +131,18 @@ fn answer(asid: u16, vmid: u16, outcome: Outcome, first: Trail) -> Answer
     }
 }
 
-fn accessed(core: u8, access: Access, answer: Answer) -> Step
+fn accessed(core: u8, access: Access, answer: Answer) -> StepSlot
     requires { HasText (printed true answer.outcome) }
     ensures { HasTextInRun result.answer }
 {
-    Step {
+    StepSlot {
+        answer,
         event: Event::Access { core, access },
-        answer: Some(answer),
+        is_answered: true,
     }
 }
 
-fn first_access() -> Step
+fn first_access() -> StepSlot
     ensures { HasTextInRun result.answer }
 {
     let answer = Answer {
@@ -151,7 +152,7 @@ fn first_access() -> Step
     accessed(0, READ, answer)
 }
 
-fn prefetch() -> Step
+fn prefetch() -> StepSlot
     ensures { HasTextInRun result.answer }
 {
     let access = Access {
@@ -165,13 +166,14 @@ fn prefetch() -> Step
         evicted: 4,
         ..answer(2, 0xab, faulted(), Trail::none())
     };
-    Step {
+    StepSlot {
+        answer,
         event: Event::Prefetch { core: 1, access },
-        answer: Some(answer),
+        is_answered: true,
     }
 }
 
-fn aborted() -> Step
+fn aborted() -> StepSlot
     ensures { HasTextInRun result.answer }
 {
     let access = Access {
@@ -186,7 +188,7 @@ fn aborted() -> Step
     accessed(7, access, answer)
 }
 
-fn conflict() -> Step
+fn conflict() -> StepSlot
     ensures { HasTextInRun result.answer }
 {
     let answer = Answer {
@@ -198,16 +200,17 @@ fn conflict() -> Step
 }
 
 /// A step that is not answered.
-fn quiet(event: Event) -> Step
+fn quiet(event: Event) -> StepSlot
     ensures { HasTextInRun result.answer }
 {
-    Step {
+    StepSlot {
         event,
-        answer: None,
+        is_answered: false,
+        ..StepSlot::new()
     }
 }
 
-fn put(log: &mut Vec<Step>, step: Step) -> Result<(), AllocError>
+fn put(log: &mut Vec<StepSlot>, step: StepSlot) -> Result<(), AllocError>
     requires step { HasTextInRun step.answer }
     requires log { HaveTexts log.old.items }
     ensures log { OnOk result (HaveTexts log.new.items) }
@@ -218,7 +221,7 @@ fn put(log: &mut Vec<Step>, step: Step) -> Result<(), AllocError>
 }
 
 /// A log with an answer of each kind.
-fn six_steps(alloc: Global) -> Result<Vec<Step>, AllocError>
+fn six_steps(alloc: Global) -> Result<Vec<StepSlot>, AllocError>
     ensures { IfOk result (λ log. HaveTexts log.items × (length log.items ≤ 6)) }
 {
     let mut log = Vec::new(alloc);
@@ -239,7 +242,7 @@ fn six_steps(alloc: Global) -> Result<Vec<Step>, AllocError>
 }
 
 /// Writes the report of a log.
-fn report<O: Sink>(alloc: Global, out: &mut O, log: &[Step]) -> Result<(), WriteFailed>
+fn report<O: Sink>(alloc: Global, out: &mut O, log: &[StepSlot]) -> Result<(), WriteFailed>
     requires printable { HaveTexts log.now }
     requires length { length log.now ≤ 500 }
 {
@@ -264,7 +267,7 @@ fn reports_a_run(rt: HostRuntime) -> Result<(), AllocError> {
 }
 
 /// A log whose report is handed on in three pieces: each access has 156 bytes.
-fn many_accesses(alloc: Global) -> Result<Vec<Step>, AllocError>
+fn many_accesses(alloc: Global) -> Result<Vec<StepSlot>, AllocError>
     ensures { IfOk result (λ log. HaveTexts log.items × (length log.items ≤ 500)) }
 {
     let mut log = Vec::new(alloc);

@@ -1,4 +1,4 @@
-ghost use Rattle.std.specs.Prelude.{◌≡◌};
+ghost use Rattle.std.specs.Prelude.{◌≡◌, None};
 
 use crate::{Answer, Event, Outcome, Step, Trail};
 use std::marker::Model;
@@ -22,8 +22,10 @@ impl Model for StepSlot {
 }
 
 impl StepSlot {
-    /// Room for steps.
-    pub fn new() -> StepSlot {
+    /// Room for steps, without an answer.
+    pub fn new() -> StepSlot
+        ensures { result.answer ≡ None }
+    {
         StepSlot {
             answer: Answer {
                 asid: 0,

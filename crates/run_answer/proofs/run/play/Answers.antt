@@ -27,8 +27,8 @@ loop-k-preserved g c =
       count = count;
       log = s.ensures.run ∙ ap (λ u. run_of u.header (take (length s.new.self.log) u.events)) i.trace ∙ ap (λ n. run_of t.header (take n t.events)) count;
       report =
-          one_more _ _ c.step-in-loop-k.new.self t.header t.events c.loop-k.machine.log s.new.self.log s.new.slot s.ensures.log c.step-in-loop-k.result (search rules)
-          (c.step-in-loop-k.ensures.text _ c.loop-k.machine.log i.report);
+          one_more _ _ c.step-in-loop-k.new.self t.header t.events c.loop-k.machine.log s.new.self.log s.new.slot s.ensures.log
+          c.step-in-loop-k.result (search rules) (c.step-in-loop-k.ensures.text _ c.loop-k.machine.log i.report);
     }
 
 pub returns-in_err-step-clause-text : goal.returns-in_err-step-clause-text
@@ -39,5 +39,5 @@ returns-in_err-step-clause-text g c =
     let count : length s.new.self.log ≡ c.loop-k.k + 1 = more s.new.self.log c.loop-k.machine.log s.new.slot c.loop-k.k s.ensures.log i.count in
     let run : s.new.self.log ≡ run_of t.header (take (c.loop-k.k + 1) t.events) =
     s.ensures.run ∙ ap (λ u. run_of u.header (take (length s.new.self.log) u.events)) i.trace ∙ ap (λ n. run_of t.header (take n t.events)) count in
-    part_written _ _ c.step-in-loop-k.new.self t.header t.events c.loop-k.machine.log s.new.self.log s.new.slot s.ensures.log (c.loop-k.k + 1) run c.step-in-loop-k.result
-    c.from_residual.result (search rules) (search rules) (c.step-in-loop-k.ensures.text _ c.loop-k.machine.log i.report)
+    part_written _ _ c.step-in-loop-k.new.self t.header t.events c.loop-k.machine.log s.new.self.log s.new.slot s.ensures.log (c.loop-k.k + 1) run
+    c.step-in-loop-k.result c.from_residual.result (search rules) (search rules) (c.step-in-loop-k.ensures.text _ c.loop-k.machine.log i.report)
