@@ -70,5 +70,5 @@ room_left radix k n p h l = let one : k ≡ suc (k - 1) =
     omega arith in (div-lt_iff_lt-mul p).1 (let b : n < radix ^ suc (k - 1) = subst (λ (x : ℕ). n < radix ^ x) one l in rw pow-suc at b)
 
 -- what stands behind a place of an array
-pub drop_room : (k r e : ℕ) (m n : List ℕ) → length m ≡ 160 → length n ≡ 160 → e ≤ r + k → length (drop r m) ≤ k + length (drop e n)
+pub drop_room : (k r e : ℕ) (m n : List ℕ) → length m ≡ 16384 → length n ≡ 16384 → e ≤ r + k → length (drop r m) ≤ k + length (drop e n)
 drop_room k r e m n a b h = simp length-drop (omega arith)

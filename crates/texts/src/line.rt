@@ -5,8 +5,9 @@ ghost use Rattle.texts.specs.Shown.{shown, shown_byte};
 
 use std::marker::Model;
 
-/// The most bytes of a line.
-pub const LINE: usize = 160;
+/// The most bytes of a line, which may have line ends in it: there is room for all lines of one step of a run, two trails
+/// of 42 items among them.
+pub const LINE: usize = 16 * 1024;
 
 /// How many bytes of a name are shown.
 pub const SHOWN: usize = 64;
@@ -115,6 +116,14 @@ impl Line {
         }
     }
 
+    /// Takes the text out, so that the line is used again.
+    #[inline]
+    pub fn clear(&mut self)
+        ensures { self.new ≡ [] }
+    {
+        self.start = LINE;
+    }
+
     /// The text so far.
     #[inline]
     pub fn bytes(&self) -> &[u8]
@@ -155,6 +164,16 @@ impl Line {
         self.text(&[b'0', b'x', glyph(n / 16), glyph(n % 16)]);
     }
 
+    /// Puts a number as hexadecimal digits without leading zeros, and without `0x`.
+    #[inline]
+    pub fn hex_digits(&mut self, n: u64)
+        requires { 16 + length self.old ≤ LINE }
+        ensures text { self.new ≡ digits 16 false n ++ self.old }
+        ensures room { length self.new ≤ 16 + length self.old }
+    {
+        self.start = digits_before(&mut self.bytes, self.start, n, 16, 16);
+    }
+
     /// Puts a number as `0x` and hexadecimal digits without leading zeros.
     #[inline]
     pub fn hex(&mut self, n: u64)
@@ -162,8 +181,8 @@ impl Line {
         ensures text { self.new ≡ hex_text n ++ self.old }
         ensures room { length self.new ≤ 18 + length self.old }
     {
-        self.start = digits_before(&mut self.bytes, self.start, n, 16, 16);
-        self.start = text_before(&mut self.bytes, self.start, b"0x");
+        self.hex_digits(n);
+        self.text(b"0x");
     }
 
     /// Puts a number in decimal.
