@@ -13,11 +13,11 @@ pub onto_start : (radix n : ℕ) → onto 64 radix n [] ≡ digits radix false n
 unfolding onto digits
 onto_start radix n = refl
 
-onto_last : (room radix n : ℕ) (acc : List ℕ) → eqb (n / radix) 0 ≡ true → onto (suc room) radix n acc ≡ digit_glyph false (n % radix) ∷ acc
+pub onto_last : (room radix n : ℕ) (acc : List ℕ) → eqb (n / radix) 0 ≡ true → onto (suc room) radix n acc ≡ digit_glyph false (n % radix) ∷ acc
 unfolding onto
 onto_last room radix n acc h = rw h refl
 
-onto_more : (room radix n : ℕ) (acc : List ℕ) → eqb (n / radix) 0 ≡ false →
+pub onto_more : (room radix n : ℕ) (acc : List ℕ) → eqb (n / radix) 0 ≡ false →
     onto (suc room) radix n acc ≡ onto room radix (n / radix) (digit_glyph false (n % radix) ∷ acc)
 unfolding onto
 onto_more room radix n acc h = rw h refl
