@@ -6,8 +6,8 @@ ghost use Rattle.explain_text.specs.Texts.{item_text};
 ghost use Rattle.explain_text.specs.Explained.{access_text, outcome_text, explain_text};
 ghost use Rattle.trails.specs.Printed.{HasText};
 
-use crate::lines::item_lines;
-use crate::outcomes::outcome_line;
+use crate::lines::put_items;
+use crate::outcomes::put_outcome;
 use crate::parts;
 use crate::sink::{Sink, WriteFailed};
 use sysregs::Regs;
@@ -22,15 +22,15 @@ pub fn put_access(line: &mut Line, access: &Access, asid: u16, vmid: u16)
     ensures text { line.new ≡ access_text [] access.now asid vmid ++ line.old }
     ensures room { length line.new ≤ 90 + length line.old }
 {
-    line.hex(vmid as u64);
-    line.text(b" vmid ");
-    line.hex(asid as u64);
-    line.text(b" asid ");
+    line.hex_digits(vmid as u64);
+    line.text(b" vmid 0x");
+    line.hex_digits(asid as u64);
+    line.text(b" asid 0x");
     line.when(access.pan, b" pan");
     parts::kind(line, access.kind);
     parts::el(line, access.el);
-    line.hex(access.va);
-    line.text(b" ");
+    line.hex_digits(access.va);
+    line.text(b" 0x");
 }
 
 /// The line of an access without its end, as `access 0x40201abc el1 read asid 0x1 vmid 0x0`, with another word in place of
@@ -52,33 +52,8 @@ pub fn access_line<O: Sink>(
     out.put(line.bytes())
 }
 
-/// The whole line of an access in force of these registers.
-fn first_line<O: Sink>(out: &mut O, regs: &Regs, access: &Access) -> Result<(), WriteFailed>
-    ensures text { Wrote (O.written out.old) (O.written out.new) result
-        (access_text (codes "access") access.now (asid_of regs.now) (vmid_of regs.now) ++ codes "\n") }
-    ensures cause { HasCause (O.faults out.old) (O.faults out.new) result }
-{
-    let mut line = Line::new();
-    line.text(b"\n");
-    put_access(&mut line, access, asid(regs), vmid(regs));
-    line.text(b"access");
-    out.put(line.bytes())
-}
-
-/// The lines behind the first.
-#[tactic(auto, using(crate::proofs::Sinks::fails_first, crate::proofs::Sinks::goes_on))]
-fn walk_lines<O: Sink>(out: &mut O, outcome: &Outcome, trail: &Trail) -> Result<(), WriteFailed>
-    requires { HasText outcome.now }
-    ensures text { Wrote (O.written out.old) (O.written out.new) result (flat_map (item_text false) trail.now ++ outcome_text false outcome.now) }
-    ensures cause { HasCause (O.faults out.old) (O.faults out.new) result }
-{
-    item_lines(out, trail.items(), false)?;
-    outcome_line(out, outcome, false)
-}
-
 /// The text of one access: its line, the items of its walk in order, and the line of its outcome. The form is this
 /// project's own rule.
-#[tactic(auto, using(crate::proofs::Sinks::fails_first, crate::proofs::Sinks::goes_on))]
 pub fn explain<O: Sink>(
     out: &mut O,
     regs: &Regs,
@@ -90,6 +65,11 @@ pub fn explain<O: Sink>(
     ensures text { Wrote (O.written out.old) (O.written out.new) result (explain_text regs.now access.now trail.now outcome.now) }
     ensures cause { HasCause (O.faults out.old) (O.faults out.new) result }
 {
-    first_line(out, regs, access)?;
-    walk_lines(out, outcome, trail)
+    let mut line = Line::new();
+    put_outcome(&mut line, outcome, false);
+    put_items(&mut line, trail.items(), false);
+    line.text(b"\n");
+    put_access(&mut line, access, asid(regs), vmid(regs));
+    line.text(b"access");
+    out.put(line.bytes())
 }

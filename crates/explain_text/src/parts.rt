@@ -1,5 +1,5 @@
 //! Parts of lines. Each is put before what stands.
-ghost use Rattle.std.specs.Prelude.{codes, ◌≡◌, ◌≤◌, ◌+◌, ◌++◌, length, if◌then◌else◌};
+ghost use Rattle.std.specs.Prelude.{codes, ◌≡◌, ◌≤◌, ◌<◌, ◌+◌, ◌++◌, length, decimal, if◌then◌else◌};
 ghost use Rattle.explain_text.specs.Texts.{level_text, stage_digit, class_text, what_text, value_text, moment_text};
 ghost use Rattle.explain_text.specs.Mapped.{letters_text, rights_text, hints_text, cache_text, device_text, normal_text, mem_text, share_text};
 ghost use Rattle.permissions.specs.AccessNames.{el_text, kind_text};
@@ -56,17 +56,51 @@ pub fn class(line: &mut Line, class: Class)
     }
 }
 
-/// Puts the word for what an item is.
+/// Puts an item's stage and what it is.
 #[inline]
-pub fn what(line: &mut Line, what: What)
-    requires { 5 + length line.old ≤ LINE }
-    ensures text { line.new ≡ what_text what ++ line.old }
-    ensures room { length line.new ≡ 5 + length line.old }
+pub fn name(line: &mut Line, stage: Stage, what: What)
+    requires { 7 + length line.old ≤ LINE }
+    ensures text { line.new ≡ codes "s" ++ (stage_digit stage ++ (what_text what ++ line.old)) }
+    ensures room { length line.new ≡ 7 + length line.old }
 {
-    match what {
-        What::Base => line.text(b" base"),
-        What::Word => line.text(b" word"),
+    match stage {
+        Stage::S1 => match what {
+            What::Base => line.text(b"s1 base"),
+            What::Word => line.text(b"s1 word"),
+        },
+        Stage::S2 => match what {
+            What::Base => line.text(b"s2 base"),
+            What::Word => line.text(b"s2 word"),
+        },
     }
+}
+
+/// The words around a level of one digit, up to the digits of a place.
+#[inline]
+fn level_words(level: u8) -> [u8; 14]
+    requires { level < 4 }
+    ensures text { result ≡ codes " level " ++ (decimal level ++ codes " at 0x") }
+    ensures size { length result ≡ 14 }
+{
+    let mut words = *b" level 0 at 0x";
+    words[7] = b'0' + level;
+    words
+}
+
+/// Puts a level and what stands before the digits of a place, as ` level 3 at 0x`.
+#[inline]
+pub fn level_at(line: &mut Line, at: i8)
+    requires { 34 + length line.old ≤ LINE }
+    ensures text { line.new ≡ codes " level " ++ (level_text at ++ (codes " at 0x" ++ line.old)) }
+    ensures room { length line.new ≤ 34 + length line.old }
+{
+    if at >= 0 && at <= 3 {
+        line.text(&level_words(at as u8));
+        return;
+    }
+    line.text(b" at 0x");
+    level(line, at);
+    line.text(b" level ");
 }
 
 /// Puts what a word holds, and nothing for a base.
@@ -77,8 +111,8 @@ pub fn value(line: &mut Line, what: What, value: u64)
     ensures room { length line.new ≤ 25 + length line.old }
 {
     if let What::Word = what {
-        line.hex(value);
-        line.text(b" value ");
+        line.hex_digits(value);
+        line.text(b" value 0x");
     }
 }
 

@@ -1,4 +1,5 @@
 pub mod Counting
 pub mod Pages
+pub mod Parts
 pub mod Steps
 pub mod Worked

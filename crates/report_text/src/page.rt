@@ -6,9 +6,10 @@ ghost use Rattle.trails.specs.Printed.{HasTextInRun};
 ghost use Rattle.report_text.specs.Waits.{Adds, HandsOn};
 
 use crate::counts::Counts;
-use crate::lines::{step_lines, summary_line};
+use crate::lines::{put_step_lines, put_summary_line};
 use explain_text::{Sink, WriteFailed};
 use std::alloc::Global;
+use texts::Line;
 use trails::StepSlot;
 
 /// How many bytes wait at least before they are handed on.
@@ -72,10 +73,31 @@ fn pass_first<O: Sink>(page: &mut Page, out: &mut O, count: usize) -> Result<(),
     pass_on(page, out, 0)
 }
 
-/// Puts the lines of a step on a page, and hands it on where enough waits. Lines for which memory is refused go straight
+/// Puts a text on a page, and hands it on where at least so much waits. A text for which memory is refused goes straight
 /// out, behind what waits.
+fn put_text<O: Sink>(
+    page: &mut Page,
+    out: &mut O,
+    text: &[u8],
+    least: usize,
+) -> Result<(), WriteFailed>
+    ensures text { Adds (O.written out.old) (O.written out.new) result page.old.bytes.items page.new.bytes.items text.now }
+    ensures empty { least ≡ 0 → OnOk result (page.new.bytes.items ≡ []) }
+    ensures cause { HasCause (O.faults out.old) (O.faults out.new) result }
+{
+    let waits = page.bytes.len();
+    if page.put(text).is_ok() {
+        return pass_on(page, out, least);
+    }
+    pass_first(page, out, waits)?;
+    out.put(text)
+}
+
+/// Puts the lines of a step on a page, and hands it on where enough waits. They are built in a line that is used again for
+/// each step.
 pub fn put_step<O: Sink>(
     page: &mut Page,
+    line: &mut Line,
     out: &mut O,
     number: u64,
     step: &StepSlot,
@@ -84,17 +106,15 @@ pub fn put_step<O: Sink>(
     ensures text { Adds (O.written out.old) (O.written out.new) result page.old.bytes.items page.new.bytes.items (step_text number step.now) }
     ensures cause { HasCause (O.faults out.old) (O.faults out.new) result }
 {
-    let waits = page.bytes.len();
-    if step_lines(page, number, step).is_ok() {
-        return pass_on(page, out, LEAST);
-    }
-    pass_first(page, out, waits)?;
-    step_lines(out, number, step)
+    line.clear();
+    put_step_lines(line, number, step);
+    put_text(page, out, line.bytes(), LEAST)
 }
 
-/// Puts the summary line on a page, and hands on all that waits. A line for which memory is refused goes straight out.
+/// Puts the summary line on a page, and hands on all that waits.
 pub fn put_summary<O: Sink>(
     page: &mut Page,
+    line: &mut Line,
     out: &mut O,
     counts: &Counts,
 ) -> Result<(), WriteFailed>
@@ -102,10 +122,7 @@ pub fn put_summary<O: Sink>(
     ensures empty { OnOk result (page.new.bytes.items ≡ []) }
     ensures cause { HasCause (O.faults out.old) (O.faults out.new) result }
 {
-    let waits = page.bytes.len();
-    if summary_line(page, counts).is_ok() {
-        return pass_on(page, out, 0);
-    }
-    pass_first(page, out, waits)?;
-    summary_line(out, counts)
+    line.clear();
+    put_summary_line(line, counts);
+    put_text(page, out, line.bytes(), 0)
 }

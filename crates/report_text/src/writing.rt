@@ -11,6 +11,7 @@ use crate::page::{Page, put_step, put_summary};
 use explain_text::{Sink, WriteFailed};
 use std::alloc::Global;
 use std::marker::Model;
+use texts::Line;
 use trails::StepSlot;
 
 /// The room of a page in bytes: what waits before it is handed on, and then the lines of one step.
@@ -24,6 +25,7 @@ pub struct Report {
     page: Page,
     counts: Counts,
     steps: u64,
+    line: Line,
 }
 
 impl Model for Report {
@@ -47,6 +49,7 @@ impl Report {
             page: Page::with_room(alloc, ROOM),
             counts: Counts::none(),
             steps: 0,
+            line: Line::new(),
         }
     }
 
@@ -62,7 +65,7 @@ impl Report {
         let number = self.steps;
         self.counts.step(step);
         self.steps += 1;
-        put_step(&mut self.page, out, number, step)
+        put_step(&mut self.page, &mut self.line, out, number, step)
     }
 
     /// Writes the summary line, and all that waits.
@@ -71,6 +74,6 @@ impl Report {
             Wrote before (O.written out.new) result (report_text log) }
         ensures cause { HasCause (O.faults out.old) (O.faults out.new) result }
     {
-        put_summary(&mut self.page, out, &self.counts)
+        put_summary(&mut self.page, &mut self.line, out, &self.counts)
     }
 }

@@ -13,11 +13,11 @@ pub onto_start : (radix n : ℕ) → onto 64 radix n [] ≡ digits radix false n
 unfolding onto digits
 onto_start radix n = refl
 
-onto_last : (room radix n : ℕ) (acc : List ℕ) → eqb (n / radix) 0 ≡ true → onto (suc room) radix n acc ≡ digit_glyph false (n % radix) ∷ acc
+pub onto_last : (room radix n : ℕ) (acc : List ℕ) → eqb (n / radix) 0 ≡ true → onto (suc room) radix n acc ≡ digit_glyph false (n % radix) ∷ acc
 unfolding onto
 onto_last room radix n acc h = rw h refl
 
-onto_more : (room radix n : ℕ) (acc : List ℕ) → eqb (n / radix) 0 ≡ false →
+pub onto_more : (room radix n : ℕ) (acc : List ℕ) → eqb (n / radix) 0 ≡ false →
     onto (suc room) radix n acc ≡ onto room radix (n / radix) (digit_glyph false (n % radix) ∷ acc)
 unfolding onto
 onto_more room radix n acc h = rw h refl
@@ -70,5 +70,5 @@ room_left radix k n p h l = let one : k ≡ suc (k - 1) =
     omega arith in (div-lt_iff_lt-mul p).1 (let b : n < radix ^ suc (k - 1) = subst (λ (x : ℕ). n < radix ^ x) one l in rw pow-suc at b)
 
 -- what stands behind a place of an array
-pub drop_room : (k r e : ℕ) (m n : List ℕ) → length m ≡ 160 → length n ≡ 160 → e ≤ r + k → length (drop r m) ≤ k + length (drop e n)
+pub drop_room : (k r e : ℕ) (m n : List ℕ) → length m ≡ 16384 → length n ≡ 16384 → e ≤ r + k → length (drop r m) ≤ k + length (drop e n)
 drop_room k r e m n a b h = simp length-drop (omega arith)

@@ -9,7 +9,7 @@ abbrev are_values : (first : ℕ) (list : List ℕ) → Bool
 are_values n [] = true
 are_values n (x ∷ xs) = (x == digit_value n) && are_values (n + 1) xs
 
-both : (a b : Bool) → (a && b) ≡ true → (a ≡ true) × (b ≡ true)
+pub both : (a b : Bool) → (a && b) ≡ true → (a ≡ true) × (b ≡ true)
 both true true h = (refl, refl)
 both true false h = cc
 both false b h = cc

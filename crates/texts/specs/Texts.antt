@@ -10,6 +10,10 @@ joined_text parts = flat_map (λ part. part) parts
 abbrev pub hex_text : (number : ℕ) → List ℕ
 hex_text n = codes "0x" ++ digits 16 false n
 
+-- a byte as two hexadecimal digits
+abbrev pub pair_text : (byte : ℕ) → List ℕ
+pair_text n = digit_glyph false (n / 16) ∷ digit_glyph false (n % 16) ∷ []
+
 -- a byte as 0x and two hexadecimal digits
 abbrev pub byte_text : (byte : ℕ) → List ℕ
-byte_text n = codes "0x" ++ digit_glyph false (n / 16) ∷ digit_glyph false (n % 16) ∷ []
+byte_text n = codes "0x" ++ pair_text n

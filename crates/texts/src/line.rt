@@ -1,12 +1,13 @@
 ghost use Rattle.std.specs.Prelude.{◌≡◌, ◌++◌, ℕ, ◌≤◌, ◌<◌, ◌+◌, ◌^◌, List, [], drop, take, length, map, false, decimal, if◌then◌else◌};
 ghost use Rattle.std.specs.Fmt.{digits, digit_glyph};
-ghost use Rattle.texts.specs.Texts.{hex_text, byte_text};
+ghost use Rattle.texts.specs.Texts.{hex_text, byte_text, pair_text};
 ghost use Rattle.texts.specs.Shown.{shown, shown_byte};
 
 use std::marker::Model;
 
-/// The most bytes of a line.
-pub const LINE: usize = 160;
+/// The most bytes of a line, which may have line ends in it: there is room for all lines of one step of a run, two trails
+/// of 42 items among them.
+pub const LINE: usize = 16 * 1024;
 
 /// How many bytes of a name are shown.
 pub const SHOWN: usize = 64;
@@ -79,6 +80,59 @@ fn text_before(bytes: &mut [u8; LINE], end: usize, text: &[u8]) -> usize
     start
 }
 
+/// All pairs of hexadecimal digits, one behind the other.
+const HEX_PAIRS: [u8; 512] = *b"\
+    000102030405060708090a0b0c0d0e0f101112131415161718191a1b1c1d1e1f\
+    202122232425262728292a2b2c2d2e2f303132333435363738393a3b3c3d3e3f\
+    404142434445464748494a4b4c4d4e4f505152535455565758595a5b5c5d5e5f\
+    606162636465666768696a6b6c6d6e6f707172737475767778797a7b7c7d7e7f\
+    808182838485868788898a8b8c8d8e8f909192939495969798999a9b9c9d9e9f\
+    a0a1a2a3a4a5a6a7a8a9aaabacadaeafb0b1b2b3b4b5b6b7b8b9babbbcbdbebf\
+    c0c1c2c3c4c5c6c7c8c9cacbcccdcecfd0d1d2d3d4d5d6d7d8d9dadbdcdddedf\
+    e0e1e2e3e4e5e6e7e8e9eaebecedeeeff0f1f2f3f4f5f6f7f8f9fafbfcfdfeff\
+";
+
+/// The two bytes at a place.
+#[inline(always)]
+fn two_at(pairs: &[u8; 512], at: usize) -> &[u8]
+    requires { at + 2 ≤ 512 }
+    ensures bytes { result.now ≡ take 2 (drop at pairs.now) }
+    ensures size { length result.now ≡ 2 }
+{
+    &pairs[at..at + 2]
+}
+
+/// Writes two hexadecimal digits so that they end before `end`. Answers where they start.
+#[inline(always)]
+fn pair_before(bytes: &mut [u8; LINE], end: usize, pair: usize) -> usize
+    requires pair { pair < 256 }
+    requires end { (2 ≤ end) × (end ≤ LINE) }
+    ensures text { drop result bytes.new ≡ pair_text pair ++ drop end bytes.old }
+    ensures starts { result + 2 ≡ end }
+{
+    text_before(bytes, end, two_at(&HEX_PAIRS, 2 * pair))
+}
+
+/// Writes the hexadecimal digits of a number, two at a time, so that they end before `end`. Answers where they start.
+#[inline]
+fn hex_before(bytes: &mut [u8; LINE], end: usize, n: u64) -> usize
+    requires end { (16 ≤ end) × (end ≤ LINE) }
+    ensures text { drop result bytes.new ≡ digits 16 false n ++ drop end bytes.old }
+    ensures room { length (drop result bytes.new) ≤ 16 + length (drop end bytes.old) }
+    ensures within { result ≤ end }
+{
+    let mut start = end;
+    let mut rest = n;
+    while rest >= 256 {
+        start = pair_before(bytes, start, (rest % 256) as usize);
+        rest /= 256;
+    }
+    if rest >= 16 {
+        return pair_before(bytes, start, rest as usize);
+    }
+    text_before(bytes, start, &[glyph(rest as u8)])
+}
+
 #[inline]
 fn shown_byte(byte: u8) -> u8
     ensures { result ≡ Rattle.texts.specs.Shown.shown_byte byte }
@@ -113,6 +167,14 @@ impl Line {
             bytes: [0; LINE],
             start: LINE,
         }
+    }
+
+    /// Takes the text out, so that the line is used again.
+    #[inline]
+    pub fn clear(&mut self)
+        ensures { self.new ≡ [] }
+    {
+        self.start = LINE;
     }
 
     /// The text so far.
@@ -155,6 +217,16 @@ impl Line {
         self.text(&[b'0', b'x', glyph(n / 16), glyph(n % 16)]);
     }
 
+    /// Puts a number as hexadecimal digits without leading zeros, and without `0x`.
+    #[inline]
+    pub fn hex_digits(&mut self, n: u64)
+        requires { 16 + length self.old ≤ LINE }
+        ensures text { self.new ≡ digits 16 false n ++ self.old }
+        ensures room { length self.new ≤ 16 + length self.old }
+    {
+        self.start = hex_before(&mut self.bytes, self.start, n);
+    }
+
     /// Puts a number as `0x` and hexadecimal digits without leading zeros.
     #[inline]
     pub fn hex(&mut self, n: u64)
@@ -162,8 +234,8 @@ impl Line {
         ensures text { self.new ≡ hex_text n ++ self.old }
         ensures room { length self.new ≤ 18 + length self.old }
     {
-        self.start = digits_before(&mut self.bytes, self.start, n, 16, 16);
-        self.start = text_before(&mut self.bytes, self.start, b"0x");
+        self.hex_digits(n);
+        self.text(b"0x");
     }
 
     /// Puts a number in decimal.

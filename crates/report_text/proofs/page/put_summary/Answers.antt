@@ -1,18 +1,12 @@
-use Rattle.std.proofs.Common.{rules}
+use Rattle.std.proofs.Common.{◌≡◌, append-nil, subst}
 use Rattle.report_text.specs.Report.{summary_text}
-use Rattle.report_text.proofs.Pages.{adds, stays_behind, goes_straight}
+use Rattle.report_text.specs.Waits.{Adds}
 use Rattle.report_text.proofs.page.put_summary.Goals as goal
-
-pub returns-then-is_ok-clause-text : goal.returns-then-is_ok-clause-text
-returns-then-is_ok-clause-text g c =
-    adds _ _ c.summary_line.result c.pass_on.result _ _ _ (summary_text c.args.counts.now) (search rules) c.summary_line.ensures.text c.pass_on.ensures.text
-
-pub returns-in_err-pass_first-clause-text : goal.returns-in_err-pass_first-clause-text
-returns-in_err-pass_first-clause-text g c =
-    stays_behind _ _ c.summary_line.result c.pass_first.result c.from_residual.result _ _ _ _ (summary_text c.args.counts.now) (search rules) (search rules)
-    (search rules) (search rules) c.summary_line.ensures.text c.pass_first.ensures.text
 
 pub returns-clause-text : goal.returns-clause-text
 returns-clause-text g c =
-    goes_straight _ _ _ c.summary_line.result c.pass_first.result c.summary_line-2.result _ _ _ _ (summary_text c.args.counts.now) (search rules)
-    (search rules) (search rules) c.summary_line.ensures.text c.pass_first.ensures.text (search rules) c.summary_line-2.ensures.text
+    let same : c.bytes.result.now ≡ summary_text c.args.counts.now =
+    rw (c.bytes.ensures, c.put_summary_line.ensures, c.clear.ensures) (append-nil (summary_text c.args.counts.now)) in
+    subst
+    (Adds (g.O.Sink.written c.args.out.now) (g.O.Sink.written c.put_text.new.out) c.put_text.result c.args.page.now.bytes.items
+    c.put_text.new.page.bytes.items) same c.put_text.ensures.text

@@ -35,5 +35,5 @@ returns-after-loop-left-clause-room c =
 pub returns-then-rest-eq0-clause-room : goal.returns-then-rest-eq0-clause-room
 returns-then-rest-eq0-clause-room c =
     drop_room c.args.most (c.loop-left.start - 1) c.args.end (set c.loop-left.bytes (c.loop-left.start - 1) c.glyph.result) c.args.bytes.now
-    (let sized : length (set c.loop-left.bytes (c.loop-left.start - 1) c.glyph.result) ≡ 160 = simp length-set c.loop-left.invariant.size in sized)
+    (let sized : length (set c.loop-left.bytes (c.loop-left.start - 1) c.glyph.result) ≡ 16384 = simp length-set c.loop-left.invariant.size in sized)
     (search rules) (omega arith)

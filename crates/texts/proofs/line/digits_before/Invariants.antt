@@ -8,7 +8,7 @@ abbrev pub invariant-loop-left : goal.invariant-loop-left
 invariant-loop-left l = record {
   counted : l.start + l.most ≡ l.end + l.left;
   few : l.left ≤ l.most;
-  size : length l.bytes ≡ 160;
+  size : length l.bytes ≡ 16384;
   room : l.rest < l.radix ^ l.left;
   more : l.left ≡ 0 → 0 < l.rest;
   same : onto ((64 - l.most) + l.left) l.radix l.rest (drop l.start l.bytes) ≡ digits l.radix false l.n ++ drop l.end l.fn.bytes;

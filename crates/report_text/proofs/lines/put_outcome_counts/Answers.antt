@@ -1,0 +1,23 @@
+use Rattle.std.proofs.Common.{[], ◌∷◌, codes, decimal}
+use Rattle.report_text.proofs.Parts.{parts_before}
+use Rattle.report_text.proofs.lines.put_outcome_counts.Goals as goal
+
+pub returns : goal.returns
+returns c =
+    rw (
+      c.text-5.ensures.text,
+      c.decimal-5.ensures.text,
+      c.text-4.ensures.text,
+      c.decimal-4.ensures.text,
+      c.text-3.ensures.text,
+      c.decimal-3.ensures.text,
+      c.text-2.ensures.text,
+      c.decimal-2.ensures.text,
+      c.text.ensures.text,
+      c.decimal.ensures.text,
+      ← c.counts.view_is,
+    )
+    (parts_before
+    (codes "summary accesses " ∷ decimal c.counts.inside.accesses ∷ codes " prefetches " ∷ decimal c.counts.inside.prefetches
+    ∷ codes " mapped " ∷ decimal c.counts.inside.mapped ∷ codes " faulted " ∷ decimal c.counts.inside.faulted
+    ∷ codes " conflicts " ∷ decimal c.counts.inside.conflicts ∷ []) c.args.line.now)
