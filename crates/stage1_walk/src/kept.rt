@@ -1,14 +1,13 @@
 //! Words of stage 1 that were kept.
-ghost use Rattle.std.specs.Prelude.{◌≡◌, ◌≤◌, ◌<◌, ◌^◌, ◌%◌, IsFalse, true};
+ghost use Rattle.std.specs.Prelude.{◌≡◌, ◌≤◌, ◌<◌, ◌^◌, ◌%◌, true};
 ghost use Rattle.geometry.specs.Tables.{most_left};
-ghost use Rattle.sysregs.specs.Registers.{InRange, granule_of};
+ghost use Rattle.sysregs.specs.Registers.{granule_of};
 ghost use Rattle.sysregs.specs.Sides.{side_of, tg_of};
-ghost use Rattle.table_reads.specs.Numbers;
 ghost use Rattle.descriptors.specs.Meaning.{means1_of};
 ghost use Rattle.walk_spec.specs.Needs.{fits, word, mapping1, serves_run, regime_of};
 ghost use Rattle.walk_spec.specs.Stage1;
-ghost use Rattle.walk_spec.specs.BothStages.{asked, is_refused1};
-ghost use Rattle.stage1_walk.specs.Under.{IsUnder, regime_under};
+ghost use Rattle.walk_spec.specs.BothStages.{asked};
+ghost use Rattle.stage1_walk.specs.Under.{IsUnder, IsUnderFor, regime_under};
 ghost use Rattle.stage1_walk.specs.SoundSteps.{IsSoundStep};
 ghost use Rattle.stage1_walk.specs.Kept.{needed1};
 
@@ -18,21 +17,19 @@ use descriptors::Kind1;
 use fault_codes::Stage;
 use geometry::serves_run;
 use kept_items::is_word;
-use sysregs::Config;
 use table_reads::{Lead, place};
-use trails::{Access, Item};
+use trails::Item;
 use walk_spec::{Entry1, Leaf1, Table1};
 
 /// The entry that an access selects in a table with so many levels left.
-pub fn entry1<const G: u32>(config: &Config, access: &Access, left: u32, table: Table1) -> Entry1
-    requires config { InRange config.now }
-    requires granule { G ≡ granule_of (tg_of config.now (side_of access.now.va)) }
-    requires accepted { IsFalse (is_refused1 config.now access.now) }
-    requires left { left ≤ (Numbers.sizes1 config.now (side_of access.now.va)).start }
+pub fn entry1<const G: u32>(under: &Under1, left: u32, table: Table1) -> Entry1
+    requires granule { G ≡ granule_of (tg_of under.now.config.now under.now.side) }
+    requires under { IsUnder under.now }
+    requires of { IsUnderFor under.now.config.now under.now.access.now under.now }
+    requires left { left ≤ under.now.sizes.start }
     requires table { table.address < 2 ^ 52 × table.address % 8 ≡ 0 }
-    ensures { result ≡ Stage1.entry1 (asked config.now true access.now) left table }
+    ensures { result ≡ Stage1.entry1 (asked under.now.config.now true under.now.access.now) left table }
 {
-    let under = Under1::accepted(config, access);
     Entry1 {
         table,
         place: place::<G>(&under.sizes, left, table.address, under.address),
@@ -71,40 +68,24 @@ fn fits_under<const G: u32>(under: &Under1, entry: &Entry1, place: u64, item: &I
 }
 
 /// Whether an item is the word of an entry that is needed at a physical place.
-pub fn fits_entry<const G: u32>(
-    config: &Config,
-    access: &Access,
-    entry: &Entry1,
-    place: u64,
-    item: &Item,
-) -> bool
-    requires config { InRange config.now }
-    requires granule { G ≡ granule_of (tg_of config.now (side_of access.now.va)) }
-    requires accepted { IsFalse (is_refused1 config.now access.now) }
+pub fn fits_entry<const G: u32>(under: &Under1, entry: &Entry1, place: u64, item: &Item) -> bool
+    requires granule { G ≡ granule_of (tg_of under.now.config.now under.now.side) }
+    requires under { IsUnder under.now }
+    requires of { IsUnderFor under.now.config.now under.now.access.now under.now }
     requires left { entry.now.left ≤ most_left }
-    ensures { result ≡ fits (regime_of config.now (side_of access.now.va)) (word (needed1 entry.now place)) item.now }
+    ensures { result ≡ fits (regime_of under.now.config.now (side_of under.now.access.now.va)) (word (needed1 entry.now place)) item.now }
 {
-    fits_under::<G>(&Under1::accepted(config, access), entry, place, item)
+    fits_under::<G>(under, entry, place, item)
 }
 
 /// What the word of an item leads to, for an access that is judged.
-pub fn step_kept<const G: u32>(
-    config: &Config,
-    access: &Access,
-    entry: &Entry1,
-    item: &Item,
-) -> Lead<Leaf1, Table1>
-    requires config { InRange config.now }
-    requires granule { G ≡ granule_of (tg_of config.now (side_of access.now.va)) }
-    requires accepted { IsFalse (is_refused1 config.now access.now) }
+pub fn step_kept<const G: u32>(under: &Under1, entry: &Entry1, item: &Item) -> Lead<Leaf1, Table1>
+    requires granule { G ≡ granule_of (tg_of under.now.config.now under.now.side) }
+    requires under { IsUnder under.now }
+    requires of { IsUnderFor under.now.config.now under.now.access.now under.now }
     requires left { entry.now.left ≤ most_left }
-    ensures value { result ≡ Stage1.step1 (asked config.now true access.now) entry.now item.now.pa item.now.value }
+    ensures value { result ≡ Stage1.step1 (asked under.now.config.now true under.now.access.now) entry.now item.now.pa item.now.value }
     ensures sound { IsSoundStep entry.now.left result }
 {
-    step_by::<G>(
-        &Under1::accepted(config, access),
-        entry,
-        item.pa,
-        item.value,
-    )
+    step_by::<G>(under, entry, item.pa, item.value)
 }
