@@ -1,4 +1,4 @@
-//! The lines of a trace's text. Each is built from its end.
+//! The lines of a trace's text. Each is built from its end, in a line that is used again: it takes the place of what stands.
 ghost use Rattle.std.specs.Prelude.{◌≡◌, ◌≤◌, ◌<◌, ◌^◌, ◌+◌, [], ◌∷◌, ◌++◌, length, codes, decimal, if◌then◌else◌};
 ghost use Rattle.sysregs.specs.Names.{reg_text};
 ghost use Rattle.sysregs.specs.Ops.{form_of, has_operand};
@@ -12,14 +12,13 @@ use sysregs::{Op, Reg};
 use texts::{LINE, Line};
 use trails::{Access, Barrier, Event, Origin};
 
-/// A line that has its end alone.
-fn ended() -> Line
-    ensures text { result ≡ codes "\n" }
-    ensures room { length result ≡ 1 }
+/// Leaves the end of a line alone.
+fn end(line: &mut Line)
+    ensures text { line.new ≡ codes "\n" }
+    ensures room { length line.new ≡ 1 }
 {
-    let mut line = Line::new();
+    line.clear();
     line.text(b"\n");
-    line
 }
 
 /// Puts a word behind a space before what stands.
@@ -64,141 +63,132 @@ fn operand(line: &mut Line, op: Op, operand: u64)
 }
 
 /// The line of a TLBI.
-fn tlbi_line(core: u8, from: Origin, op: Op, shared: bool, n: u64) -> Line
-    ensures text { result ≡ line_of (codes "tlbi" ∷ decimal core ∷ origin_text from ∷ op_word op shared
+fn tlbi_line(line: &mut Line, core: u8, from: Origin, op: Op, shared: bool, n: u64)
+    ensures text { line.new ≡ line_of (codes "tlbi" ∷ decimal core ∷ origin_text from ∷ op_word op shared
         ∷ (if has_operand (form_of op).scope then hex_text n ∷ [] else [])) }
 {
-    let mut line = ended();
-    operand(&mut line, op, n);
+    end(line);
+    operand(line, op, n);
     line.when(shared, b"IS");
-    word(&mut line, op.name().as_bytes());
-    word(&mut line, origin_name(from));
-    begin(&mut line, b"tlbi", core);
-    line
+    word(line, op.name().as_bytes());
+    word(line, origin_name(from));
+    begin(line, b"tlbi", core);
 }
 
 /// The line of an access that begins with a word.
-fn access_line(first: &[u8], core: u8, access: Access) -> Line
+fn access_line(line: &mut Line, first: &[u8], core: u8, access: Access)
     requires { length first.now ≤ 20 }
-    ensures text { result ≡ line_of (first.now ∷ decimal core ∷ access_words access) }
+    ensures text { line.new ≡ line_of (first.now ∷ decimal core ∷ access_words access) }
     ensures words { access.va < 2 ^ 64 }
 {
-    let mut line = ended();
+    end(line);
     line.when(access.pan, b" pan");
-    number(&mut line, access.va);
-    word(&mut line, access.kind.name().as_bytes());
-    word(&mut line, access.el.name().as_bytes());
-    begin(&mut line, first, core);
-    line
+    number(line, access.va);
+    word(line, access.kind.name().as_bytes());
+    word(line, access.el.name().as_bytes());
+    begin(line, first, core);
 }
 
 /// The line of an event that has no words but the first and its core.
-fn short_line(first: &[u8], core: u8) -> Line
+fn short_line(line: &mut Line, first: &[u8], core: u8)
     requires { length first.now ≤ 20 }
-    ensures text { result ≡ line_of (first.now ∷ decimal core ∷ []) }
+    ensures text { line.new ≡ line_of (first.now ∷ decimal core ∷ []) }
 {
-    let mut line = ended();
-    begin(&mut line, first, core);
-    line
+    end(line);
+    begin(line, first, core);
 }
 
 /// The line of a store of a value at a place.
-fn store_line(core: u8, pa: u64, value: u64) -> Line
-    ensures text { result ≡ line_of (codes "store" ∷ decimal core ∷ hex_text pa ∷ hex_text value ∷ []) }
+fn store_line(line: &mut Line, core: u8, pa: u64, value: u64)
+    ensures text { line.new ≡ line_of (codes "store" ∷ decimal core ∷ hex_text pa ∷ hex_text value ∷ []) }
 {
-    let mut line = ended();
-    number(&mut line, value);
-    number(&mut line, pa);
-    begin(&mut line, b"store", core);
-    line
+    end(line);
+    number(line, value);
+    number(line, pa);
+    begin(line, b"store", core);
 }
 
 /// The line of a register write.
-fn msr_line(core: u8, reg: Reg, value: u64) -> Line
-    ensures text { result ≡ line_of (codes "msr" ∷ decimal core ∷ reg_text reg ∷ hex_text value ∷ []) }
+fn msr_line(line: &mut Line, core: u8, reg: Reg, value: u64)
+    ensures text { line.new ≡ line_of (codes "msr" ∷ decimal core ∷ reg_text reg ∷ hex_text value ∷ []) }
 {
-    let mut line = ended();
-    number(&mut line, value);
-    word(&mut line, reg.name().as_bytes());
-    begin(&mut line, b"msr", core);
-    line
+    end(line);
+    number(line, value);
+    word(line, reg.name().as_bytes());
+    begin(line, b"msr", core);
 }
 
 /// The line of a DSB.
-fn dsb_line(core: u8, kind: Barrier) -> Line
-    ensures text { result ≡ line_of (codes "dsb" ∷ decimal core ∷ barrier_text kind ∷ []) }
+fn dsb_line(line: &mut Line, core: u8, kind: Barrier)
+    ensures text { line.new ≡ line_of (codes "dsb" ∷ decimal core ∷ barrier_text kind ∷ []) }
 {
-    let mut line = ended();
-    word(&mut line, barrier_name(kind));
-    begin(&mut line, b"dsb", core);
-    line
+    end(line);
+    word(line, barrier_name(kind));
+    begin(line, b"dsb", core);
 }
 
 /// The line of an event.
-pub fn event_line(event: &Event) -> Line
-    ensures text { result ≡ line_of (event_words event.now) }
+pub fn event_line(line: &mut Line, event: &Event)
+    ensures text { line.new ≡ line_of (event_words event.now) }
     ensures words { HasWords event.now }
 {
     match *event {
-        Event::Store { core, pa, value } => store_line(core, pa, value),
-        Event::Msr { core, reg, value } => msr_line(core, reg, value),
-        Event::Settle { core } => short_line(b"settle", core),
-        Event::Isb { core } => short_line(b"isb", core),
+        Event::Store { core, pa, value } => store_line(line, core, pa, value),
+        Event::Msr { core, reg, value } => msr_line(line, core, reg, value),
+        Event::Settle { core } => short_line(line, b"settle", core),
+        Event::Isb { core } => short_line(line, b"isb", core),
         Event::Tlbi {
             core,
             from,
             op,
             shared,
             operand,
-        } => tlbi_line(core, from, op, shared, operand),
-        Event::Dsb { core, kind } => dsb_line(core, kind),
-        Event::Deliver { core } => short_line(b"deliver", core),
-        Event::Access { core, access } => access_line(b"access", core, access),
-        Event::Prefetch { core, access } => access_line(b"prefetch", core, access),
+        } => tlbi_line(line, core, from, op, shared, operand),
+        Event::Dsb { core, kind } => dsb_line(line, core, kind),
+        Event::Deliver { core } => short_line(line, b"deliver", core),
+        Event::Access { core, access } => access_line(line, b"access", core, access),
+        Event::Prefetch { core, access } => access_line(line, b"prefetch", core, access),
     }
 }
 
 /// The line that says how many cores there are.
-pub fn cores_line(cores: u8) -> Line
-    ensures { result ≡ line_of (codes "cores" ∷ decimal cores ∷ []) }
+pub fn cores_line(line: &mut Line, cores: u8)
+    ensures { line.new ≡ line_of (codes "cores" ∷ decimal cores ∷ []) }
 {
-    short_line(b"cores", cores)
+    short_line(line, b"cores", cores)
 }
 
 /// The line of a range of memory: its start and its length in bytes.
-pub fn range_line(base: u64, size: u64) -> Line
-    ensures { result ≡ line_of (range_words (base, size)) }
+pub fn range_line(line: &mut Line, base: u64, size: u64)
+    ensures { line.new ≡ line_of (range_words (base, size)) }
 {
-    let mut line = ended();
-    number(&mut line, size);
-    number(&mut line, base);
+    end(line);
+    number(line, size);
+    number(line, base);
     line.text(b"memory");
-    line
 }
 
 /// The line of the size of the caches.
-pub fn caches_line(size: Size) -> Line
-    ensures { result ≡ line_of (codes "caches" ∷ size_text size ∷ []) }
+pub fn caches_line(line: &mut Line, size: Size)
+    ensures { line.new ≡ line_of (codes "caches" ∷ size_text size ∷ []) }
 {
-    let mut line = ended();
-    word(&mut line, size_name(size));
+    end(line);
+    word(line, size_name(size));
     line.text(b"caches");
-    line
 }
 
 /// The line of the policy of the caches.
-pub fn policy_line(policy: Policy) -> Line
-    ensures { result ≡ line_of (codes "policy" ∷ policy_words policy) }
+pub fn policy_line(line: &mut Line, policy: Policy)
+    ensures { line.new ≡ line_of (codes "policy" ∷ policy_words policy) }
 {
-    let mut line = ended();
+    end(line);
     match policy {
-        Policy::Lru => word(&mut line, b"lru"),
-        Policy::Fifo => word(&mut line, b"fifo"),
+        Policy::Lru => word(line, b"lru"),
+        Policy::Fifo => word(line, b"fifo"),
         Policy::Random { start } => {
-            number(&mut line, start);
-            word(&mut line, b"random");
+            number(line, start);
+            word(line, b"random");
         }
     }
     line.text(b"policy");
-    line
 }

@@ -9,6 +9,7 @@ use crate::Trace;
 use crate::lines::{caches_line, cores_line, event_line, policy_line, range_line};
 use bitwords::NoMemory;
 use std::alloc::Global;
+use texts::Line;
 use trails::Event;
 
 /// Puts a line behind the text that stands.
@@ -21,30 +22,35 @@ fn put(text: &mut Vec<u8>, line: &[u8]) -> Result<(), NoMemory>
     }
 }
 
-fn put_ranges(text: &mut Vec<u8>, ranges: &[(u64, u64)]) -> Result<(), NoMemory>
+fn put_ranges(text: &mut Vec<u8>, line: &mut Line, ranges: &[(u64, u64)]) -> Result<(), NoMemory>
     ensures { IfOk result (λ _. text.new.items ≡ text.old.items ++ flat_map (λ r. line_of (range_words r)) ranges.now) }
 {
     for range in ranges {
-        put(text, range_line(range.0, range.1).bytes())?;
+        range_line(line, range.0, range.1);
+        put(text, line.bytes())?;
     }
     Ok(())
 }
 
-fn put_header(text: &mut Vec<u8>, trace: &Trace) -> Result<(), NoMemory>
+fn put_header(text: &mut Vec<u8>, line: &mut Line, trace: &Trace) -> Result<(), NoMemory>
     ensures { IfOk result (λ _. text.new.items ≡ text.old.items ++ header_text trace.now.header) }
 {
-    put(text, cores_line(trace.cores()).bytes())?;
-    put_ranges(text, trace.ranges())?;
-    put(text, caches_line(trace.size()).bytes())?;
-    put(text, policy_line(trace.policy()).bytes())
+    cores_line(line, trace.cores());
+    put(text, line.bytes())?;
+    put_ranges(text, line, trace.ranges())?;
+    caches_line(line, trace.size());
+    put(text, line.bytes())?;
+    policy_line(line, trace.policy());
+    put(text, line.bytes())
 }
 
-fn put_events(text: &mut Vec<u8>, events: &[Event]) -> Result<(), NoMemory>
+fn put_events(text: &mut Vec<u8>, line: &mut Line, events: &[Event]) -> Result<(), NoMemory>
     ensures text { IfOk result (λ _. text.new.items ≡ text.old.items ++ flat_map (λ e. line_of (event_words e)) events.now) }
     ensures words { IfOk result (λ _. All HasWords events.now) }
 {
     for event in events {
-        put(text, event_line(event).bytes())?;
+        event_line(line, event);
+        put(text, line.bytes())?;
     }
     Ok(())
 }
@@ -57,8 +63,9 @@ pub fn print(alloc: Global, trace: &Trace) -> Result<Vec<u8>, NoMemory>
     ensures again { IsBuilt trace.now.header → HasNoPrefetch trace.now → IfOk result (λ v. trace_of v.items ≡ Ok trace.now) }
 {
     let mut text = Vec::new(alloc);
-    put_header(&mut text, trace)?;
-    put_events(&mut text, trace.events())?;
+    let mut line = Line::new();
+    put_header(&mut text, &mut line, trace)?;
+    put_events(&mut text, &mut line, trace.events())?;
     put(&mut text, b"end\n")?;
     Ok(text)
 }
