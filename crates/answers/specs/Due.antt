@@ -21,12 +21,6 @@ HasAnswerText (Raw va walked) = HasLine walked.outcome
 HasAnswerText (Explain regs access walked) = HasLine walked.outcome
 HasAnswerText (Run machine) = IsReady machine
 
--- the answer of one walk
-abbrev pub IsOfWalk : Answer → Type 0
-IsOfWalk (Raw va walked) = Unit {0}
-IsOfWalk (Explain regs access walked) = Unit {0}
-IsOfWalk (Run machine) = ⊥
-
 -- an answer's text, or a refusal
 abbrev pub due_of : Result Answer Status → Due
 due_of (Ok answer) = Ok (answer_text answer)
