@@ -273,7 +273,7 @@ fn prints_accesses(rt: HostRuntime) {
     }
 }
 
-/// The text of a walk of two items, and how far its four lines go.
+/// The text of a walk of two items.
 const WALK: &str = "access 0x40201abc el1 read asid 0x12 vmid 0xab\n\
     s1 base level 0 at 0x1000\n\
     s2 word level -1 at 0x4008 value 0x5403\n\
@@ -304,12 +304,12 @@ fn explains_a_walk(rt: HostRuntime) -> Result<(), AllocError> {
     let mut out = QuietMemory::new(alloc);
     assert!(rt; put_walk(&mut out).is_ok());
     assert!(rt; out.bytes.as_slice() == WALK.as_bytes());
-    for (call, taken, left) in [(0, 0, 0), (0, 9, 9), (1, 2, 49), (2, 40, 113), (3, 5, 118)] {
+    for taken in [0, 9, 49, 113, 118] {
         let mut fails = Vec::new(alloc);
-        fails.push((call, taken))?;
+        fails.push((0, taken))?;
         let mut out = FailingMemory::new(alloc, fails);
         assert!(rt; put_walk(&mut out).is_err());
-        assert!(rt; out.bytes.len() == left);
+        assert!(rt; (out.calls, out.bytes.len()) == (1, taken));
         assert!(rt; WALK.as_bytes().starts_with(out.bytes.as_slice()));
     }
     Ok(())

@@ -46,4 +46,7 @@ fn lines_grow_at_their_front(rt: HostRuntime) {
     assert!(rt;
         line.bytes() == b"0 18446744073709551615 0x0 0xffffffffffffffff 0x0b a??z".as_slice()
     );
+    line.clear();
+    line.hex_digits(0x1f0);
+    assert!(rt; line.bytes() == b"1f0".as_slice());
 }
