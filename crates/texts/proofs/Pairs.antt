@@ -1,36 +1,42 @@
--- Hexadecimal digits, two at a time.
+-- Digits, two at a time.
 use Rattle.std.proofs.Common.{◌≡◌, ◌≢◌, ℕ, ◌+◌, ◌-◌, ◌*◌, ◌/◌, ◌%◌, ◌^◌, ◌<◌, ◌≤◌, zero, suc, List, [], ◌∷◌, ◌++◌, Bool, true, false, ◌==◌, ◌&&◌, length, drop, take, ap, refl, arith, ◌∙◌, eqb, sym, subst}
 use Rattle.std.proofs.lemmas.Bool.{eqb-true}
 use Rattle.std.proofs.lemmas.Bool.Decides.{nat_tests}
-use Rattle.std.specs.Fmt.{digits, digit_glyph}
-use Rattle.texts.specs.Texts.{pair_text}
-use Rattle.texts.specs.declared.line.TheConstants.{HEX_PAIRS}
-use Rattle.texts.proofs.Onto.{onto, onto_more, onto_last, digits_start}
+use Rattle.std.proofs.lemmas.Nat.{mod-mul-add, div-mul-add}
+use Rattle.std.proofs.Math.Arith.{mod-mul}
+use Rattle.std.proofs.Math.Nat.{div-div-eq-div-mul, div-lt_iff_lt-mul, div-eq_of_lt, mod-eq_of_lt, pow-suc, pow-zero, mod-lt}
+use Rattle.std.specs.Fmt.{digit_glyph}
+use Rattle.texts.specs.Texts.{pair_text, ArePairs}
+use Rattle.texts.specs.declared.line.TheConstants.{DECIMAL_PAIRS, HEX_PAIRS}
+use Rattle.texts.proofs.Onto.{onto, onto_more, onto_last, room_left}
 use Rattle.texts.proofs.Values.{both}
 
--- a list has the pairs of the bytes from one on
-abbrev are_pairs : (first : ℕ) (list : List ℕ) → Bool
-are_pairs n [] = true
-are_pairs n (x ∷ []) = false
-are_pairs n (x ∷ (y ∷ zs)) = (x == digit_glyph false (n / 16)) && ((y == digit_glyph false (n % 16)) && are_pairs (n + 1) zs)
+-- a list has the digits of the numbers from one on
+abbrev are_pairs : (radix first : ℕ) (list : List ℕ) → Bool
+are_pairs r n [] = true
+are_pairs r n (x ∷ []) = false
+are_pairs r n (x ∷ (y ∷ zs)) = (x == digit_glyph false (n / r)) && ((y == digit_glyph false (n % r)) && are_pairs r (n + 1) zs)
 
-pair_from : (n : ℕ) (xs : List ℕ) → are_pairs n xs ≡ true → (i : ℕ) → 2 * i < length xs → take 2 (drop (2 * i) xs) ≡ pair_text (n + i)
-pair_from n [] h i l = absurd (omega arith)
-pair_from n (x ∷ []) h i l = cc
-pair_from n (x ∷ (y ∷ zs)) h zero l =
-    let a = both (x == digit_glyph false (n / 16)) ((y == digit_glyph false (n % 16)) && are_pairs (n + 1) zs) h in
-    let b = both (y == digit_glyph false (n % 16)) (are_pairs (n + 1) zs) a.1 in
+pair_from : (r n : ℕ) (xs : List ℕ) → are_pairs r n xs ≡ true → (i : ℕ) → 2 * i < length xs → take 2 (drop (2 * i) xs) ≡ pair_text r (n + i)
+pair_from r n [] h i l = absurd (omega arith)
+pair_from r n (x ∷ []) h i l = cc
+pair_from r n (x ∷ (y ∷ zs)) h zero l =
+    let a = both (x == digit_glyph false (n / r)) ((y == digit_glyph false (n % r)) && are_pairs r (n + 1) zs) h in
+    let b = both (y == digit_glyph false (n % r)) (are_pairs r (n + 1) zs) a.1 in
     let here : n + 0 ≡ n = omega arith in
-    rw (here, eqb-true x (digit_glyph false (n / 16)) a.0, eqb-true y (digit_glyph false (n % 16)) b.0) refl
-pair_from n (x ∷ (y ∷ zs)) h (suc i) l =
-    let a = both (x == digit_glyph false (n / 16)) ((y == digit_glyph false (n % 16)) && are_pairs (n + 1) zs) h in
-    let b = both (y == digit_glyph false (n % 16)) (are_pairs (n + 1) zs) a.1 in
+    rw (here, eqb-true x (digit_glyph false (n / r)) a.0, eqb-true y (digit_glyph false (n % r)) b.0) refl
+pair_from r n (x ∷ (y ∷ zs)) h (suc i) l =
+    let a = both (x == digit_glyph false (n / r)) ((y == digit_glyph false (n % r)) && are_pairs r (n + 1) zs) h in
+    let b = both (y == digit_glyph false (n % r)) (are_pairs r (n + 1) zs) a.1 in
     let at : 2 * suc i ≡ suc (suc (2 * i)) = omega arith in
     let next : n + 1 + i ≡ n + suc i = omega arith in
-    ap (λ (k : ℕ). take 2 (drop k (x ∷ (y ∷ zs)))) at ∙ pair_from (n + 1) zs b.1 i (omega arith) ∙ ap pair_text next
+    ap (λ (k : ℕ). take 2 (drop k (x ∷ (y ∷ zs)))) at ∙ pair_from r (n + 1) zs b.1 i (omega arith) ∙ ap (pair_text r) next
 
-pub pair_at : (byte : ℕ) → byte < 256 → take 2 (drop (2 * byte) HEX_PAIRS) ≡ pair_text byte
-pair_at b l = pair_from 0 HEX_PAIRS refl b (omega arith) ∙ ap pair_text (let e : 0 + b ≡ b = omega arith in e)
+pub hex_pairs : ArePairs 16 HEX_PAIRS
+hex_pairs = (refl, λ n l. pair_from 16 0 HEX_PAIRS refl n (omega arith) ∙ ap (pair_text 16) (let e : 0 + n ≡ n = omega arith in e))
+
+pub decimal_pairs : ArePairs 10 DECIMAL_PAIRS
+decimal_pairs = (refl, λ n l. pair_from 10 0 DECIMAL_PAIRS refl n (omega arith) ∙ ap (pair_text 10) (let e : 0 + n ≡ n = omega arith in e))
 
 not_zero : (m : ℕ) → m ≢ 0 → eqb m 0 ≡ false
 not_zero m h = grind (arith, nat_tests)
@@ -38,56 +44,80 @@ not_zero m h = grind (arith, nat_tests)
 is_zero : (m : ℕ) → m ≡ 0 → eqb m 0 ≡ true
 is_zero m h = grind (arith, nat_tests)
 
--- two digits of a number that has more
-pub two_more : (room n : ℕ) (acc : List ℕ) → 256 ≤ n → onto (suc (suc room)) 16 n acc ≡ onto room 16 (n / 256) (pair_text (n % 256) ++ acc)
-two_more room n acc h =
-    let high : n / 16 % 16 ≡ n % 256 / 16 = omega arith in
-    let low : n % 16 ≡ n % 256 % 16 = omega arith in
-    let rest : n / 16 / 16 ≡ n / 256 = omega arith in
-    onto_more (suc room) 16 n acc (not_zero (n / 16) (omega arith))
-    ∙ onto_more room 16 (n / 16) (digit_glyph false (n % 16) ∷ acc) (not_zero (n / 16 / 16) (omega arith))
-    ∙ ap (λ (m : ℕ). onto room 16 m (digit_glyph false (n / 16 % 16) ∷ (digit_glyph false (n % 16) ∷ acc))) rest
-    ∙ ap (λ (m : ℕ). onto room 16 (n / 256) (digit_glyph false m ∷ (digit_glyph false (n % 16) ∷ acc))) high
-    ∙ ap (λ (m : ℕ). onto room 16 (n / 256) (digit_glyph false (n % 256 / 16) ∷ (digit_glyph false m ∷ acc))) low
+module _ (r : ℕ) (two : 2 ≤ r) where
+  low : (n : ℕ) → n % (r * r) % r ≡ n % r
+  low n = ap (λ m. m % r) (mod-mul n (omega arith) (omega arith)) ∙ mod-mul-add (n / r % r) r (n % r) (mod-lt n (omega arith))
 
--- the last two digits
-pub two_last : (room n : ℕ) (acc : List ℕ) → 16 ≤ n → n < 256 → onto (suc (suc room)) 16 n acc ≡ pair_text n ++ acc
-two_last room n acc h k =
-    let high : n / 16 % 16 ≡ n / 16 = omega arith in
-    onto_more (suc room) 16 n acc (not_zero (n / 16) (omega arith))
-    ∙ onto_last room 16 (n / 16) (digit_glyph false (n % 16) ∷ acc) (is_zero (n / 16 / 16) (omega arith))
-    ∙ ap (λ (m : ℕ). digit_glyph false m ∷ (digit_glyph false (n % 16) ∷ acc)) high
+  high : (n : ℕ) → n % (r * r) / r ≡ n / r % r
+  high n = ap (λ m. m / r) (mod-mul n (omega arith) (omega arith)) ∙ div-mul-add (n / r % r) r (n % r) (mod-lt n (omega arith))
 
--- the last digit
-pub one_last : (room n : ℕ) (acc : List ℕ) → n < 16 → onto (suc room) 16 n acc ≡ digit_glyph false n ∷ acc
-one_last room n acc h =
-    let low : n % 16 ≡ n = omega arith in
-    onto_last room 16 n acc (is_zero (n / 16) (omega arith)) ∙ ap (λ (m : ℕ). digit_glyph false m ∷ acc) low
+  -- two digits of a number that has more
+  two_more : (room n : ℕ) (acc : List ℕ) → n / r ≢ 0 → n / r / r ≢ 0
+      → onto (suc (suc room)) r n acc ≡ onto room r (n / (r * r)) (pair_text r (n % (r * r)) ++ acc)
+  two_more room n acc h k =
+      onto_more (suc room) r n acc (not_zero (n / r) h)
+      ∙ onto_more room r (n / r) (digit_glyph false (n % r) ∷ acc) (not_zero (n / r / r) k)
+      ∙ ap (λ (m : ℕ). onto room r m (digit_glyph false (n / r % r) ∷ (digit_glyph false (n % r) ∷ acc))) (div-div-eq-div-mul n r r)
+      ∙ ap (λ (m : ℕ). onto room r (n / (r * r)) (digit_glyph false m ∷ (digit_glyph false (n % r) ∷ acc))) (sym (high n))
+      ∙ ap (λ (m : ℕ). onto room r (n / (r * r)) (digit_glyph false (n % (r * r) / r) ∷ (digit_glyph false m ∷ acc))) (sym (low n))
 
-fuel : (k : ℕ) → 1 ≤ k → 48 + 2 * k ≡ suc (suc (48 + 2 * (k - 1)))
-fuel k h = omega arith
+  some : (n m : ℕ) → 0 < m → m ≤ n → n / m ≢ 0
+  some n m p h e = let below : n < 1 * m = (div-lt_iff_lt-mul p).0 (omega (arith, e)) in omega (arith, below)
 
--- while more digits are left than a pair has, there is room for more than a pair
-pub more_pairs : (k n : ℕ) → n < 256 ^ k → 256 ≤ n → 2 ≤ k
-more_pairs zero n h l = absurd (let one : n < 1 = h in omega arith)
-more_pairs (suc zero) n h l = absurd (let one : n < 256 = h in omega arith)
-more_pairs (suc (suc k)) n h l = omega arith
+  wide : r ≤ r * r
+  wide = let h : 2 ≤ r = two in grind arith
 
-pub pair_put : (k n : ℕ) (old new : List ℕ) → 256 ≤ n → 1 ≤ k → new ≡ pair_text (n % 256) ++ old →
-    onto (48 + 2 * (k - 1)) 16 (n / 256) new ≡ onto (48 + 2 * k) 16 n old
-pair_put k n old new h l is =
-    ap (onto (48 + 2 * (k - 1)) 16 (n / 256)) is ∙ sym (two_more (48 + 2 * (k - 1)) n old h) ∙ ap (λ (r : ℕ). onto r 16 n old) (sym (fuel k l))
+  first : r ^ 1 ≡ r
+  first = pow-suc r 0 ∙ (let none : r ^ 0 ≡ 1 = pow-zero r in rw none (omega arith))
 
-pub pair_end : (k n : ℕ) (old new : List ℕ) → 16 ≤ n → n < 256 → 1 ≤ k → new ≡ pair_text n ++ old → new ≡ onto (48 + 2 * k) 16 n old
-pair_end k n old new h m l is = is ∙ sym (two_last (48 + 2 * (k - 1)) n old h m) ∙ ap (λ (r : ℕ). onto r 16 n old) (sym (fuel k l))
+  square : r ^ 2 ≡ r * r
+  square = pow-suc r 1 ∙ ap (λ m. m * r) first
 
-pub digit_end : (k n : ℕ) (old new : List ℕ) → n < 16 → 1 ≤ k → new ≡ digit_glyph false n ∷ old → new ≡ onto (48 + 2 * k) 16 n old
-digit_end k n old new h l is = is ∙ sym (one_last (suc (48 + 2 * (k - 1))) n old h) ∙ ap (λ (r : ℕ). onto r 16 n old) (sym (fuel k l))
+  fuel2 : (b k : ℕ) → 2 ≤ k → suc (suc (b + (k - 2))) ≡ b + k
+  fuel2 b k h = omega arith
 
--- eight pairs have room for a number of 64 bits
-pub pairs_start : (e n : ℕ) (acc : List ℕ) → onto (48 + 2 * ((16 + e - e) / 2)) 16 n acc ≡ digits 16 false n ++ acc
-pairs_start e n acc = let all : 48 + 2 * ((16 + e - e) / 2) ≡ (64 - 16) + 16 = omega arith in
-    ap (λ (r : ℕ). onto r 16 n acc) all ∙ digits_start 16 16 n acc (omega arith)
+  pub pair_put : (b k n : ℕ) (old new : List ℕ) → 2 ≤ k → r * r ≤ n → new ≡ pair_text r (n % (r * r)) ++ old
+      → onto (b + (k - 2)) r (n / (r * r)) new ≡ onto (b + k) r n old
+  pair_put b k n old new h l is =
+      let w = wide in
+      let whole : n / r / r ≢ 0 = λ e. some n (r * r) (omega (arith, w)) l (sym (div-div-eq-div-mul n r r) ∙ e) in
+      ap (onto (b + (k - 2)) r (n / (r * r))) is
+      ∙ sym (two_more (b + (k - 2)) n old (some n r (omega arith) (omega (arith, w))) whole) ∙ ap (λ (m : ℕ). onto m r n old) (fuel2 b k h)
 
-pub pairs_room : (e n : ℕ) → n < 2 ^ 64 → n < 256 ^ ((16 + e - e) / 2)
-pairs_room e n h = let all : 8 ≡ (16 + e - e) / 2 = omega arith in subst (λ (k : ℕ). n < 256 ^ k) all (omega arith)
+  pub pair_end : (b k n : ℕ) (old new : List ℕ) → 2 ≤ k → r ≤ n → n < r * r → new ≡ pair_text r n ++ old → new ≡ onto (b + k) r n old
+  pair_end b k n old new h l m is =
+      let digit : n / r < r = (div-lt_iff_lt-mul {k = r} {x = n} {y = r} (omega (arith, two))).1 m in
+      is ∙ ap (λ (d : ℕ). digit_glyph false d ∷ (digit_glyph false (n % r) ∷ old)) (sym (mod-eq_of_lt digit))
+      ∙ sym (onto_last (b + (k - 2)) r (n / r) (digit_glyph false (n % r) ∷ old) (is_zero (n / r / r) (div-eq_of_lt digit)))
+      ∙ sym (onto_more (suc (b + (k - 2))) r n old (not_zero (n / r) (some n r (omega arith) l))) ∙ ap (λ (f : ℕ). onto f r n old) (fuel2 b k h)
+
+  pub digit_end : (b k n : ℕ) (old new : List ℕ) → 1 ≤ k → n < r → new ≡ digit_glyph false n ∷ old → new ≡ onto (b + k) r n old
+  digit_end b k n old new h l is =
+      let fuel1 : suc (b + (k - 1)) ≡ b + k = omega arith in
+      is ∙ ap (λ (d : ℕ). digit_glyph false d ∷ old) (sym (mod-eq_of_lt l))
+      ∙ sym (onto_last (b + (k - 1)) r n old (is_zero (n / r) (div-eq_of_lt l))) ∙ ap (λ (f : ℕ). onto f r n old) fuel1
+
+  -- how many digits there are at least
+  pub two_digits : (k n : ℕ) → r ≤ n → n < r ^ k → 2 ≤ k
+  two_digits zero n h l = absurd (let none : n < 1 = rw (pow-zero r) at l in omega (arith, two, none))
+  two_digits (suc zero) n h l = absurd (let one : n < r = rw first at l in omega (arith, one))
+  two_digits (suc (suc k)) n h l = omega arith
+
+  pub three_digits : (k n : ℕ) → r * r ≤ n → n < r ^ k → 3 ≤ k
+  three_digits k n h l =
+      let w = wide in
+      let two_at_least : 2 ≤ k = two_digits k n (omega (arith, w)) l in
+      by_three k two_at_least l
+    where
+      by_three : (j : ℕ) → 2 ≤ j → n < r ^ j → 3 ≤ j
+      by_three zero a b = absurd (omega arith)
+      by_three (suc zero) a b = absurd (omega arith)
+      by_three (suc (suc zero)) a b = absurd (let c : n < r * r = rw square at b in omega (arith, c))
+      by_three (suc (suc (suc j))) a b = omega arith
+
+  pub room_left2 : (k n : ℕ) → 2 ≤ k → n < r ^ k → n / (r * r) < r ^ (k - 2)
+  room_left2 k n h l =
+      let once : n / r < r ^ (k - 1) = room_left r k n (omega arith) (omega arith) l in
+      let twice : n / r / r < r ^ (k - 1 - 1) = room_left r (k - 1) (n / r) (omega arith) (omega arith) once in
+      let less : k - 1 - 1 ≡ k - 2 = omega arith in
+      subst (λ (m : ℕ). m < r ^ (k - 2)) (div-div-eq-div-mul n r r) (subst (λ (x : ℕ). n / r / r < r ^ x) less twice)

@@ -1,5 +1,5 @@
 -- Numbers in texts. The forms are this project's own rule.
-use Rattle.std.specs.Prelude.{ℕ, ◌/◌, ◌%◌, List, [], ◌∷◌, ◌++◌, false, codes, flat_map}
+use Rattle.std.specs.Prelude.{◌≡◌, ℕ, ◌<◌, ◌*◌, ◌/◌, ◌%◌, List, [], ◌∷◌, ◌++◌, false, length, take, drop, codes, flat_map}
 use Rattle.std.specs.Fmt.{digits, digit_glyph}
 
 -- the parts of a text, one behind the other
@@ -10,10 +10,14 @@ joined_text parts = flat_map (λ part. part) parts
 abbrev pub hex_text : (number : ℕ) → List ℕ
 hex_text n = codes "0x" ++ digits 16 false n
 
--- a byte as two hexadecimal digits
-abbrev pub pair_text : (byte : ℕ) → List ℕ
-pair_text n = digit_glyph false (n / 16) ∷ digit_glyph false (n % 16) ∷ []
+-- a number of two digits in a radix
+abbrev pub pair_text : (radix number : ℕ) → List ℕ
+pair_text r n = digit_glyph false (n / r) ∷ digit_glyph false (n % r) ∷ []
+
+-- a table has the digits of all numbers of two digits, two each
+abbrev pub ArePairs : (radix : ℕ) (table : List ℕ) → Type 0
+ArePairs r table = (length table ≡ 2 * (r * r)) × ((n : ℕ) → n < r * r → take 2 (drop (2 * n) table) ≡ pair_text r n)
 
 -- a byte as 0x and two hexadecimal digits
 abbrev pub byte_text : (byte : ℕ) → List ℕ
-byte_text n = codes "0x" ++ pair_text n
+byte_text n = codes "0x" ++ pair_text 16 n

@@ -1,6 +1,6 @@
-ghost use Rattle.std.specs.Prelude.{◌≡◌, ◌++◌, ℕ, ◌≤◌, ◌<◌, ◌+◌, ◌^◌, List, [], drop, take, length, map, false, decimal, if◌then◌else◌};
+ghost use Rattle.std.specs.Prelude.{◌≡◌, ◌++◌, ℕ, ◌≤◌, ◌<◌, ◌+◌, ◌*◌, ◌^◌, List, [], drop, take, length, map, false, decimal, if◌then◌else◌};
 ghost use Rattle.std.specs.Fmt.{digits, digit_glyph};
-ghost use Rattle.texts.specs.Texts.{hex_text, byte_text, pair_text};
+ghost use Rattle.texts.specs.Texts.{hex_text, byte_text, pair_text, ArePairs};
 ghost use Rattle.texts.specs.Shown.{shown, shown_byte};
 
 use std::marker::Model;
@@ -41,31 +41,20 @@ fn glyph(digit: u8) -> u8
     GLYPHS[digit as usize]
 }
 
-/// Writes the digits of a number of at most `most` digits so that they end before `end`. Answers where they start.
-#[inline(always)]
-fn digits_before(bytes: &mut [u8; LINE], end: usize, n: u64, radix: u64, most: usize) -> usize
-    requires radix { (2 ≤ radix) × (radix ≤ 16) }
-    requires most { (0 < most) × (most ≤ 64) × (n < radix ^ most) }
-    requires end { (most ≤ end) × (end ≤ LINE) }
-    ensures text { drop result bytes.new ≡ digits radix false n ++ drop end bytes.old }
-    ensures room { length (drop result bytes.new) ≤ most + length (drop end bytes.old) }
-    ensures starts { end ≤ result + most }
-    ensures within { result ≤ end }
-{
-    let mut start = end;
-    let mut left = most;
-    let mut rest = n;
-    while left > 0 {
-        left -= 1;
-        start -= 1;
-        bytes[start] = glyph((rest % radix) as u8);
-        rest /= radix;
-        if rest == 0 {
-            break;
-        }
-    }
-    start
-}
+/// The decimal digits of the numbers below 100, two each.
+const DECIMAL_PAIRS: [u8; 200] =
+    *b"000102030405060708091011121314151617181920212223242526272829303132333435363738394041424344454647\
+    484950515253545556575859606162636465666768697071727374757677787980818283848586878889909192939495\
+    96979899";
+
+/// The hexadecimal digits of the numbers below 256, two each.
+const HEX_PAIRS: [u8; 512] =
+    *b"000102030405060708090a0b0c0d0e0f101112131415161718191a1b1c1d1e1f202122232425262728292a2b2c2d2e2f\
+    303132333435363738393a3b3c3d3e3f404142434445464748494a4b4c4d4e4f505152535455565758595a5b5c5d5e5f\
+    606162636465666768696a6b6c6d6e6f707172737475767778797a7b7c7d7e7f808182838485868788898a8b8c8d8e8f\
+    909192939495969798999a9b9c9d9e9fa0a1a2a3a4a5a6a7a8a9aaabacadaeafb0b1b2b3b4b5b6b7b8b9babbbcbdbebf\
+    c0c1c2c3c4c5c6c7c8c9cacbcccdcecfd0d1d2d3d4d5d6d7d8d9dadbdcdddedfe0e1e2e3e4e5e6e7e8e9eaebecedeeef\
+    f0f1f2f3f4f5f6f7f8f9fafbfcfdfeff";
 
 /// Writes a text so that it ends before `end`. Answers where it starts.
 #[inline]
@@ -80,55 +69,47 @@ fn text_before(bytes: &mut [u8; LINE], end: usize, text: &[u8]) -> usize
     start
 }
 
-/// All pairs of hexadecimal digits, one behind the other.
-const HEX_PAIRS: [u8; 512] = *b"\
-    000102030405060708090a0b0c0d0e0f101112131415161718191a1b1c1d1e1f\
-    202122232425262728292a2b2c2d2e2f303132333435363738393a3b3c3d3e3f\
-    404142434445464748494a4b4c4d4e4f505152535455565758595a5b5c5d5e5f\
-    606162636465666768696a6b6c6d6e6f707172737475767778797a7b7c7d7e7f\
-    808182838485868788898a8b8c8d8e8f909192939495969798999a9b9c9d9e9f\
-    a0a1a2a3a4a5a6a7a8a9aaabacadaeafb0b1b2b3b4b5b6b7b8b9babbbcbdbebf\
-    c0c1c2c3c4c5c6c7c8c9cacbcccdcecfd0d1d2d3d4d5d6d7d8d9dadbdcdddedf\
-    e0e1e2e3e4e5e6e7e8e9eaebecedeeeff0f1f2f3f4f5f6f7f8f9fafbfcfdfeff\
-";
-
-/// The two bytes at a place.
+/// The two digits of a number, of a table of such pairs.
 #[inline(always)]
-fn two_at(pairs: &[u8; 512], at: usize) -> &[u8]
-    requires { at + 2 ≤ 512 }
-    ensures bytes { result.now ≡ take 2 (drop at pairs.now) }
+fn pair<const N: usize>(pairs: &[u8; N], radix: u64, n: u64) -> &[u8]
+    requires pairs { ArePairs radix pairs.now }
+    requires n { n < radix * radix }
+    ensures digits { result.now ≡ pair_text radix n }
     ensures size { length result.now ≡ 2 }
 {
-    &pairs[at..at + 2]
+    let at = 2 * n as usize;
+    let all = &pairs[..];
+    &all[at..at + 2]
 }
 
-/// Writes two hexadecimal digits so that they end before `end`. Answers where they start.
+/// Writes the digits of a number of at most `most` digits, two at a time, so that they end before `end`. `pairs` has the
+/// digits of the numbers of two digits. Answers where they start.
 #[inline(always)]
-fn pair_before(bytes: &mut [u8; LINE], end: usize, pair: usize) -> usize
-    requires pair { pair < 256 }
-    requires end { (2 ≤ end) × (end ≤ LINE) }
-    ensures text { drop result bytes.new ≡ pair_text pair ++ drop end bytes.old }
-    ensures starts { result + 2 ≡ end }
-{
-    text_before(bytes, end, two_at(&HEX_PAIRS, 2 * pair))
-}
-
-/// Writes the hexadecimal digits of a number, two at a time, so that they end before `end`. Answers where they start.
-#[inline]
-fn hex_before(bytes: &mut [u8; LINE], end: usize, n: u64) -> usize
-    requires end { (16 ≤ end) × (end ≤ LINE) }
-    ensures text { drop result bytes.new ≡ digits 16 false n ++ drop end bytes.old }
-    ensures room { length (drop result bytes.new) ≤ 16 + length (drop end bytes.old) }
+fn digits_before<const N: usize>(
+    bytes: &mut [u8; LINE],
+    end: usize,
+    n: u64,
+    radix: u64,
+    pairs: &[u8; N],
+    most: usize,
+) -> usize
+    requires radix { (2 ≤ radix) × (radix ≤ 16) }
+    requires pairs { ArePairs radix pairs.now }
+    requires most { (0 < most) × (most ≤ 64) × (n < radix ^ most) }
+    requires end { (most ≤ end) × (end ≤ LINE) }
+    ensures text { drop result bytes.new ≡ digits radix false n ++ drop end bytes.old }
+    ensures room { length (drop result bytes.new) ≤ most + length (drop end bytes.old) }
     ensures within { result ≤ end }
 {
+    let square = radix * radix;
     let mut start = end;
     let mut rest = n;
-    while rest >= 256 {
-        start = pair_before(bytes, start, (rest % 256) as usize);
-        rest /= 256;
+    while rest >= square {
+        start = text_before(bytes, start, pair::<N>(pairs, radix, rest % square));
+        rest /= square;
     }
-    if rest >= 16 {
-        return pair_before(bytes, start, rest as usize);
+    if rest >= radix {
+        return text_before(bytes, start, pair::<N>(pairs, radix, rest));
     }
     text_before(bytes, start, &[glyph(rest as u8)])
 }
@@ -224,7 +205,7 @@ impl Line {
         ensures text { self.new ≡ digits 16 false n ++ self.old }
         ensures room { length self.new ≤ 16 + length self.old }
     {
-        self.start = hex_before(&mut self.bytes, self.start, n);
+        self.start = digits_before::<512>(&mut self.bytes, self.start, n, 16, &HEX_PAIRS, 16);
     }
 
     /// Puts a number as `0x` and hexadecimal digits without leading zeros.
@@ -245,7 +226,7 @@ impl Line {
         ensures text { self.new ≡ decimal n ++ self.old }
         ensures room { length self.new ≤ 20 + length self.old }
     {
-        self.start = digits_before(&mut self.bytes, self.start, n, 10, 20);
+        self.start = digits_before::<200>(&mut self.bytes, self.start, n, 10, &DECIMAL_PAIRS, 20);
     }
 
     /// Puts a name as it is shown: its first SHOWN bytes, with `?` for each that is not visible.

@@ -1,39 +1,67 @@
-use Rattle.std.proofs.Common.{rules, arith, ◌≡◌, ◌-◌, ◌∙◌, length, length-set, refl, set}
-use Rattle.texts.proofs.Onto.{drop_room, digits_start, digit_put, last_put, room_left}
+use Rattle.std.proofs.Common.{rules, arith, ◌≡◌, ◌-◌, ◌+◌, ◌≤◌, ◌∙◌, ℕ}
+use Rattle.texts.proofs.Onto.{digits_start, drop_room}
+use Rattle.texts.proofs.Pairs.{pair_put, pair_end, digit_end, two_digits, three_digits, room_left2}
 use Rattle.texts.proofs.line.digits_before.Goals as goal
 
-pub loop-left-init : goal.loop-left-init
-loop-left-init c = record {
-  counted = refl;
-  few = omega arith;
-  size = search rules;
-  room = (search rules);
-  more = λ e. omega arith;
-  same = digits_start c.args.most c.args.radix c.args.n _ (omega arith);
-}
+pub loop-rest-init : goal.loop-rest-init
+loop-rest-init g c =
+    let all : c.args.end + c.args.most - c.args.end ≡ c.args.most = omega arith in
+    record {
+      size = search rules;
+      before = omega arith;
+      behind = omega arith;
+      room = rw all (search rules);
+      same = rw all (digits_start c.args.most c.args.radix c.args.n _ (omega arith));
+    }
 
-pub loop-left-preserved : goal.loop-left-preserved
-loop-left-preserved c = record {
-  counted = omega arith;
-  few = omega arith;
-  size = simp length-set c.loop-left.invariant.size;
-  room = room_left c.args.radix c.loop-left.left c.loop-left.rest (omega arith) (omega arith) c.loop-left.invariant.room;
-  more = λ e. omega arith;
-  same = rw c.glyph.ensures (digit_put _ c.loop-left.left c.args.radix c.loop-left.start c.loop-left.rest c.loop-left.bytes (omega arith) (omega arith)
-      (omega arith) (omega arith) ∙ c.loop-left.invariant.same);
-}
+pub loop-rest-preserved : goal.loop-rest-preserved
+loop-rest-preserved g c =
+    let i = c.loop-rest.invariant in
+    let k : ℕ = c.loop-rest.start + c.args.most - c.args.end in
+    let three : 3 ≤ k = three_digits c.args.radix c.requires.radix.0 k c.loop-rest.rest (omega arith) i.room in
+    let placed : c.text_before-start.result + 2 ≡ c.loop-rest.start = rw c.pair.ensures.size at c.text_before-start.ensures.starts in
+    let less : c.text_before-start.result + c.args.most - c.args.end ≡ k - 2 = omega arith in
+    record {
+      size = search rules;
+      before = omega arith;
+      behind = omega arith;
+      room = rw less (room_left2 c.args.radix c.requires.radix.0 k c.loop-rest.rest (omega arith) i.room);
+      same = rw less (pair_put c.args.radix c.requires.radix.0 (64 - c.args.most) k c.loop-rest.rest _ _ (omega arith) (omega arith)
+          (rw c.pair.ensures.digits at c.text_before-start.ensures.text) ∙ i.same);
+    }
 
-pub returns-then-rest-eq0-clause-text : goal.returns-then-rest-eq0-clause-text
-returns-then-rest-eq0-clause-text c =
-    rw c.glyph.ensures (last_put _ c.loop-left.left c.args.radix c.loop-left.start c.loop-left.rest c.loop-left.bytes (omega arith) (omega arith) (omega arith)
-    c.if-rest-eq0.true ∙ c.loop-left.invariant.same)
+pub returns-then-rest-radix-clause-text : goal.returns-then-rest-radix-clause-text
+returns-then-rest-radix-clause-text g c =
+    let i = c.loop-rest.invariant in
+    let k : ℕ = c.loop-rest.start + c.args.most - c.args.end in
+    let two : 2 ≤ k = two_digits c.args.radix c.requires.radix.0 k c.loop-rest.rest (omega arith) i.room in
+    pair_end c.args.radix c.requires.radix.0 (64 - c.args.most) k c.loop-rest.rest _ _ two (omega arith) (omega arith)
+    (rw c.pair-then-rest-radix.ensures.digits at c.text_before.ensures.text) ∙ i.same
 
-pub returns-after-loop-left-clause-room : goal.returns-after-loop-left-clause-room
-returns-after-loop-left-clause-room c =
-    drop_room c.args.most c.loop-left.start c.args.end c.loop-left.bytes c.args.bytes.now c.loop-left.invariant.size (search rules) (omega arith)
+pub returns-clause-text : goal.returns-clause-text
+returns-clause-text g c =
+    let i = c.loop-rest.invariant in
+    digit_end c.args.radix c.requires.radix.0 (64 - c.args.most) (c.loop-rest.start + c.args.most - c.args.end) c.loop-rest.rest _ _
+    (omega arith) (omega arith) (rw c.glyph.ensures at c.text_before-2.ensures.text) ∙ i.same
 
-pub returns-then-rest-eq0-clause-room : goal.returns-then-rest-eq0-clause-room
-returns-then-rest-eq0-clause-room c =
-    drop_room c.args.most (c.loop-left.start - 1) c.args.end (set c.loop-left.bytes (c.loop-left.start - 1) c.glyph.result) c.args.bytes.now
-    (let sized : length (set c.loop-left.bytes (c.loop-left.start - 1) c.glyph.result) ≡ 16384 = simp length-set c.loop-left.invariant.size in sized)
-    (search rules) (omega arith)
+pub text_before-start-requires : goal.text_before-start-requires
+text_before-start-requires g c =
+    let i = c.loop-rest.invariant in
+    let k : ℕ = c.loop-rest.start + c.args.most - c.args.end in
+    let three : 3 ≤ k = three_digits c.args.radix c.requires.radix.0 k c.loop-rest.rest (omega arith) i.room in
+    rw c.pair.ensures.size (omega arith, omega arith)
+
+pub text_before-requires : goal.text_before-requires
+text_before-requires g c =
+    let i = c.loop-rest.invariant in
+    let k : ℕ = c.loop-rest.start + c.args.most - c.args.end in
+    let two : 2 ≤ k = two_digits c.args.radix c.requires.radix.0 k c.loop-rest.rest (omega arith) i.room in
+    rw c.pair-then-rest-radix.ensures.size (omega arith, omega arith)
+
+pub returns-then-rest-radix-clause-room : goal.returns-then-rest-radix-clause-room
+returns-then-rest-radix-clause-room g c =
+    let i = c.loop-rest.invariant in
+    let k : ℕ = c.loop-rest.start + c.args.most - c.args.end in
+    let two : 2 ≤ k = two_digits c.args.radix c.requires.radix.0 k c.loop-rest.rest (omega arith) i.room in
+    let placed : c.text_before.result + 2 ≡ c.loop-rest.start = rw c.pair-then-rest-radix.ensures.size at c.text_before.ensures.starts in
+    drop_room c.args.most c.text_before.result c.args.end c.text_before.new.bytes c.args.bytes.now (search rules) (search rules) (omega arith)
