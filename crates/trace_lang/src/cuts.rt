@@ -1,4 +1,4 @@
-ghost use Rattle.std.specs.Prelude.{◌≡◌, ◌<◌, ◌∷◌, length, map, IfSome, option_map};
+ghost use Rattle.std.specs.Prelude.{◌≡◌, ◌<◌, ◌∷◌, ◌&&◌, not, length, map, IfSome, option_map};
 ghost use Rattle.std.specs.List.{list_all, slice_split};
 ghost use Rattle.trace_lang.specs.Words.{is_blank, is_text, is_end};
 ghost use Rattle.trace_lang.specs.Lines.{without_return};
@@ -37,18 +37,36 @@ pub fn without_return<'a>(line: &'a [u8]) -> &'a [u8]
     }
 }
 
+/// Whether a byte of a line is neither a blank nor one that is no text.
+#[inline]
+fn is_glyph(byte: u8) -> bool
+    ensures { result ≡ (is_text byte && not (is_blank byte)) }
+{
+    byte >= 0x21 && byte <= 0x7e
+}
+
+/// Whether a byte ends a word.
+#[inline]
+fn is_blank(byte: u8) -> bool
+    ensures { result ≡ is_blank byte }
+{
+    byte == b' ' || byte == b'\t'
+}
+
 /// The text up to the first blank, and what stands behind that. None where a byte before that is no text.
 fn cut_word<'a>(text: &'a [u8]) -> Option<(&'a [u8], Option<&'a [u8]>)>
     ensures parts { IfSome result (λ r. slice_split is_blank text.now ≡ r.0.now ∷ parts_behind is_blank (option_map (λ s. s.now) r.1)) }
     ensures text { list_all is_text text.now ≡ is_text_behind (option_map (λ r. option_map (λ s. s.now) r.1) result) }
     ensures shorter { IfSome result (λ r. IfSome r.1 (λ s. length s.now < length text.now)) }
 {
-    for (i, b) in text.iter().enumerate() {
-        match *b {
-            0x21..=0x7e => {}
-            b' ' | b'\t' => return Some((&text[..i], Some(&text[i + 1..]))),
-            _ => return None,
+    for (i, byte) in text.iter().enumerate() {
+        if is_glyph(*byte) {
+            continue;
         }
+        if is_blank(*byte) {
+            return Some((&text[..i], Some(&text[i + 1..])));
+        }
+        return None;
     }
     Some((text, None))
 }
