@@ -170,6 +170,16 @@ impl Line {
         self.start = array_before::<N>(&mut self.bytes, self.start, text);
     }
 
+    /// Puts a tail.
+    #[inline(always)]
+    pub fn tail(&mut self, tail: &Tail)
+        requires { TAIL + length self.old ≤ LINE }
+        ensures text { self.new ≡ tail.now ++ self.old }
+        ensures room { length self.new ≤ TAIL + length self.old }
+    {
+        self.start = tail_before(&mut self.bytes, self.start, tail);
+    }
+
     /// Puts a text that is shown or not.
     #[inline]
     pub fn when(&mut self, is_shown: bool, text: &[u8])
