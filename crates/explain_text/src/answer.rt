@@ -23,14 +23,14 @@ pub fn put_access(line: &mut Line, access: &Access, asid: u16, vmid: u16)
     ensures room { length line.new ≤ 90 + length line.old }
 {
     line.hex_digits(vmid as u64);
-    line.text(b" vmid 0x");
+    line.literal(b" vmid 0x");
     line.hex_digits(asid as u64);
-    line.text(b" asid 0x");
+    line.literal(b" asid 0x");
     line.when(access.pan, b" pan");
     parts::kind(line, access.kind);
     parts::el(line, access.el);
     line.hex_digits(access.va);
-    line.text(b" 0x");
+    line.literal(b" 0x");
 }
 
 /// The line of an access without its end, as `access 0x40201abc el1 read asid 0x1 vmid 0x0`, with another word in place of
@@ -68,8 +68,8 @@ pub fn explain<O: Sink>(
     let mut line = Line::new();
     put_outcome(&mut line, outcome, false);
     put_items(&mut line, trail.items(), false);
-    line.text(b"\n");
+    line.literal(b"\n");
     put_access(&mut line, access, asid(regs), vmid(regs));
-    line.text(b"access");
+    line.literal(b"access");
     out.put(line.bytes())
 }

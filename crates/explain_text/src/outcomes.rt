@@ -20,17 +20,17 @@ fn put_mapped(line: &mut Line, pa: u64, perms: Perms, mem: MemType, share: Share
     ensures text { line.new ≡ mapped_text pa perms mem share ++ line.old }
     ensures room { length line.new ≤ 160 + length line.old }
 {
-    line.text(b"\n");
+    line.literal(b"\n");
     parts::share(line, share);
-    line.text(b" ");
+    line.literal(b" ");
     parts::mem(line, mem);
-    line.text(b" ");
+    line.literal(b" ");
     parts::rights(line, perms, El::El1);
-    line.text(b" el1 ");
+    line.literal(b" el1 ");
     parts::rights(line, perms, El::El0);
-    line.text(b" el0 ");
+    line.literal(b" el0 ");
     line.hex_digits(pa);
-    line.text(b"mapped 0x");
+    line.literal(b"mapped 0x");
 }
 
 /// Puts the line of an outcome before what stands. In a run a word that memory lacks is printed as an external abort. The
@@ -64,7 +64,7 @@ pub fn put_outcome(line: &mut Line, outcome: &Outcome, in_run: bool)
             }
             put_absent(line, *stage, *level, *pa, *s1ptw);
         }
-        Outcome::Conflict => line.text(b"conflict fsc 0x30\n"),
+        Outcome::Conflict => line.literal(b"conflict fsc 0x30\n"),
     }
 }
 

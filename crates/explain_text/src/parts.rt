@@ -1,5 +1,5 @@
 //! Parts of lines. Each is put before what stands.
-ghost use Rattle.std.specs.Prelude.{codes, ◌≡◌, ◌≤◌, ◌<◌, ◌+◌, ◌++◌, length, decimal, if◌then◌else◌};
+ghost use Rattle.std.specs.Prelude.{codes, ◌≡◌, ◌≤◌, ◌<◌, ◌+◌, ◌++◌, [], ◌∷◌, length, decimal, if◌then◌else◌};
 ghost use Rattle.explain_text.specs.Texts.{level_text, stage_digit, class_text, what_text, value_text, moment_text};
 ghost use Rattle.explain_text.specs.Mapped.{letters_text, rights_text, hints_text, cache_text, device_text, normal_text, mem_text, share_text};
 ghost use Rattle.permissions.specs.AccessNames.{el_text, kind_text};
@@ -22,7 +22,7 @@ pub fn level(line: &mut Line, level: i8)
         line.decimal(level as u64);
     } else {
         line.decimal((0 - level as i64) as u64);
-        line.text(b"-");
+        line.literal(b"-");
     }
 }
 
@@ -34,8 +34,8 @@ pub fn stage(line: &mut Line, stage: Stage)
     ensures room { length line.new ≡ 1 + length line.old }
 {
     match stage {
-        Stage::S1 => line.text(b"1"),
-        Stage::S2 => line.text(b"2"),
+        Stage::S1 => line.literal(b"1"),
+        Stage::S2 => line.literal(b"2"),
     }
 }
 
@@ -47,12 +47,12 @@ pub fn class(line: &mut Line, class: Class)
     ensures room { length line.new ≤ 12 + length line.old }
 {
     match class {
-        Class::Translation => line.text(b"translation"),
-        Class::AddressSize => line.text(b"address-size"),
-        Class::AccessFlag => line.text(b"access-flag"),
-        Class::Permission => line.text(b"permission"),
-        Class::External => line.text(b"external"),
-        Class::Conflict => line.text(b"conflict"),
+        Class::Translation => line.literal(b"translation"),
+        Class::AddressSize => line.literal(b"address-size"),
+        Class::AccessFlag => line.literal(b"access-flag"),
+        Class::Permission => line.literal(b"permission"),
+        Class::External => line.literal(b"external"),
+        Class::Conflict => line.literal(b"conflict"),
     }
 }
 
@@ -65,14 +65,49 @@ pub fn name(line: &mut Line, stage: Stage, what: What)
 {
     match stage {
         Stage::S1 => match what {
-            What::Base => line.text(b"s1 base"),
-            What::Word => line.text(b"s1 word"),
+            What::Base => line.literal(b"s1 base"),
+            What::Word => line.literal(b"s1 word"),
         },
         Stage::S2 => match what {
-            What::Base => line.text(b"s2 base"),
-            What::Word => line.text(b"s2 word"),
+            What::Base => line.literal(b"s2 base"),
+            What::Word => line.literal(b"s2 word"),
         },
     }
+}
+
+/// A stage's digit.
+#[inline(always)]
+fn stage_glyph(stage: Stage) -> u8
+    ensures { result ∷ [] ≡ stage_digit stage }
+{
+    match stage {
+        Stage::S1 => b'1',
+        Stage::S2 => b'2',
+    }
+}
+
+/// What stands before the digits of a base's place, at a level of one digit.
+#[inline(always)]
+pub fn base_head(stage: Stage, level: u8) -> [u8; 21]
+    requires { level < 4 }
+    ensures { result ≡ codes "s" ++ (stage_digit stage ++ (codes " base level " ++ (decimal level ++ codes " at 0x"))) }
+{
+    let mut head = *b"s1 base level 0 at 0x";
+    head[1] = stage_glyph(stage);
+    head[14] = b'0' + level;
+    head
+}
+
+/// What stands before the digits of a word's place, at a level of one digit.
+#[inline(always)]
+pub fn word_head(stage: Stage, level: u8) -> [u8; 21]
+    requires { level < 4 }
+    ensures { result ≡ codes "s" ++ (stage_digit stage ++ (codes " word level " ++ (decimal level ++ codes " at 0x"))) }
+{
+    let mut head = *b"s1 word level 0 at 0x";
+    head[1] = stage_glyph(stage);
+    head[14] = b'0' + level;
+    head
 }
 
 /// The words around a level of one digit, up to the digits of a place.
@@ -95,12 +130,12 @@ pub fn level_at(line: &mut Line, at: i8)
     ensures room { length line.new ≤ 34 + length line.old }
 {
     if at >= 0 && at <= 3 {
-        line.text(&level_words(at as u8));
+        line.literal(&level_words(at as u8));
         return;
     }
-    line.text(b" at 0x");
+    line.literal(b" at 0x");
     level(line, at);
-    line.text(b" level ");
+    line.literal(b" level ");
 }
 
 /// Puts what a word holds, and nothing for a base.
@@ -112,7 +147,7 @@ pub fn value(line: &mut Line, what: What, value: u64)
 {
     if let What::Word = what {
         line.hex_digits(value);
-        line.text(b" value 0x");
+        line.literal(b" value 0x");
     }
 }
 
@@ -125,7 +160,7 @@ pub fn moment(line: &mut Line, in_run: bool, moment: u32)
 {
     if in_run {
         line.decimal(moment as u64);
-        line.text(b" moment ");
+        line.literal(b" moment ");
     }
 }
 
@@ -136,8 +171,10 @@ pub fn el(line: &mut Line, el: El)
     ensures text { line.new ≡ codes " " ++ (el_text el ++ line.old) }
     ensures room { length line.new ≡ 4 + length line.old }
 {
-    line.text(el.name().as_bytes());
-    line.text(b" ");
+    match el {
+        El::El0 => line.literal(b" el0"),
+        El::El1 => line.literal(b" el1"),
+    }
 }
 
 /// Puts what an access does behind a space.
@@ -147,8 +184,11 @@ pub fn kind(line: &mut Line, kind: Kind)
     ensures text { line.new ≡ codes " " ++ (kind_text kind ++ line.old) }
     ensures room { length line.new ≤ 6 + length line.old }
 {
-    line.text(kind.name().as_bytes());
-    line.text(b" ");
+    match kind {
+        Kind::Read => line.literal(b" read"),
+        Kind::Write => line.literal(b" write"),
+        Kind::Fetch => line.literal(b" fetch"),
+    }
 }
 
 /// A right's letter, or `-` where it isn't given.
@@ -166,7 +206,7 @@ fn letters(line: &mut Line, read: bool, write: bool, fetch: bool)
     ensures text { line.new ≡ letters_text read write fetch ++ line.old }
     ensures room { length line.new ≡ 3 + length line.old }
 {
-    line.text(&[letter(read, b'r'), letter(write, b'w'), letter(fetch, b'x')]);
+    line.literal(&[letter(read, b'r'), letter(write, b'w'), letter(fetch, b'x')]);
 }
 
 /// Puts the rights of an exception level.
@@ -212,14 +252,14 @@ fn cache(line: &mut Line, cache: Cache)
     ensures room { length line.new ≤ 8 + length line.old }
 {
     match cache {
-        Cache::Nc => line.text(b"nc"),
+        Cache::Nc => line.literal(b"nc"),
         Cache::Wt {
             transient,
             read,
             write,
         } => {
             hints(line, transient, read, write);
-            line.text(b"wt");
+            line.literal(b"wt");
         }
         Cache::Wb {
             transient,
@@ -227,7 +267,7 @@ fn cache(line: &mut Line, cache: Cache)
             write,
         } => {
             hints(line, transient, read, write);
-            line.text(b"wb");
+            line.literal(b"wb");
         }
     }
 }
@@ -240,10 +280,10 @@ fn device(line: &mut Line, kind: Device)
     ensures room { length line.new ≤ 13 + length line.old }
 {
     match kind {
-        Device::NGnRnE => line.text(b"device-nGnRnE"),
-        Device::NGnRE => line.text(b"device-nGnRE"),
-        Device::NGRE => line.text(b"device-nGRE"),
-        Device::GRE => line.text(b"device-GRE"),
+        Device::NGnRnE => line.literal(b"device-nGnRnE"),
+        Device::NGnRE => line.literal(b"device-nGnRE"),
+        Device::NGRE => line.literal(b"device-nGRE"),
+        Device::GRE => line.literal(b"device-GRE"),
     }
 }
 
@@ -256,9 +296,9 @@ fn normal(line: &mut Line, outer: Cache, inner: Cache, tagged: bool)
 {
     line.when(tagged, b" tagged");
     cache(line, inner);
-    line.text(b" inner ");
+    line.literal(b" inner ");
     cache(line, outer);
-    line.text(b"normal outer ");
+    line.literal(b"normal outer ");
 }
 
 /// Puts a memory type.
@@ -286,8 +326,8 @@ pub fn share(line: &mut Line, share: Share)
     ensures room { length line.new ≡ 3 + length line.old }
 {
     match share {
-        Share::Nsh => line.text(b"nsh"),
-        Share::Ish => line.text(b"ish"),
-        Share::Osh => line.text(b"osh"),
+        Share::Nsh => line.literal(b"nsh"),
+        Share::Ish => line.literal(b"ish"),
+        Share::Osh => line.literal(b"osh"),
     }
 }

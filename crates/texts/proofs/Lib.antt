@@ -1,5 +1,6 @@
-pub mod Digits
+pub mod ReadDigits
 pub mod Onto
 pub mod Shown
 pub mod Values
-mod Pairs
+pub mod Pairs
+mod Hex

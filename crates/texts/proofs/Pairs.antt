@@ -7,7 +7,7 @@ use Rattle.std.proofs.Math.Arith.{mod-mul}
 use Rattle.std.proofs.Math.Nat.{div-div-eq-div-mul, div-lt_iff_lt-mul, div-eq_of_lt, mod-eq_of_lt, pow-suc, pow-zero, mod-lt}
 use Rattle.std.specs.Fmt.{digit_glyph}
 use Rattle.texts.specs.Texts.{pair_text, ArePairs}
-use Rattle.texts.specs.declared.line.TheConstants.{DECIMAL_PAIRS, HEX_PAIRS}
+use Rattle.texts.specs.declared.digits.TheConstants.{DECIMAL_PAIRS, HEX_PAIRS}
 use Rattle.texts.proofs.Onto.{onto, onto_more, onto_last, room_left}
 use Rattle.texts.proofs.Values.{both}
 
@@ -38,17 +38,17 @@ hex_pairs = (refl, λ n l. pair_from 16 0 HEX_PAIRS refl n (omega arith) ∙ ap 
 pub decimal_pairs : ArePairs 10 DECIMAL_PAIRS
 decimal_pairs = (refl, λ n l. pair_from 10 0 DECIMAL_PAIRS refl n (omega arith) ∙ ap (pair_text 10) (let e : 0 + n ≡ n = omega arith in e))
 
-not_zero : (m : ℕ) → m ≢ 0 → eqb m 0 ≡ false
+pub not_zero : (m : ℕ) → m ≢ 0 → eqb m 0 ≡ false
 not_zero m h = grind (arith, nat_tests)
 
-is_zero : (m : ℕ) → m ≡ 0 → eqb m 0 ≡ true
+pub is_zero : (m : ℕ) → m ≡ 0 → eqb m 0 ≡ true
 is_zero m h = grind (arith, nat_tests)
 
 module _ (r : ℕ) (two : 2 ≤ r) where
-  low : (n : ℕ) → n % (r * r) % r ≡ n % r
+  pub low : (n : ℕ) → n % (r * r) % r ≡ n % r
   low n = ap (λ m. m % r) (mod-mul n (omega arith) (omega arith)) ∙ mod-mul-add (n / r % r) r (n % r) (mod-lt n (omega arith))
 
-  high : (n : ℕ) → n % (r * r) / r ≡ n / r % r
+  pub high : (n : ℕ) → n % (r * r) / r ≡ n / r % r
   high n = ap (λ m. m / r) (mod-mul n (omega arith) (omega arith)) ∙ div-mul-add (n / r % r) r (n % r) (mod-lt n (omega arith))
 
   -- two digits of a number that has more

@@ -1,5 +1,5 @@
 -- Numbers in texts. The forms are this project's own rule.
-use Rattle.std.specs.Prelude.{◌≡◌, ℕ, ◌<◌, ◌*◌, ◌/◌, ◌%◌, List, [], ◌∷◌, ◌++◌, false, length, take, drop, codes, flat_map}
+use Rattle.std.specs.Prelude.{◌≡◌, ℕ, zero, suc, ◌<◌, ◌*◌, ◌/◌, ◌%◌, List, [], ◌∷◌, ◌++◌, false, length, take, drop, codes, flat_map}
 use Rattle.std.specs.Fmt.{digits, digit_glyph}
 
 -- the parts of a text, one behind the other
@@ -13,6 +13,11 @@ hex_text n = codes "0x" ++ digits 16 false n
 -- a number of two digits in a radix
 abbrev pub pair_text : (radix number : ℕ) → List ℕ
 pair_text r n = digit_glyph false (n / r) ∷ digit_glyph false (n % r) ∷ []
+
+-- the last digits of a number in a radix, with zeros in front, before a text
+abbrev pub last_digits : (count radix number : ℕ) (text : List ℕ) → List ℕ
+last_digits zero r n text = text
+last_digits (suc k) r n text = last_digits k r (n / r) (digit_glyph false (n % r) ∷ text)
 
 -- a table has the digits of all numbers of two digits, two each
 abbrev pub ArePairs : (radix : ℕ) (table : List ℕ) → Type 0

@@ -3,6 +3,8 @@ ghost use Rattle.std.specs.Fmt.{digits, digit_glyph};
 ghost use Rattle.texts.specs.Texts.{hex_text, byte_text, pair_text, ArePairs};
 ghost use Rattle.texts.specs.Shown.{shown, shown_byte};
 
+use crate::digits::{decimal_before, glyph, hex_before};
+use crate::room::{array_before, text_before};
 use std::marker::Model;
 
 /// The most bytes of a line, which may have line ends in it: there is room for all lines of one step of a run, two trails
@@ -30,88 +32,70 @@ impl Model for Line {
     ghost invariant = { λ s. s.start ≤ LINE };
 }
 
-/// The glyphs of the digits in any radix up to 16.
-const GLYPHS: [u8; 16] = *b"0123456789abcdef";
+/// How many bytes a tail has at most.
+pub const TAIL: usize = 24;
 
-#[inline]
-fn glyph(digit: u8) -> u8
-    requires { digit < 16 }
-    ensures { result ≡ digit_glyph false digit }
-{
-    GLYPHS[digit as usize]
+/// The end of a line, which many lines may have: it is put as a whole. It stands at the end of an array, as a line does.
+#[derive(Drop)]
+pub struct Tail {
+    bytes: [u8; TAIL],
+    start: usize,
 }
 
-/// The decimal digits of the numbers below 100, two each.
-const DECIMAL_PAIRS: [u8; 200] =
-    *b"000102030405060708091011121314151617181920212223242526272829303132333435363738394041424344454647\
-    484950515253545556575859606162636465666768697071727374757677787980818283848586878889909192939495\
-    96979899";
+impl Model for Tail {
+    ghost use Rattle.std.specs.Prelude.{List, ℕ, drop, ◌≤◌};
+    ghost use Rattle.texts.specs.declared.line.TheConstants.{TAIL};
 
-/// The hexadecimal digits of the numbers below 256, two each.
-const HEX_PAIRS: [u8; 512] =
-    *b"000102030405060708090a0b0c0d0e0f101112131415161718191a1b1c1d1e1f202122232425262728292a2b2c2d2e2f\
-    303132333435363738393a3b3c3d3e3f404142434445464748494a4b4c4d4e4f505152535455565758595a5b5c5d5e5f\
-    606162636465666768696a6b6c6d6e6f707172737475767778797a7b7c7d7e7f808182838485868788898a8b8c8d8e8f\
-    909192939495969798999a9b9c9d9e9fa0a1a2a3a4a5a6a7a8a9aaabacadaeafb0b1b2b3b4b5b6b7b8b9babbbcbdbebf\
-    c0c1c2c3c4c5c6c7c8c9cacbcccdcecfd0d1d2d3d4d5d6d7d8d9dadbdcdddedfe0e1e2e3e4e5e6e7e8e9eaebecedeeef\
-    f0f1f2f3f4f5f6f7f8f9fafbfcfdfeff";
+    ghost Value = { List ℕ };
 
-/// Writes a text so that it ends before `end`. Answers where it starts.
-#[inline]
-fn text_before(bytes: &mut [u8; LINE], end: usize, text: &[u8]) -> usize
-    requires { (length text.now ≤ end) × (end ≤ LINE) }
-    ensures text { drop result bytes.new ≡ text.now ++ drop end bytes.old }
-    ensures room { length (drop result bytes.new) ≡ length text.now + length (drop end bytes.old) }
-    ensures starts { result + length text.now ≡ end }
-{
-    let start = end - text.len();
-    bytes[start..end].copy_from_slice(text);
-    start
+    ghost view = { λ s. drop s.start s.bytes };
+
+    ghost invariant = { λ s. s.start ≤ TAIL };
 }
 
-/// The two digits of a number, of a table of such pairs.
-#[inline(always)]
-fn pair<const N: usize>(pairs: &[u8; N], radix: u64, n: u64) -> &[u8]
-    requires pairs { ArePairs radix pairs.now }
-    requires n { n < radix * radix }
-    ensures digits { result.now ≡ pair_text radix n }
-    ensures size { length result.now ≡ 2 }
-{
-    let at = 2 * n as usize;
-    let all = &pairs[..];
-    &all[at..at + 2]
-}
-
-/// Writes the digits of a number of at most `most` digits, two at a time, so that they end before `end`. `pairs` has the
-/// digits of the numbers of two digits. Answers where they start.
-#[inline(always)]
-fn digits_before<const N: usize>(
-    bytes: &mut [u8; LINE],
-    end: usize,
-    n: u64,
-    radix: u64,
-    pairs: &[u8; N],
-    most: usize,
-) -> usize
-    requires radix { (2 ≤ radix) × (radix ≤ 16) }
-    requires pairs { ArePairs radix pairs.now }
-    requires most { (0 < most) × (most ≤ 64) × (n < radix ^ most) }
-    requires end { (most ≤ end) × (end ≤ LINE) }
-    ensures text { drop result bytes.new ≡ digits radix false n ++ drop end bytes.old }
-    ensures room { length (drop result bytes.new) ≤ most + length (drop end bytes.old) }
-    ensures within { result ≤ end }
-{
-    let square = radix * radix;
-    let mut start = end;
-    let mut rest = n;
-    while rest >= square {
-        start = text_before(bytes, start, pair::<N>(pairs, radix, rest % square));
-        rest /= square;
+impl Tail {
+    /// A tail without text.
+    #[inline]
+    pub fn new() -> Tail
+        ensures { result ≡ [] }
+    {
+        Tail {
+            bytes: [0; TAIL],
+            start: TAIL,
+        }
     }
-    if rest >= radix {
-        return text_before(bytes, start, pair::<N>(pairs, radix, rest));
+
+    /// Puts a text before what stands.
+    #[inline(always)]
+    pub fn literal<const N: usize>(&mut self, text: &[u8; N])
+        requires { N + length self.old ≤ TAIL }
+        ensures text { self.new ≡ text.now ++ self.old }
+        ensures room { length self.new ≡ N + length self.old }
+    {
+        self.start = array_before::<N>(&mut self.bytes, self.start, text);
     }
-    text_before(bytes, start, &[glyph(rest as u8)])
+
+    /// Puts a number in decimal before what stands.
+    #[inline]
+    pub fn decimal(&mut self, n: u32)
+        requires { 10 + length self.old ≤ TAIL }
+        ensures text { self.new ≡ decimal n ++ self.old }
+        ensures room { length self.new ≤ 10 + length self.old }
+    {
+        self.start = decimal_before(&mut self.bytes, self.start, n as u64, 10);
+    }
+}
+
+/// Writes a tail so that it ends before `end`. Bytes in front of it are written too, up to TAIL in all. Answers where it
+/// starts.
+#[inline(always)]
+fn tail_before(bytes: &mut [u8], end: usize, tail: &Tail) -> usize
+    requires { (TAIL ≤ end) × (end ≤ length bytes.old) }
+    ensures size { length bytes.new ≡ length bytes.old }
+    ensures text { drop result bytes.new ≡ tail.now ++ drop end bytes.old }
+    ensures within { (result ≤ end) × (end ≤ result + TAIL) }
+{
+    array_before::<TAIL>(bytes, end, &tail.bytes) + tail.start
 }
 
 #[inline]
@@ -176,6 +160,26 @@ impl Line {
         self.start = text_before(&mut self.bytes, self.start, text);
     }
 
+    /// Puts a text whose size is known when this is compiled, which makes it a few moves.
+    #[inline(always)]
+    pub fn literal<const N: usize>(&mut self, text: &[u8; N])
+        requires { N + length self.old ≤ LINE }
+        ensures text { self.new ≡ text.now ++ self.old }
+        ensures room { length self.new ≡ N + length self.old }
+    {
+        self.start = array_before::<N>(&mut self.bytes, self.start, text);
+    }
+
+    /// Puts a tail.
+    #[inline(always)]
+    pub fn tail(&mut self, tail: &Tail)
+        requires { TAIL + length self.old ≤ LINE }
+        ensures text { self.new ≡ tail.now ++ self.old }
+        ensures room { length self.new ≤ TAIL + length self.old }
+    {
+        self.start = tail_before(&mut self.bytes, self.start, tail);
+    }
+
     /// Puts a text that is shown or not.
     #[inline]
     pub fn when(&mut self, is_shown: bool, text: &[u8])
@@ -195,7 +199,7 @@ impl Line {
         ensures text { self.new ≡ byte_text n ++ self.old }
         ensures room { length self.new ≡ 4 + length self.old }
     {
-        self.text(&[b'0', b'x', glyph(n / 16), glyph(n % 16)]);
+        self.literal::<4>(&[b'0', b'x', glyph(n / 16), glyph(n % 16)]);
     }
 
     /// Puts a number as hexadecimal digits without leading zeros, and without `0x`.
@@ -205,7 +209,7 @@ impl Line {
         ensures text { self.new ≡ digits 16 false n ++ self.old }
         ensures room { length self.new ≤ 16 + length self.old }
     {
-        self.start = digits_before::<512>(&mut self.bytes, self.start, n, 16, &HEX_PAIRS, 16);
+        self.start = hex_before(&mut self.bytes, self.start, n);
     }
 
     /// Puts a number as `0x` and hexadecimal digits without leading zeros.
@@ -216,7 +220,7 @@ impl Line {
         ensures room { length self.new ≤ 18 + length self.old }
     {
         self.hex_digits(n);
-        self.text(b"0x");
+        self.literal::<2>(b"0x");
     }
 
     /// Puts a number in decimal.
@@ -226,7 +230,41 @@ impl Line {
         ensures text { self.new ≡ decimal n ++ self.old }
         ensures room { length self.new ≤ 20 + length self.old }
     {
-        self.start = digits_before::<200>(&mut self.bytes, self.start, n, 10, &DECIMAL_PAIRS, 20);
+        self.start = decimal_before(&mut self.bytes, self.start, n, 20);
+    }
+
+    /// Puts a head, a number in hexadecimal digits without leading zeros, and a tail.
+    #[inline(always)]
+    pub fn number<const N: usize>(&mut self, head: &[u8; N], n: u64, tail: &Tail)
+        requires { N + 40 + length self.old ≤ LINE }
+        ensures text { self.new ≡ head.now ++ (digits 16 false n ++ (tail.now ++ self.old)) }
+        ensures room { length self.new ≤ N + 40 + length self.old }
+    {
+        let start = tail_before(&mut self.bytes, self.start, tail);
+        let start = hex_before(&mut self.bytes, start, n);
+        self.start = array_before::<N>(&mut self.bytes, start, head);
+    }
+
+    /// Puts a head, a number, a text between, a second number, and a tail. Both numbers are hexadecimal digits without
+    /// leading zeros.
+    #[inline(always)]
+    pub fn two_numbers<const N: usize, const M: usize>(
+        &mut self,
+        head: &[u8; N],
+        first: u64,
+        between: &[u8; M],
+        second: u64,
+        tail: &Tail,
+    )
+        requires { N + M + 56 + length self.old ≤ LINE }
+        ensures text { self.new ≡ head.now ++ (digits 16 false first ++ (between.now ++ (digits 16 false second ++ (tail.now ++ self.old)))) }
+        ensures room { length self.new ≤ N + M + 56 + length self.old }
+    {
+        let start = tail_before(&mut self.bytes, self.start, tail);
+        let start = hex_before(&mut self.bytes, start, second);
+        let start = array_before::<M>(&mut self.bytes, start, between);
+        let start = hex_before(&mut self.bytes, start, first);
+        self.start = array_before::<N>(&mut self.bytes, start, head);
     }
 
     /// Puts a name as it is shown: its first SHOWN bytes, with `?` for each that is not visible.

@@ -1,6 +1,6 @@
 use Rattle.std.proofs.Common.{arith, ◌∙◌, sym, ◌+◌, ◌*◌, ◌^◌, ◌≤◌}
 use Rattle.std.proofs.lemmas.Bool.Decides.{nat_tests}
-use Rattle.texts.proofs.Digits.{too_large_at, none_grown, all_read}
+use Rattle.texts.proofs.ReadDigits.{too_large_at, none_grown, all_read}
 use Rattle.texts.proofs.numbers.number_of_digits.Goals as goal
 
 pub returns-in_err-n : goal.returns-in_err-n
