@@ -30,6 +30,7 @@ fn low_address(w: u64, class: u32) -> u64
 }
 
 /// An address from its class up. With a granule of 64 KB bits 15:12 of the word are address bits 51:48.
+#[inline(always)]
 fn address<const G: u32>(w: u64, class: u32) -> u64
     requires granule { IsGranule G }
     requires class { class ≤ 47 }
@@ -43,6 +44,7 @@ fn address<const G: u32>(w: u64, class: u32) -> u64
     }
 }
 
+#[inline(always)]
 fn shape_at<const G: u32, const LEFT: u32>(w: u64) -> Shape
     requires granule { IsGranule G }
     requires left { LEFT ≤ most_left }
@@ -91,6 +93,7 @@ fn leaf_bits(w: u64) -> Bits1
 
 /// What a stage 1 word means with `LEFT` levels left, in the tables of a side, which picks HPD.
 #[tactic(auto, unfolding(crate::specs::Meaning::means1_of))]
+#[inline(always)]
 pub fn decode1<const G: u32, const LEFT: u32>(w: u64, config: &Config, side: Side) -> Kind1
     requires granule { G ≡ granule_of (tg_of config.now side) }
     requires left { LEFT ≤ most_left }
@@ -116,6 +119,7 @@ pub fn decode1<const G: u32, const LEFT: u32>(w: u64, config: &Config, side: Sid
 
 /// What a stage 2 word means with `LEFT` levels left.
 #[tactic(auto, unfolding(crate::specs::Meaning::means2_of))]
+#[inline(always)]
 pub fn decode2<const G: u32, const LEFT: u32>(w: u64, config: &Config) -> Kind2
     requires granule { G ≡ granule_of config.now.tg2 }
     requires left { LEFT ≤ most_left }

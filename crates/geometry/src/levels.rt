@@ -50,6 +50,7 @@ pub fn suits2<const G: u32>(start: i8, iasize: u32) -> bool
 
 /// Which entry of its table an address selects: input bits `top - 1` down to the entry's class.
 #[tactic(auto, using(crate::proofs::Indices::masked_low))]
+#[inline(always)]
 pub fn index<const G: u32, const LEFT: u32>(address: u64, top: u32) -> u64
     requires granule { IsGranule G }
     requires left { LEFT ≤ most_left }

@@ -8,6 +8,7 @@ use crate::runs::run_class;
 use bitwords::power;
 
 /// The class of a run at this level, or None where the level has no run.
+#[inline(always)]
 fn run_at<const G: u32>(left: u32) -> Option<u32>
     requires granule { IsGranule G }
     requires left { left ≤ most_left }
@@ -17,6 +18,7 @@ fn run_at<const G: u32>(left: u32) -> Option<u32>
 }
 
 /// Which entry an address selects at this level, by the input bits below `top`.
+#[inline(always)]
 fn index_at<const G: u32>(left: u32, x: u64, top: u32) -> u64
     requires granule { IsGranule G }
     requires left { left ≤ most_left }
@@ -27,6 +29,7 @@ fn index_at<const G: u32>(left: u32, x: u64, top: u32) -> u64
 }
 
 /// The input bits below this one take part in the index.
+#[inline(always)]
 fn top<const G: u32>(input: u32, start: u32, left: u32) -> u32
     requires granule { IsGranule G }
     requires left { left ≤ start × start ≤ most_left }
@@ -44,6 +47,7 @@ fn top<const G: u32>(input: u32, start: u32, left: u32) -> u32
 /// The place in bytes of the word that an address selects in a table, which is the start table where as many levels are
 /// left as at the start. `input` is the input size in bits.
 #[tactic(auto, using(crate::proofs::Fits::index_small))]
+#[inline(always)]
 pub fn place<const G: u32>(input: u32, start: u32, left: u32, table: u64, x: u64) -> u64
     requires granule { IsGranule G }
     requires left { left ≤ start × start ≤ most_left }
@@ -66,6 +70,7 @@ fn run_offset(pa: u64, run: u32, class: u32) -> u64
 
 /// Whether the Contiguous bit counts of a leaf whose word stands at `pa`.
 #[tactic(auto, using(crate::proofs::Fits::run_sizes))]
+#[inline(always)]
 fn counts<const G: u32>(run: u32, input: u32, left: u32, out: u64, pa: u64) -> bool
     requires granule { IsGranule G }
     requires left { left ≤ most_left }
@@ -77,6 +82,7 @@ fn counts<const G: u32>(run: u32, input: u32, left: u32, out: u64, pa: u64) -> b
 
 /// The class of a leaf: that of its run where the Contiguous bit is set and counts, else that of its entry. `input` is
 /// the input size in bits, `out` the entry's output and `pa` the place of its word.
+#[inline(always)]
 pub fn leaf_class<const G: u32>(input: u32, left: u32, out: u64, contiguous: bool, pa: u64) -> u32
     requires granule { IsGranule G }
     requires left { left ≤ most_left }
@@ -107,6 +113,7 @@ pub fn serves_run<const G: u32>(input: u32, left: u32, out: u64, pa: u64, place:
 }
 
 /// Where an address goes by an entry or a run of this class whose output is `out`.
+#[inline(always)]
 pub fn goes_to(out: u64, class: u32, x: u64) -> u64
     requires class { class < 56 }
     requires out { out < 2 ^ 52 }

@@ -1,15 +1,17 @@
-ghost use Rattle.std.specs.Prelude.{◌≡◌, ◌≤◌, ◌<◌, ◌^◌, true};
+ghost use Rattle.std.specs.Prelude.{◌≡◌, ◌≤◌, ◌<◌, ◌^◌, ◌%◌, true, if◌then◌else◌};
 ghost use Rattle.geometry.specs.Tables.{most_left};
 ghost use Rattle.sysregs.specs.Registers.{granule_of};
 ghost use Rattle.sysregs.specs.Sides.{tg_of};
 ghost use Rattle.permissions.specs.Rights.{joined, is_uxn};
 ghost use Rattle.attributes.specs.Memory.{attr_byte};
 ghost use Rattle.fault_codes.specs.Status.{HasStatus};
+ghost use Rattle.fault_codes.specs.declared.fault.Class.TheVariants.{AddressSize};
+ghost use Rattle.table_reads.specs.Places;
 ghost use Rattle.descriptors.specs.Meaning.{means1_of};
 ghost use Rattle.descriptors.specs.Bounds.{IsBounded1};
-ghost use Rattle.walk_spec.specs.Stage1.{fault1, leaf1_of, judged1, step1};
+ghost use Rattle.walk_spec.specs.Stage1.{fault1, leaf1_of, judged1, step1, step1_by};
 ghost use Rattle.stage1_walk.specs.Under.{IsUnder, regime_under, asked_under};
-ghost use Rattle.stage1_walk.specs.SoundSteps.{IsSoundStep};
+ghost use Rattle.stage1_walk.specs.SoundSteps.{IsSoundStep, kind_of};
 
 use crate::under::Under1;
 use attributes::types::{mair, share};
@@ -37,6 +39,7 @@ fn fault(class: Class, left: u32) -> Fault
     table_reads::fault(&walker, class, left)
 }
 
+#[inline(always)]
 fn decode_at<const G: u32>(left: u32, word: u64, config: &Config, side: Side) -> Kind1
     requires granule { G ≡ granule_of (tg_of config.now side) }
     requires left { left ≤ most_left }
@@ -47,6 +50,7 @@ fn decode_at<const G: u32>(left: u32, word: u64, config: &Config, side: Side) ->
 
 /// What a word means, and that it keeps to its bounds.
 #[tactic(auto, using(descriptors::proofs::Bounds::bounded1))]
+#[inline(always)]
 pub(crate) fn meaning<const G: u32>(left: u32, word: u64, config: &Config, side: Side) -> Kind1
     requires granule { G ≡ granule_of (tg_of config.now side) }
     requires left { left ≤ most_left }
@@ -76,6 +80,7 @@ fn joined(bits: TableBits, more: TableBits) -> TableBits
 }
 
 /// What a block or page gives whose word stands at a physical place.
+#[inline(always)]
 fn leaf<const G: u32>(under: &Under1, entry: &Entry1, place: u64, fields: &Fields1) -> Leaf1
     requires granule { G ≡ granule_of (tg_of under.now.config.now under.now.side) }
     requires under { IsUnder under.now }
@@ -108,6 +113,7 @@ fn leaf<const G: u32>(under: &Under1, entry: &Entry1, place: u64, fields: &Field
 }
 
 /// A leaf that stage 1 permits the access, or a permission fault. `uxn` is the joined UXN.
+#[inline(always)]
 fn permit(
     config: &Config,
     access: &Access,
@@ -144,8 +150,57 @@ fn stop(class: Class, left: u32) -> Lead<Leaf1, Table1>
     }
 }
 
+/// Where a table leads. `bits` are the word's own.
+#[inline(always)]
+fn down(under: &Under1, entry: &Entry1, next: u64, bits: TableBits) -> Lead<Leaf1, Table1>
+    requires under { IsUnder under.now }
+    requires left { 0 < entry.now.left × entry.now.left ≤ most_left }
+    requires table { next < 2 ^ 52 × next % 8 ≡ 0 }
+    ensures value { result ≡ (if Places.is_too_large under.now.sizes next then Lead.Stopped (fault1 AddressSize entry.now.left)
+        else Lead.Down (record { address = next; bits = joined entry.now.table.bits bits })) }
+    ensures sound { IsSoundStep entry.now.left result }
+{
+    if is_too_large(&under.sizes, next) {
+        return stop(Class::AddressSize, entry.left);
+    }
+    Lead::Down {
+        table: Table1 {
+            address: next,
+            bits: joined(entry.table.bits, bits),
+        },
+    }
+}
+
+/// Where a block or page leads whose word stands at a physical place, for an access that is judged. `af` is its access flag.
+#[inline(always)]
+fn reach<const G: u32>(
+    under: &Under1,
+    entry: &Entry1,
+    place: u64,
+    af: bool,
+    fields: &Fields1,
+) -> Lead<Leaf1, Table1>
+    requires granule { G ≡ granule_of (tg_of under.now.config.now under.now.side) }
+    requires under { IsUnder under.now }
+    requires left { entry.now.left ≤ most_left }
+    requires fields { fields.now.out < 2 ^ 52 × fields.now.attr_index < 8 × fields.now.sh < 4 }
+    ensures value { result ≡ step1_by (asked_under under.now) entry.now place (kind_of af fields.now) }
+    ensures sound { IsSoundStep entry.now.left result }
+{
+    if is_too_large(&under.sizes, fields.out) {
+        return stop(Class::AddressSize, entry.left);
+    }
+    if !(af | under.config.ha1) {
+        return stop(Class::AccessFlag, entry.left);
+    }
+    let uxn = fields.bits.uxn | entry.table.bits.uxn;
+    let leaf = leaf::<G>(under, entry, place, fields);
+    permit(under.config, under.access, entry.left, uxn, leaf)
+}
+
 /// What a word leads to that stands at a physical place, for an access that is judged.
 #[tactic(auto, unfolding(walk_spec::specs::Stage1::step1))]
+#[inline(always)]
 pub(crate) fn step_by<const G: u32>(
     under: &Under1,
     entry: &Entry1,
@@ -158,26 +213,17 @@ pub(crate) fn step_by<const G: u32>(
     ensures value { result ≡ step1 (asked_under under.now) entry.now place word }
     ensures sound { IsSoundStep entry.now.left result }
 {
-    let left = entry.left;
-    match meaning::<G>(left, word, under.config, under.side) {
-        Kind1::Invalid => stop(Class::Translation, left),
-        Kind1::Table { next, .. } | Kind1::Leaf { out: next, .. }
-            if is_too_large(&under.sizes, next) => stop(Class::AddressSize, left),
-        Kind1::Table { next, bits } => Lead::Down {
-            table: Table1 {
-                address: next,
-                bits: joined(entry.table.bits, bits),
-            },
-        },
-        Kind1::Leaf { af, .. } if !(af | under.config.ha1) => stop(Class::AccessFlag, left),
+    match meaning::<G>(entry.left, word, under.config, under.side) {
+        Kind1::Invalid => stop(Class::Translation, entry.left),
+        Kind1::Table { next, bits } => down(under, entry, next, bits),
         Kind1::Leaf {
             out,
             attr_index,
             bits,
             sh,
+            af,
             global,
             contiguous,
-            ..
         } => {
             let fields = Fields1 {
                 out,
@@ -187,9 +233,7 @@ pub(crate) fn step_by<const G: u32>(
                 global,
                 contiguous,
             };
-            let uxn = bits.uxn | entry.table.bits.uxn;
-            let leaf = leaf::<G>(under, entry, place, &fields);
-            permit(under.config, under.access, left, uxn, leaf)
+            reach::<G>(under, entry, place, af, &fields)
         }
     }
 }

@@ -1,10 +1,13 @@
 -- What a step keeps to.
-use Rattle.std.specs.Prelude.{ℕ, ◌<◌, ◌^◌, ◌%◌, ◌≡◌}
+use Rattle.std.specs.Prelude.{ℕ, ◌<◌, ◌^◌, ◌%◌, ◌≡◌, Bool}
 use Rattle.fault_codes.specs.Status.{HasStatus, HasLevel}
 use Rattle.fault_codes.specs.declared.fault.Class.TheVariants.{Permission}
 use Rattle.table_reads.specs.declared.lead.Lead.{Lead}
 use Rattle.table_reads.specs.declared.lead.Lead.TheVariants.{Down, Reached, Stopped}
+use Rattle.descriptors.specs.declared.kinds.Kind2.{Kind2}
+use Rattle.descriptors.specs.declared.kinds.Kind2.TheVariants.{Leaf}
 use Rattle.walk_spec.specs.declared.leaf.Leaf2.{Leaf2}
+use Rattle.walk_spec.specs.declared.leaf.Fields2.{Fields2}
 
 -- a leaf keeps the IPA's place among eight bytes, and a permission fault has its level
 abbrev pub IsSoundLeaf : (ipa : ℕ) (leaf : Leaf2) → Type 0
@@ -15,3 +18,7 @@ abbrev pub IsSoundStep : (left ipa : ℕ) (step : Lead Leaf2 ℕ) → Type 0
 IsSoundStep left ipa (Down table) = (0 < left) × (table < 2 ^ 52) × (table % 8 ≡ 0)
 IsSoundStep left ipa (Reached l) = IsSoundLeaf ipa l
 IsSoundStep left ipa (Stopped f) = HasStatus f
+
+-- what a word means that has these fields and this access flag
+abbrev pub kind_of : (af : Bool) (fields : Fields2) → Kind2
+kind_of af f = Leaf f.out f.mem_attr f.read f.write f.xn f.sh af f.dbm f.contiguous

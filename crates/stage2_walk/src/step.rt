@@ -1,13 +1,14 @@
-ghost use Rattle.std.specs.Prelude.{◌≡◌, ◌≤◌, ◌<◌, ◌^◌, ◌%◌};
+ghost use Rattle.std.specs.Prelude.{◌≡◌, ◌≤◌, ◌<◌, ◌^◌, ◌%◌, if◌then◌else◌};
 ghost use Rattle.geometry.specs.Tables.{most_left};
 ghost use Rattle.sysregs.specs.Registers.{granule_of};
 ghost use Rattle.fault_codes.specs.Status.{HasLevel};
-ghost use Rattle.fault_codes.specs.declared.fault.Class.TheVariants.{Permission};
+ghost use Rattle.fault_codes.specs.declared.fault.Class.TheVariants.{Permission, AddressSize};
 ghost use Rattle.descriptors.specs.Meaning.{means2_of};
 ghost use Rattle.descriptors.specs.Bounds.{IsBounded2};
-ghost use Rattle.walk_spec.specs.Stage2.{fault2, leaf2_of, step2};
+ghost use Rattle.table_reads.specs.Places;
+ghost use Rattle.walk_spec.specs.Stage2.{fault2, leaf2_of, step2, step2_by};
 ghost use Rattle.stage2_walk.specs.Under.{IsUnder, asked_under};
-ghost use Rattle.stage2_walk.specs.SoundSteps.{IsSoundStep};
+ghost use Rattle.stage2_walk.specs.SoundSteps.{IsSoundStep, kind_of};
 
 use crate::under::Under2;
 use attributes::types::{s2_attr, share};
@@ -19,6 +20,7 @@ use sysregs::Config;
 use table_reads::{Lead, fault, is_too_large, level};
 use walk_spec::{Fields2, Leaf2};
 
+#[inline(always)]
 fn decode_at<const G: u32>(left: u32, word: u64, config: &Config) -> Kind2
     requires granule { G ≡ granule_of config.now.tg2 }
     requires left { left ≤ most_left }
@@ -29,6 +31,7 @@ fn decode_at<const G: u32>(left: u32, word: u64, config: &Config) -> Kind2
 
 /// What a word means, and that it keeps to its bounds.
 #[tactic(auto, using(descriptors::proofs::Bounds::bounded2))]
+#[inline(always)]
 pub(crate) fn meaning<const G: u32>(left: u32, word: u64, config: &Config) -> Kind2
     requires granule { G ≡ granule_of config.now.tg2 }
     requires left { left ≤ most_left }
@@ -40,6 +43,7 @@ pub(crate) fn meaning<const G: u32>(left: u32, word: u64, config: &Config) -> Ki
 
 /// What a block or page gives whose word stands at a place.
 #[tactic(auto, using(geometry::proofs::Leaves::leaf_class_least, geometry::proofs::Leaves::goes_to_eights))]
+#[inline(always)]
 fn leaf<const G: u32>(under: &Under2, left: u32, place: u64, fields: &Fields2) -> Leaf2
     requires granule { G ≡ granule_of under.now.config.now.tg2 }
     requires under { IsUnder under.now }
@@ -78,8 +82,52 @@ fn stop(under: &Under2, class: Class, left: u32) -> Lead<Leaf2, u64>
     }
 }
 
+/// Where a table leads.
+#[inline(always)]
+fn down(under: &Under2, left: u32, next: u64) -> Lead<Leaf2, u64>
+    requires under { IsUnder under.now }
+    requires left { 0 < left × left ≤ most_left }
+    requires table { next < 2 ^ 52 × next % 8 ≡ 0 }
+    ensures value { result ≡ (if Places.is_too_large under.now.sizes next then Lead.Stopped (fault2 (asked_under under.now) AddressSize left) else Lead.Down next) }
+    ensures sound { IsSoundStep left under.now.ipa result }
+{
+    if is_too_large(&under.sizes, next) {
+        stop(under, Class::AddressSize, left)
+    } else {
+        Lead::Down { table: next }
+    }
+}
+
+/// Where a block or page leads whose word stands at a place. `af` is its access flag.
+#[inline(always)]
+fn reach<const G: u32>(
+    under: &Under2,
+    left: u32,
+    place: u64,
+    af: bool,
+    fields: &Fields2,
+) -> Lead<Leaf2, u64>
+    requires granule { G ≡ granule_of under.now.config.now.tg2 }
+    requires under { IsUnder under.now }
+    requires left { left ≤ most_left }
+    requires fields { fields.now.out < 2 ^ 52 × fields.now.mem_attr < 16 × fields.now.xn < 4 × fields.now.sh < 4 }
+    ensures value { result ≡ step2_by (asked_under under.now) left place (kind_of af fields.now) }
+    ensures sound { IsSoundStep left under.now.ipa result }
+{
+    if is_too_large(&under.sizes, fields.out) {
+        return stop(under, Class::AddressSize, left);
+    }
+    if !(af | under.config.ha2) {
+        return stop(under, Class::AccessFlag, left);
+    }
+    Lead::Reached {
+        leaf: leaf::<G>(under, left, place, fields),
+    }
+}
+
 /// What a word leads to that stands at a place.
 #[tactic(auto, unfolding(walk_spec::specs::Stage2::step2))]
+#[inline(always)]
 pub(crate) fn step_by<const G: u32>(
     under: &Under2,
     left: u32,
@@ -94,10 +142,7 @@ pub(crate) fn step_by<const G: u32>(
 {
     match meaning::<G>(left, word, under.config) {
         Kind2::Invalid => stop(under, Class::Translation, left),
-        Kind2::Table { next } | Kind2::Leaf { out: next, .. } if is_too_large(&under.sizes, next) =>
-            stop(under, Class::AddressSize, left),
-        Kind2::Table { next } => Lead::Down { table: next },
-        Kind2::Leaf { af, .. } if !(af | under.config.ha2) => stop(under, Class::AccessFlag, left),
+        Kind2::Table { next } => down(under, left, next),
         Kind2::Leaf {
             out,
             mem_attr,
@@ -105,9 +150,9 @@ pub(crate) fn step_by<const G: u32>(
             write,
             xn,
             sh,
+            af,
             dbm,
             contiguous,
-            ..
         } => {
             let fields = Fields2 {
                 out,
@@ -119,9 +164,7 @@ pub(crate) fn step_by<const G: u32>(
                 dbm,
                 contiguous,
             };
-            Lead::Reached {
-                leaf: leaf::<G>(under, left, place, &fields),
-            }
+            reach::<G>(under, left, place, af, &fields)
         }
     }
 }

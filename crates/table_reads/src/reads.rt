@@ -12,6 +12,7 @@ use trails::{Item, Stop, Trail, What};
 
 /// The place in bytes of the word that an address selects in a table.
 #[tactic(auto, unfolding(crate::specs::Places::place_of))]
+#[inline(always)]
 pub fn place<const G: u32>(sizes: &Sizes, left: u32, table: u64, address: u64) -> u64
     requires granule { G ≡ sizes.now.granule }
     requires sound { AreSound sizes.now }
@@ -24,6 +25,7 @@ pub fn place<const G: u32>(sizes: &Sizes, left: u32, table: u64, address: u64) -
 }
 
 /// Reads the word of a level at a place and appends its item.
+#[inline(always)]
 pub fn read<S: Supply>(
     walker: &Walker,
     level: i8,

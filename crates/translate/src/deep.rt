@@ -26,6 +26,8 @@ pub struct Deep<'a, S> {
 impl<'a, S: Supply> Supply1 for Deep<'a, S> {
     ghost gives = { DeepGave S.memory S.faults S.keeps };
 
+    /// A call of its own: it holds a walk through stage 2, which would stand in each level of stage 1.
+    #[inline(never)]
     fn word_at(&mut self, level: i8, ipa: u64, trail: &mut Trail) -> Result<u64, Stop> {
         let config = self.under.config();
         let walker = walker1(self.under.moment());

@@ -15,6 +15,7 @@ use trails::{Stop, Trail};
 use walk_spec::Leaf2;
 
 /// Stage 2 for an IPA. `ptw` marks the place of a stage 1 descriptor.
+#[inline(always)]
 pub(crate) fn stage2<S: Supply>(
     under: &Under,
     ipa: u64,

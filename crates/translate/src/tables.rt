@@ -26,6 +26,7 @@ use trails::{Access, Stop, Trail};
 use walk_spec::{Leaf1, Leaf2, Table1};
 
 /// Stage 1 from a table with so many levels left, by the granule of the side.
+#[inline(always)]
 pub(crate) fn walk1_left<D: Supply1>(
     under: &Under1,
     left: u32,
@@ -46,6 +47,7 @@ pub(crate) fn walk1_left<D: Supply1>(
 }
 
 /// Stage 2 from a table with so many levels left, by the granule of stage 2.
+#[inline(always)]
 pub(crate) fn walk2_left<S: Supply>(
     under: &Under2,
     left: u32,
