@@ -48,16 +48,26 @@ pub fn suits2<const G: u32>(start: i8, iasize: u32) -> bool
     least <= iasize && iasize <= least + (G - 3) - 1 + 4
 }
 
-/// Which entry of its table an address selects: input bits `top - 1` down to the entry's class.
-#[tactic(auto, using(crate::proofs::Indices::masked_low))]
+/// Which entry of its table an address selects with so many levels left: input bits `top - 1` down to the entry's class.
 #[inline(always)]
+#[tactic(auto, using(crate::proofs::Indices::masked_low))]
+pub(crate) fn index_at<const G: u32>(left: u32, address: u64, top: u32) -> u64
+    requires granule { IsGranule G }
+    requires left { left ≤ most_left }
+    requires top { top ≤ 56 }
+    ensures { result ≡ address % 2 ^ top / 2 ^ class_of G left }
+{
+    (address & ((1 << top) - 1)) >> class_at::<G>(left)
+}
+
+/// Which entry of its table an address selects: input bits `top - 1` down to the entry's class.
 pub fn index<const G: u32, const LEFT: u32>(address: u64, top: u32) -> u64
     requires granule { IsGranule G }
     requires left { LEFT ≤ most_left }
     requires top { top ≤ 56 }
     ensures { result ≡ address % 2 ^ top / 2 ^ class_of G LEFT }
 {
-    (address & ((1 << top) - 1)) >> entry_class::<G, LEFT>()
+    index_at::<G>(LEFT, address, top)
 }
 
 /// The class of an entry with so many levels left: the entry covers `2 ^ class` bytes of input.

@@ -3,7 +3,7 @@ ghost use Rattle.geometry.specs.Tables.{IsGranule, most_left, class_of, top_of, 
 ghost use Rattle.geometry.specs.Runs.{run_at, goes_to, is_counted, is_one_run, leaf_class};
 
 use crate::case_table;
-use crate::levels::{class_at, index};
+use crate::levels::{class_at, index_at};
 use crate::runs::run_class;
 use bitwords::power;
 
@@ -15,17 +15,6 @@ fn run_at<const G: u32>(left: u32) -> Option<u32>
     ensures { result ≡ run_at G left }
 {
     case_table!(level left; run_class::<G>())
-}
-
-/// Which entry an address selects at this level, by the input bits below `top`.
-#[inline(always)]
-fn index_at<const G: u32>(left: u32, x: u64, top: u32) -> u64
-    requires granule { IsGranule G }
-    requires left { left ≤ most_left }
-    requires top { top ≤ 56 }
-    ensures { result ≡ x % 2 ^ top / 2 ^ class_of G left }
-{
-    case_table!(level left; index::<G>(x, top))
 }
 
 /// The input bits below this one take part in the index.

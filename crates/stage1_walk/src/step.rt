@@ -39,25 +39,26 @@ fn fault(class: Class, left: u32) -> Fault
     table_reads::fault(&walker, class, left)
 }
 
+/// What a word means with `LEFT` levels left, and that it keeps to its bounds.
 #[inline(always)]
-fn decode_at<const G: u32>(left: u32, word: u64, config: &Config, side: Side) -> Kind1
+#[tactic(auto, using(descriptors::proofs::Bounds::bounded1))]
+fn meaning_at<const G: u32, const LEFT: u32>(word: u64, config: &Config, side: Side) -> Kind1
     requires granule { G ≡ granule_of (tg_of config.now side) }
-    requires left { left ≤ most_left }
-    ensures { result ≡ means1_of config.now side left word }
+    requires left { LEFT ≤ most_left }
+    ensures value { result ≡ means1_of config.now side LEFT word }
+    ensures bounded { IsBounded1 LEFT result }
 {
-    case_table!(level left; decode1::<G>(word, config, side))
+    decode1::<G, LEFT>(word, config, side)
 }
 
 /// What a word means, and that it keeps to its bounds.
-#[tactic(auto, using(descriptors::proofs::Bounds::bounded1))]
-#[inline(always)]
 pub(crate) fn meaning<const G: u32>(left: u32, word: u64, config: &Config, side: Side) -> Kind1
     requires granule { G ≡ granule_of (tg_of config.now side) }
     requires left { left ≤ most_left }
     ensures value { result ≡ means1_of config.now side left word }
     ensures bounded { IsBounded1 left result }
 {
-    decode_at::<G>(left, word, config, side)
+    case_table!(level left; meaning_at::<G>(word, config, side))
 }
 
 /// The byte of `MAIR_EL1` that AttrIndx names.
@@ -140,6 +141,7 @@ fn permit(
 }
 
 /// A step that ends in a fault.
+#[inline(always)]
 fn stop(class: Class, left: u32) -> Lead<Leaf1, Table1>
     requires { left ≤ most_left }
     ensures value { result ≡ Lead.Stopped (fault1 class left) }
@@ -198,10 +200,11 @@ fn reach<const G: u32>(
     permit(under.config, under.access, entry.left, uxn, leaf)
 }
 
-/// What a word leads to that stands at a physical place, for an access that is judged.
+/// What the word of an entry with `LEFT` levels left leads to, which stands at a physical place, for an access that is
+/// judged.
 #[tactic(auto, unfolding(walk_spec::specs::Stage1::step1))]
 #[inline(always)]
-pub(crate) fn step_by<const G: u32>(
+pub(crate) fn step_at<const G: u32, const LEFT: u32>(
     under: &Under1,
     entry: &Entry1,
     place: u64,
@@ -209,12 +212,12 @@ pub(crate) fn step_by<const G: u32>(
 ) -> Lead<Leaf1, Table1>
     requires granule { G ≡ granule_of (tg_of under.now.config.now under.now.side) }
     requires under { IsUnder under.now }
-    requires left { entry.now.left ≤ most_left }
+    requires left { entry.now.left ≡ LEFT × LEFT ≤ most_left }
     ensures value { result ≡ step1 (asked_under under.now) entry.now place word }
     ensures sound { IsSoundStep entry.now.left result }
 {
-    match meaning::<G>(entry.left, word, under.config, under.side) {
-        Kind1::Invalid => stop(Class::Translation, entry.left),
+    match meaning_at::<G, LEFT>(word, under.config, under.side) {
+        Kind1::Invalid => stop(Class::Translation, LEFT),
         Kind1::Table { next, bits } => down(under, entry, next, bits),
         Kind1::Leaf {
             out,
@@ -236,4 +239,20 @@ pub(crate) fn step_by<const G: u32>(
             reach::<G>(under, entry, place, af, &fields)
         }
     }
+}
+
+/// What the word of an entry leads to, which stands at a physical place, for an access that is judged.
+pub(crate) fn step_by<const G: u32>(
+    under: &Under1,
+    entry: &Entry1,
+    place: u64,
+    word: u64,
+) -> Lead<Leaf1, Table1>
+    requires granule { G ≡ granule_of (tg_of under.now.config.now under.now.side) }
+    requires under { IsUnder under.now }
+    requires left { entry.now.left ≤ most_left }
+    ensures value { result ≡ step1 (asked_under under.now) entry.now place word }
+    ensures sound { IsSoundStep entry.now.left result }
+{
+    case_table!(level entry.left; step_at::<G>(under, entry, place, word))
 }

@@ -11,7 +11,7 @@ ghost use Rattle.stage1_walk.specs.SoundSteps.{IsSoundStep};
 ghost use Rattle.stage1_walk.specs.Clauses.{IsTableOf, table_from};
 ghost use Rattle.stage1_walk.specs.Gave.{Gave, IsLastPlace, HasStepped, Walked1};
 
-use crate::step::step_by;
+use crate::step::step_at;
 use crate::supply::Supply1;
 use crate::under::Under1;
 use geometry::case_table;
@@ -76,7 +76,7 @@ fn level_at<const G: u32, const LEFT: u32, S: Supply1>(
         left: LEFT,
     };
     let word = word_of(&entry, supply, trail)?;
-    Ok(step_by::<G>(under, &entry, last_place(trail), word))
+    Ok(step_at::<G, LEFT>(under, &entry, last_place(trail), word))
 }
 
 /// The same with so many levels left, by an instance for each number: its shifts and masks are constants.

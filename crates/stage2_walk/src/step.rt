@@ -20,25 +20,26 @@ use sysregs::Config;
 use table_reads::{Lead, fault, is_too_large, level};
 use walk_spec::{Fields2, Leaf2};
 
+/// What a word means with `LEFT` levels left, and that it keeps to its bounds.
 #[inline(always)]
-fn decode_at<const G: u32>(left: u32, word: u64, config: &Config) -> Kind2
+#[tactic(auto, using(descriptors::proofs::Bounds::bounded2))]
+fn meaning_at<const G: u32, const LEFT: u32>(word: u64, config: &Config) -> Kind2
     requires granule { G ≡ granule_of config.now.tg2 }
-    requires left { left ≤ most_left }
-    ensures { result ≡ means2_of config.now left word }
+    requires left { LEFT ≤ most_left }
+    ensures value { result ≡ means2_of config.now LEFT word }
+    ensures bounded { IsBounded2 LEFT result }
 {
-    case_table!(level left; decode2::<G>(word, config))
+    decode2::<G, LEFT>(word, config)
 }
 
 /// What a word means, and that it keeps to its bounds.
-#[tactic(auto, using(descriptors::proofs::Bounds::bounded2))]
-#[inline(always)]
 pub(crate) fn meaning<const G: u32>(left: u32, word: u64, config: &Config) -> Kind2
     requires granule { G ≡ granule_of config.now.tg2 }
     requires left { left ≤ most_left }
     ensures value { result ≡ means2_of config.now left word }
     ensures bounded { IsBounded2 left result }
 {
-    decode_at::<G>(left, word, config)
+    case_table!(level left; meaning_at::<G>(word, config))
 }
 
 /// What a block or page gives whose word stands at a place.
@@ -72,6 +73,7 @@ fn leaf<const G: u32>(under: &Under2, left: u32, place: u64, fields: &Fields2) -
 }
 
 /// A step that ends in a fault.
+#[inline(always)]
 fn stop(under: &Under2, class: Class, left: u32) -> Lead<Leaf2, u64>
     requires { left ≤ most_left }
     ensures value { result ≡ Lead.Stopped (fault2 (asked_under under.now) class left) }
@@ -125,24 +127,23 @@ fn reach<const G: u32>(
     }
 }
 
-/// What a word leads to that stands at a place.
+/// What a word leads to that stands at a place, with `LEFT` levels left.
 #[tactic(auto, unfolding(walk_spec::specs::Stage2::step2))]
 #[inline(always)]
-pub(crate) fn step_by<const G: u32>(
+pub(crate) fn step_at<const G: u32, const LEFT: u32>(
     under: &Under2,
-    left: u32,
     place: u64,
     word: u64,
 ) -> Lead<Leaf2, u64>
     requires granule { G ≡ granule_of under.now.config.now.tg2 }
     requires under { IsUnder under.now }
-    requires left { left ≤ most_left }
-    ensures value { result ≡ step2 (asked_under under.now) left place word }
-    ensures sound { IsSoundStep left under.now.ipa result }
+    requires left { LEFT ≤ most_left }
+    ensures value { result ≡ step2 (asked_under under.now) LEFT place word }
+    ensures sound { IsSoundStep LEFT under.now.ipa result }
 {
-    match meaning::<G>(left, word, under.config) {
-        Kind2::Invalid => stop(under, Class::Translation, left),
-        Kind2::Table { next } => down(under, left, next),
+    match meaning_at::<G, LEFT>(word, under.config) {
+        Kind2::Invalid => stop(under, Class::Translation, LEFT),
+        Kind2::Table { next } => down(under, LEFT, next),
         Kind2::Leaf {
             out,
             mem_attr,
@@ -164,7 +165,23 @@ pub(crate) fn step_by<const G: u32>(
                 dbm,
                 contiguous,
             };
-            reach::<G>(under, left, place, af, &fields)
+            reach::<G>(under, LEFT, place, af, &fields)
         }
     }
+}
+
+/// What a word leads to that stands at a place, with so many levels left.
+pub(crate) fn step_by<const G: u32>(
+    under: &Under2,
+    left: u32,
+    place: u64,
+    word: u64,
+) -> Lead<Leaf2, u64>
+    requires granule { G ≡ granule_of under.now.config.now.tg2 }
+    requires under { IsUnder under.now }
+    requires left { left ≤ most_left }
+    ensures value { result ≡ step2 (asked_under under.now) left place word }
+    ensures sound { IsSoundStep left under.now.ipa result }
+{
+    case_table!(level left; step_at::<G>(under, place, word))
 }

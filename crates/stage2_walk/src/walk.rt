@@ -11,7 +11,7 @@ ghost use Rattle.stage2_walk.specs.SoundSteps.{IsSoundLeaf, IsSoundStep};
 ghost use Rattle.stage2_walk.specs.Clauses.{IsTableOf, HasStepped, WalkedLeft, WalkedFrom};
 
 use crate::sizes::sizes2;
-use crate::step::step_by;
+use crate::step::step_at;
 use crate::under::Under2;
 use geometry::case_table;
 use sysregs::Config;
@@ -68,7 +68,7 @@ fn level_at<const G: u32, const LEFT: u32, S: Supply>(
 {
     let place = place::<G>(&under.sizes, LEFT, table, under.ipa);
     let word = read_word(under, LEFT, place, supply, trail)?;
-    Ok(step_by::<G>(under, LEFT, place, word))
+    Ok(step_at::<G, LEFT>(under, place, word))
 }
 
 /// The same with so many levels left, by an instance for each number: its shifts and masks are constants.
