@@ -20,7 +20,7 @@ use Rattle.walk_spec.specs.BothStages.{Landing, walk, is_refused1}
 use Rattle.machine_spec.specs.Header.{Header, Kind, leaf1, table1, leaf2, table2}
 use Rattle.machine_spec.specs.Moments.{memory_after, bank_after}
 use Rattle.machine_spec.specs.Invalidations.{inval_at, IsComplete}
-use Rattle.machine_spec.specs.Marks.{Mark, marks, is_first, is_leaf, is_global, has_asid}
+use Rattle.machine_spec.specs.Marks.{Mark, marks, is_first, is_table, is_global, has_asid}
 use Rattle.machine_spec.specs.Uses.{AllUsed}
 use Rattle.machine_spec.specs.Kept.{View, now, regs_when, tag_of, IsHeld, IsKeptItem}
 use Rattle.machine_spec.specs.Rows.{Row, holds}
@@ -80,7 +80,7 @@ pub record IsTableRow1 (P : Mark → Option ℕ → Type 0) (c : Config) (trail 
   pub is : marks (regime_for c a) (walk c true a) trail ≡ front ++ last ∷ []
   pub first : is_first last ≡ true
   pub word : last.base ≡ false
-  pub not_leaf : is_leaf last.part ≡ false
+  pub to_table : is_table last.part ≡ true
   pub stored : AllUsed P None (front ++ last ∷ [])
 
 -- a chain that reaches a leaf of stage 2

@@ -56,7 +56,7 @@ numbered_by P Q f r d table1 h = (
         is = g.is;
         first = g.first;
         word = g.word;
-        not_leaf = g.not_leaf;
+        to_table = g.to_table;
         stored = used_map (P (side_of a.va)) (Q (side_of a.va)) (f (side_of a.va)) None (g.front ++ g.last ∷ []) g.stored;
       },
 )

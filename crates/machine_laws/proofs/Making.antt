@@ -42,7 +42,7 @@ use Rattle.walk_laws.proofs.Sound.{sound1}
 use Rattle.walk_laws.proofs.Shifts.{of_fields, same_side}
 use Rattle.machine_spec.specs.Header.{Kind, table1, leaf2, table2}
 use Rattle.machine_spec.specs.Moments.{regs_after}
-use Rattle.machine_spec.specs.Marks.{Part, nothing, table, leaf_of_stage1, leaf_of_stage2, part1, part_of, Mark, mark, marks, is_first, is_leaf, has_asid, tag_by}
+use Rattle.machine_spec.specs.Marks.{Part, nothing, table, leaf_of_stage1, leaf_of_stage2, part1, part_of, Mark, mark, marks, is_first, is_leaf, is_table, has_asid, tag_by}
 use Rattle.machine_spec.specs.Uses.{AllUsed}
 use Rattle.machine_spec.specs.Kept.{View, now, regs_when, IsHeld, IsKeptItem}
 use Rattle.machine_spec.specs.Rows.{Row}
@@ -343,7 +343,7 @@ module _ (laws : Laws) (v : View) (s : Step) (none : (i : Inval) → issued_now 
                 is = t.same;
                 first = first;
                 word = base;
-                not_leaf = ap is_leaf part;
+                to_table = ap is_table part;
                 stored =
                     front_first (Good v) (Then (side_of b.va) r) (λ x u. closed (side_of b.va) r refl refl x u (both_same v.side (side_of b.va) x e)) None ws
                     m rest first
