@@ -27,6 +27,7 @@ use Rattle.machine_spec.specs.Rows.{Row, holds}
 use Rattle.machine_spec.specs.Made.{last_first}
 use Rattle.machine_spec.specs.Machine.{Core, World, core_numbered}
 pub use Rattle.machine_laws.specs.Leaving.{In}
+pub use Rattle.machine_laws.specs.MayServe.{MayServe}
 use Rattle.machine_laws.proofs.Pairs.{AllPairs}
 use Rattle.machine_laws.proofs.Trees.{IsOn, chain, Plan, fin, flat, IsSound, IsWords}
 
@@ -54,12 +55,6 @@ pub record IsLast (v : View) (inbox : List Inval) (r : Row) (m : Mark) : Type 0 
 abbrev pub IsStored : View → List Inval → Row → Mark → Option ℕ → Type 0
 IsStored v inbox r m None = IsLast v inbox r m
 IsStored v inbox r m (Some u) = IsKeptItem v r.key.config r.key.vmid m u × (u < now v)
-
--- an access that a row of stage 1 may serve
-pub record MayServe (r : Row) (a : Access) : Type 0 where
-  pub held : holds r.region (untagged a.va) ≡ true
-  pub on : r.key.config.m ≡ true
-  pub accepted : is_refused1 r.key.config a ≡ false
 
 -- a trail that leads to a translation for an access, by rights or not
 pub record IsLeafRow1 (P : Mark → Option ℕ → Type 0) (c : Config) (r : Row) (trail : List Item) (a : Access) : Type 0 where

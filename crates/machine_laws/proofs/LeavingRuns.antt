@@ -139,12 +139,12 @@ module _ (h : Header) (c : ℕ) where
       ap (λ v. (now.served ++ now.made) ++ v) (uses_more es (after_event h w d) e) ∙ sym (append_assoc (now.served ++ now.made) _ _)
 
   -- behind a run the rows of a core are ranked
-  abbrev IsRun : List Event → Type 0
+  abbrev pub IsRun : List Event → Type 0
   IsRun es =
       let w = world_after h es in
       (length w.cores ≡ h.cores) × IsRanked h c w.step (uses_of h c es) (core_numbered w c).cache.rows
 
-  run_ranked : c < h.cores → (es : List Event) → IsRun es
+  pub run_ranked : c < h.cores → (es : List Event) → IsRun es
   run_ranked lt es = from_end IsRun more first es
     where
       first : IsRun []

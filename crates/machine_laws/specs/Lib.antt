@@ -20,3 +20,4 @@ pub mod NotAllowed
 pub mod NotAllowedRuns
 pub mod Rules
 pub mod Leaving
+pub mod MayServe
