@@ -20,9 +20,9 @@ use Rattle.machine_laws.proofs.Gone.{Ranks, AreRanked}
 use Rattle.machine_laws.proofs.LeavingRuns.{run_ranked}
 use Rattle.machine_laws.proofs.Theorem.{facts_of_run}
 use Rattle.machine_laws.proofs.Promised.{all_served, all_made}
-use Rattle.access_laws.specs.CanServe.{ServesAs, AreTold, RowsCanServe}
-use Rattle.access_laws.proofs.Depth.{on_length, chain_most, walk_most}
-use Rattle.access_laws.proofs.Servable.{leaf1_ends, leaf2_ends, table2_needs, table1_serves}
+use Rattle.served_walk.specs.CanServe.{ServesAs, AreTold, RowsCanServe}
+use Rattle.served_walk.proofs.Depth.{on_length, chain_most, walk_most}
+use Rattle.served_walk.proofs.Servable.{leaf1_ends, leaf2_ends, table2_needs, table1_serves}
 
 serves_as : (P : Side → Mark → Option ℕ → Type 0) (r : Row) (kind : Kind) → IsRowBy P r kind → ServesAs r kind
 serves_as P r leaf1 h = λ a m.

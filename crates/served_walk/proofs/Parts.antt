@@ -24,10 +24,10 @@ use Rattle.stage2_walk.specs.Replayed.{IsReplayed2}
 use Rattle.machine_spec.specs.Rows.{Row}
 use Rattle.machine_spec.specs.Served.{Supplied, gives, halts, came, clash, chain_by}
 use Rattle.translate.specs.Parts.{unreadable}
-use Rattle.access_laws.specs.ServeAt.{StopAt, fed, breaks, ReplyAt, goes_at, serve_at, behind, then_at}
-use Rattle.access_laws.specs.ServedWord.{Second, first_chain, shown, TellsWord, TellsLeaf, WasServed, WordServed}
-use Rattle.access_laws.proofs.Serving.{serve_after}
-use Rattle.access_laws.proofs.Chains.{leaf2_served, table2_served, both_served, base_served}
+use Rattle.served_walk.specs.ServeAt.{StopAt, fed, breaks, ReplyAt, goes_at, serve_at, behind, then_at}
+use Rattle.served_walk.specs.ServedWord.{Second, first_chain, shown, TellsWord, TellsLeaf, WasServed, WordServed}
+use Rattle.served_walk.proofs.Serving.{serve_after}
+use Rattle.served_walk.proofs.Chains.{leaf2_served, table2_served, both_served, base_served}
 
 module _ {L : Type 0} (sup : Need → Supplied) where
   -- a reply that is known
@@ -53,7 +53,7 @@ module _ {L : Type 0} (sup : Need → Supplied) where
       let y = serve_at sup [] t in
       let i : y.items ≡ items = sym (w.items_are ∙ ap (λ s. y.items ++ first_chain s) w.told ∙ append-nil y.items) in
       serve_after sup [] t f
-      ∙ ap (λ s. Rattle.access_laws.specs.ServeAt.then_stop y.items y.by s (λ a left. serve_at sup left (f a))) w.told
+      ∙ ap (λ s. Rattle.served_walk.specs.ServeAt.then_stop y.items y.by s (λ a left. serve_at sup left (f a))) w.told
       ∙ ap (λ z. behind z y.by (serve_at sup [] (f (reaches l)))) i
       ∙ ap (λ z. behind items z (serve_at sup [] (f (reaches l)))) (sym w.by_is)
 

@@ -1,4 +1,4 @@
-ghost use Rattle.access_laws.specs.CanServe.{RowsCanServe};
+ghost use Rattle.served_walk.specs.CanServe.{RowsCanServe};
 
 /// Over every run the rows of each core can serve. No two of them were made as the same one, and each was made in an earlier
 /// step. The walk of an access that a row of stage 1 may serve ends on the row's trail or needs more behind its table; and the

@@ -21,9 +21,9 @@ use Rattle.stage1_walk.specs.Gave.{by_entry, Walked1, answer_of}
 use Rattle.stage1_walk.proofs.OnEntries.{last_same}
 use Rattle.machine_spec.specs.Rows.{Row}
 use Rattle.machine_spec.specs.Served.{Supplied}
-use Rattle.access_laws.specs.ServeAt.{StopAt, fed, breaks, ReplyAt, serve_at, stop_at, behind, then_at}
-use Rattle.access_laws.specs.ServedWord.{Second, first_chain, shown, TellsHalt, TellsWord, TellsLeaf, WasServed, WordServed, ServedWord}
-use Rattle.access_laws.proofs.Serving.{serve_after}
+use Rattle.served_walk.specs.ServeAt.{StopAt, fed, breaks, ReplyAt, serve_at, stop_at, behind, then_at}
+use Rattle.served_walk.specs.ServedWord.{Second, first_chain, shown, TellsHalt, TellsWord, TellsLeaf, WasServed, WordServed, ServedWord}
+use Rattle.served_walk.proofs.Serving.{serve_after}
 
 -- what the code tells of the end of a walk over a supply
 abbrev pub TellsEnd : Result (End Leaf1) Stop → Second → StopAt (End Leaf1) → Type 0

@@ -28,9 +28,9 @@ use Rattle.machine_spec.specs.Rows.{Row}
 use Rattle.machine_spec.specs.Served.{Supplied, gives, halts, clash, chain_by}
 use Rattle.machine_laws.proofs.Trees.{IsOn, chain}
 use Rattle.machine_laws.proofs.Sides.{Twin, TwinOn, twin_on, twin_chain}
-use Rattle.access_laws.specs.ServeAt.{fed, breaks, push_at, stop_at, goes_at, serve_at, behind}
-use Rattle.access_laws.proofs.Serving.{serve_front}
-use Rattle.access_laws.proofs.Ties.{ends_on, needs_on}
+use Rattle.served_walk.specs.ServeAt.{fed, breaks, push_at, stop_at, goes_at, serve_at, behind}
+use Rattle.served_walk.proofs.Serving.{serve_front}
+use Rattle.served_walk.proofs.Ties.{ends_on, needs_on}
 
 -- A ROW'S CHAIN
 

@@ -18,7 +18,7 @@ use Rattle.machine_spec.specs.Marks.{Mark, mark, marks}
 use Rattle.machine_laws.proofs.Trees.{IsOn, chain}
 use Rattle.machine_laws.proofs.MarksOf.{fits_word_parts, fits_base2_parts}
 use Rattle.machine_laws.proofs.Stands.{marks_nil}
-use Rattle.access_laws.specs.Spots.{mark_of_word}
+use Rattle.served_walk.specs.Spots.{mark_of_word}
 
 module _ (r : Regime) (p : Bool) (x : ℕ) where
   abbrev pub At : Item → Mark

@@ -13,8 +13,8 @@ use Rattle.machine_spec.specs.Rows.{Row}
 use Rattle.machine_spec.specs.Served.{Supplied, came, pushed, halted, serve, taken, credited, begun1, combined}
 use Rattle.machine_laws.proofs.Trees.{IsOn}
 use Rattle.translate.specs.Replayed.{EndsOn}
-use Rattle.access_laws.specs.ServeAt.{serve_at, reply_of, behind}
-use Rattle.access_laws.proofs.Serving.{serve_is, serve_front}
+use Rattle.served_walk.specs.ServeAt.{serve_at, reply_of, behind}
+use Rattle.served_walk.proofs.Serving.{serve_is, serve_front}
 
 -- FROM STANDING TO TREES
 

@@ -28,13 +28,13 @@ use Rattle.machine_spec.specs.Served.{Supplied, Halt, came, clash, Reply, Place,
 use Rattle.machine_spec.specs.Machine.{Visit, visited, visited_by}
 use Rattle.machine_laws.proofs.Trees.{IsOn}
 use Rattle.translate.specs.Replayed.{EndsOn}
-use Rattle.access_laws.specs.ServeAt.{serve_at, reply_of, behind}
-use Rattle.access_laws.specs.ServedWord.{Second, WasServed}
-use Rattle.access_laws.specs.Shows.{ShowsHalt, Shows, second_of, comes_out}
-use Rattle.access_laws.proofs.Serving.{serve_is}
-use Rattle.access_laws.proofs.Ties.{leaf1_served, table1_served}
-use Rattle.access_laws.proofs.Parts.{was_behind}
-use Rattle.access_laws.proofs.Whole.{shows}
+use Rattle.served_walk.specs.ServeAt.{serve_at, reply_of, behind}
+use Rattle.served_walk.specs.ServedWord.{Second, WasServed}
+use Rattle.served_walk.specs.Shows.{ShowsHalt, Shows, second_of, comes_out}
+use Rattle.served_walk.proofs.Serving.{serve_is}
+use Rattle.served_walk.proofs.Ties.{leaf1_served, table1_served}
+use Rattle.served_walk.proofs.Parts.{was_behind}
+use Rattle.served_walk.proofs.Whole.{shows}
 
 both_true : (a b : Bool) → a ≡ true → b ≡ false → (a && not b) ≡ true
 both_true true true h k = absurd cc

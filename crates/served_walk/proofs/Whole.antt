@@ -16,11 +16,11 @@ use Rattle.walk_spec.specs.Stage1.{Asked, asked2}
 use Rattle.walk_spec.specs.BothStages.{Landing, asked, landed, judged2, stage2_behind}
 use Rattle.machine_spec.specs.Rows.{Row}
 use Rattle.machine_spec.specs.Served.{Supplied, came, clash}
-use Rattle.access_laws.specs.ServeAt.{StopAt, fed, breaks, ReplyAt, serve_at, reply_of, behind, then_at}
-use Rattle.access_laws.specs.ServedWord.{Second, first_chain, shown, TellsLeaf, WasServed}
-use Rattle.access_laws.specs.Shows.{Shows, second_of, comes_out}
-use Rattle.access_laws.proofs.Serving.{serve_after}
-use Rattle.access_laws.proofs.Parts.{was_behind, goes_leaf}
+use Rattle.served_walk.specs.ServeAt.{StopAt, fed, breaks, ReplyAt, serve_at, reply_of, behind, then_at}
+use Rattle.served_walk.specs.ServedWord.{Second, first_chain, shown, TellsLeaf, WasServed}
+use Rattle.served_walk.specs.Shows.{Shows, second_of, comes_out}
+use Rattle.served_walk.proofs.Serving.{serve_after}
+use Rattle.served_walk.proofs.Parts.{was_behind, goes_leaf}
 
 -- WALKS THAT GO ON
 

@@ -9,8 +9,8 @@ use Rattle.walk_spec.specs.Needs.{Need, stage1_base, stage2_base, word, WordNeed
 use Rattle.walk_spec.specs.Steps.{End, stops, reaches}
 use Rattle.walk_spec.specs.Walked.{Walked, ReadsWord, LacksFor, result_of}
 use Rattle.machine_spec.specs.Served.{Supplied, gives, halts, came, Place, supply}
-use Rattle.access_laws.specs.ServeAt.{StopAt, fed, breaks, push_at, goes_at, serve_at}
-use Rattle.access_laws.specs.ServedWord.{Second, first_chain, shown, TellsLeaf, WasServed}
+use Rattle.served_walk.specs.ServeAt.{StopAt, fed, breaks, push_at, goes_at, serve_at}
+use Rattle.served_walk.specs.ServedWord.{Second, first_chain, shown, TellsLeaf, WasServed}
 
 abbrev pub stop_fed : {A : Type 0} → Fed Need A → StopAt A
 stop_fed (ended a) = fed a []

@@ -14,7 +14,7 @@ use Rattle.walk_spec.specs.Steps.{End, stops, reaches}
 use Rattle.walk_spec.specs.Stage1.{word_of}
 use Rattle.machine_spec.specs.Rows.{Row}
 use Rattle.machine_spec.specs.Served.{Supplied, Halt, came, clash}
-use Rattle.access_laws.specs.ServeAt.{StopAt, fed, breaks, ReplyAt, serve_at}
+use Rattle.served_walk.specs.ServeAt.{StopAt, fed, breaks, ReplyAt, serve_at}
 
 -- the first of two chains that both match
 abbrev pub first_in : (halt : Halt) → List Item

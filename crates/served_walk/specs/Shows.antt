@@ -11,7 +11,7 @@ use Rattle.walk_spec.specs.Fresh.{fed_outcome}
 use Rattle.machine_spec.specs.Rows.{Row}
 use Rattle.machine_spec.specs.Served.{Halt, came, clash, Reply}
 use Rattle.translate.specs.Deep.{outcome_by}
-use Rattle.access_laws.specs.ServedWord.{Second}
+use Rattle.served_walk.specs.ServedWord.{Second}
 
 -- trails and outcome by how the service stopped
 abbrev pub ShowsHalt : (items : List Item) (halt : Halt) (first : List Item) (second : Option (List Item)) (outcome : Outcome) → Type 0

@@ -32,7 +32,7 @@ use Rattle.machine_spec.specs.Made.{key_of}
 use Rattle.machine_laws.proofs.Trees.{IsOn, chain}
 use Rattle.machine_laws.proofs.Stands.{on_after}
 use Rattle.machine_laws.proofs.Serve.{fits_base1, fits_base2, fits_needed}
-use Rattle.access_laws.specs.ServeAt.{StopAt, fed, breaks, serve_at, goes_at}
+use Rattle.served_walk.specs.ServeAt.{StopAt, fed, breaks, serve_at, goes_at}
 
 module _ (r : Regime) (sup : Need → Supplied) where
   -- what is supplied for a need stands on the walk that needs it
