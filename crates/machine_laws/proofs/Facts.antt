@@ -17,13 +17,16 @@ use Rattle.walk_spec.specs.Needs.{Regime, regime_of, Need}
 use Rattle.walk_spec.specs.Steps.{End, stops, reaches}
 use Rattle.walk_spec.specs.Stage1.{untagged}
 use Rattle.walk_spec.specs.BothStages.{Landing, walk, is_refused1}
-use Rattle.machine_spec.specs.Header.{Header, Kind, leaf1, table1, leaf2, table2}
+use Rattle.tagged_tlb.specs.declared.row.Kind.{Kind}
+use Rattle.tagged_tlb.specs.declared.row.Kind.TheVariants.{Leaf1 as leaf1, Table1 as table1, Leaf2 as leaf2, Table2 as table2}
+use Rattle.machine_spec.specs.Header.{Header}
 use Rattle.machine_spec.specs.Moments.{memory_after, bank_after}
 use Rattle.machine_spec.specs.Invalidations.{inval_at, IsComplete}
 use Rattle.machine_spec.specs.Marks.{Mark, marks, is_first, is_table, is_global, has_asid}
 use Rattle.machine_spec.specs.Uses.{AllUsed}
 use Rattle.machine_spec.specs.Kept.{View, now, regs_when, tag_of, IsHeld, IsKeptItem}
-use Rattle.machine_spec.specs.Rows.{Row, holds}
+use Rattle.tagged_tlb.specs.declared.row.Row.{Row}
+use Rattle.tagged_tlb.specs.Rows.{holds}
 use Rattle.machine_spec.specs.Made.{last_first}
 use Rattle.machine_spec.specs.Machine.{Core, World, core_numbered}
 pub use Rattle.machine_laws.specs.Leaving.{In}

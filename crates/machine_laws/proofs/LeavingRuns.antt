@@ -12,12 +12,13 @@ use Rattle.tlbi_ops.specs.Covers.{covers}
 use Rattle.walk_spec.specs.Needs.{regime_of}
 use Rattle.walk_spec.specs.Stage1.{untagged}
 use Rattle.walk_spec.specs.BothStages.{walk}
-use Rattle.machine_spec.specs.Header.{Header, shape_of}
+use Rattle.tagged_tlb.specs.Shapes.{shape_of}
+use Rattle.machine_spec.specs.Header.{Header}
 use Rattle.machine_spec.specs.Invalidations.{issued_by, completes}
 use Rattle.machine_spec.specs.Marks.{marks}
-use Rattle.machine_spec.specs.Rows.{Row}
+use Rattle.tagged_tlb.specs.declared.row.Row.{Row}
 use Rattle.machine_spec.specs.Made.{Maker, rows_of, combined_rows}
-use Rattle.machine_spec.specs.Sets.{Cache, same_set, filled}
+use Rattle.tagged_tlb.specs.Sets.{Cache, same_set, filled}
 use Rattle.machine_spec.specs.Served.{Reply, Halt, came, clash, served}
 use Rattle.machine_spec.specs.Machine.{Core, World, no_core, killed, Visit, visited_by, visit_of, core_numbered, regs_in, accessed, acted, moved, after_event, opened, world_after}
 use Rattle.machine_laws.specs.Leaving.{In, Used, effective, IsRemoved, used_by, used_here, used_at, uses_from, uses_of, IsEvicted, RowsLeaveForACause, LruLosesTheLongestUnused}

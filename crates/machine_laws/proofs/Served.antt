@@ -21,13 +21,15 @@ use Rattle.walk_spec.specs.Stage1.{asked2, stands2, untagged}
 use Rattle.walk_spec.specs.BothStages.{Landing, walk, is_refused1, outcome_of}
 use Rattle.walk_spec.specs.Fresh.{fed_outcome}
 use Rattle.walk_laws.specs.Shift.{stands}
-use Rattle.machine_spec.specs.Header.{Kind, leaf1, table1}
+use Rattle.tagged_tlb.specs.declared.row.Kind.{Kind}
+use Rattle.tagged_tlb.specs.declared.row.Kind.TheVariants.{Leaf1 as leaf1, Table1 as table1}
 use Rattle.machine_spec.specs.Moments.{regs_after, memory_after}
 use Rattle.machine_spec.specs.Marks.{Mark, Part, nothing, table, leaf_of_stage1, leaf_of_stage2, mark, marks, is_first, is_leaf, is_table}
 use Rattle.machine_spec.specs.Uses.{use_of, above_of, AllUsed, LastIs}
 use Rattle.machine_spec.specs.Kept.{View, now, regs_when, IsKeptNow, IsNowBase, IsKept}
 use Rattle.machine_spec.specs.Allowed.{is_of_word, IsNowOf, FaultIsRead, last_entry, last_entry1, Case, IsEnded, IsLacking, IsTwice, IsForked, Reaches, IsConflict, IsRight}
-use Rattle.machine_spec.specs.Rows.{Row, holds, matches1, is_older, inserted, by_making, matching, deepest}
+use Rattle.tagged_tlb.specs.declared.row.Row.{Row}
+use Rattle.tagged_tlb.specs.Rows.{holds, matches1, is_older, inserted, by_making, matching, deepest}
 use Rattle.machine_spec.specs.Made.{key_of, last_first}
 use Rattle.machine_spec.specs.Served.{Supplied, supply, Halt, came, clash, Reply, pushed, halted, serve, taken, credited, begun1, combined, served}
 use Rattle.machine_spec.specs.Machine.{Core}

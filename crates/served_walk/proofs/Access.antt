@@ -21,8 +21,9 @@ use Rattle.walk_spec.specs.Steps.{End, stops}
 use Rattle.walk_spec.specs.Stage1.{fault1, untagged}
 use Rattle.walk_spec.specs.BothStages.{Landing, asked, stage1, stage1_on, stage1_off, stage1_behind, walk, is_refused1}
 use Rattle.walk_spec.specs.Fresh.{start_base1}
-use Rattle.machine_spec.specs.Header.{leaf1, table1}
-use Rattle.machine_spec.specs.Rows.{Row, matches1, matching, deepest}
+use Rattle.tagged_tlb.specs.declared.row.Kind.TheVariants.{Leaf1 as OfLeaf1, Table1 as OfTable1}
+use Rattle.tagged_tlb.specs.declared.row.Row.{Row}
+use Rattle.tagged_tlb.specs.Rows.{matches1, matching, deepest}
 use Rattle.machine_spec.specs.Made.{key_of}
 use Rattle.machine_spec.specs.Served.{Supplied, Halt, came, clash, Reply, Place, supply, begun1, combined, served, serve}
 use Rattle.machine_spec.specs.Machine.{Visit, visited, visited_by}
@@ -57,10 +58,10 @@ module _ (place : Place) (a : Access) where
   r = regime_of c (side_of a.va)
 
   abbrev pub leaves : List Row
-  leaves = matching (matches1 leaf1 (key_of place.regs) (untagged a.va)) place.rows
+  leaves = matching (matches1 OfLeaf1 (key_of place.regs) (untagged a.va)) place.rows
 
   abbrev pub table : Option Row
-  table = deepest (matches1 table1 (key_of place.regs) (untagged a.va)) place.rows
+  table = deepest (matches1 OfTable1 (key_of place.regs) (untagged a.va)) place.rows
 
   abbrev pub sup : Need → Supplied
   sup = supply place a

@@ -24,7 +24,7 @@ use Rattle.stage2_walk.specs.Replayed.{IsReplayed2}
 use Rattle.stage2_walk.proofs.Starts.{left_below_of}
 use Rattle.walk_laws.proofs.Sound.{sound2}
 use Rattle.walk_laws.proofs.Shifts.{of_fields}
-use Rattle.machine_spec.specs.Rows.{Row}
+use Rattle.tagged_tlb.specs.declared.row.Row.{Row}
 use Rattle.machine_spec.specs.Served.{Supplied, gives, halts, clash, chain_by}
 use Rattle.machine_laws.proofs.Trees.{IsOn, chain}
 use Rattle.machine_laws.proofs.Sides.{Twin, TwinOn, twin_on, twin_chain}

@@ -25,9 +25,10 @@ use Rattle.walk_spec.specs.Stage1.{Asked, asked2, fault1, walk1_from, read1, rea
 use Rattle.walk_spec.specs.BothStages.{Landing, asked, judged2, landed, stage1, stage1_on, stage1_off, stage1_behind, stage2_behind, walk, is_refused1}
 use Rattle.walk_spec.specs.Fresh.{start_base1, start_base2}
 use Rattle.stage1_walk.specs.Kept.{needed1}
-use Rattle.machine_spec.specs.Rows.{Row, matches, matching, deepest}
+use Rattle.tagged_tlb.specs.declared.row.Row.{Row}
+use Rattle.tagged_tlb.specs.Rows.{matches, matching, deepest}
 use Rattle.machine_spec.specs.Served.{Supplied, gives, halts, chain_by, chain_of, fresh_of, Place, supply, supplied_by}
-use Rattle.machine_spec.specs.Header.{leaf2, table2}
+use Rattle.tagged_tlb.specs.declared.row.Kind.TheVariants.{Leaf2 as OfLeaf2, Table2 as OfTable2}
 use Rattle.machine_spec.specs.Made.{key_of}
 use Rattle.machine_laws.proofs.Trees.{IsOn, chain}
 use Rattle.machine_laws.proofs.Stands.{on_after}
@@ -193,5 +194,5 @@ module _ (place : Place) (a : Access) where
       chain_fits p x r (fresh_of place a (stage2_base x)) r.trail (walk2_behind (asked2 (rg place a) p x) (start_base2 place.regs), (fits_base2 place.regs (side_of a.va) x place.step, refl)) d.0 d.1
   by_found p x (r ∷ s ∷ more) t h = tt
 
-  pub chains_fit : ((p : Bool) (x : ℕ) → is_refused2 (config_of place.regs) x ≡ false → ChainsStand p x (matching (matches leaf2 (key_of place.regs) x) place.rows) (deepest (matches table2 (key_of place.regs) x) place.rows)) → ChainsFit place a
-  chains_fit h p x ok = by_found p x (matching (matches leaf2 (key_of place.regs) x) place.rows) (deepest (matches table2 (key_of place.regs) x) place.rows) (h p x ok)
+  pub chains_fit : ((p : Bool) (x : ℕ) → is_refused2 (config_of place.regs) x ≡ false → ChainsStand p x (matching (matches OfLeaf2 (key_of place.regs) x) place.rows) (deepest (matches OfTable2 (key_of place.regs) x) place.rows)) → ChainsFit place a
+  chains_fit h p x ok = by_found p x (matching (matches OfLeaf2 (key_of place.regs) x) place.rows) (deepest (matches OfTable2 (key_of place.regs) x) place.rows) (h p x ok)

@@ -21,7 +21,7 @@ use Rattle.geometry.specs.Tables.{left_below}
 use Rattle.stage2_walk.specs.declared.walk.From2.{From2}
 use Rattle.stage2_walk.specs.declared.replayed.Replay2.TheVariants.{Ended, More}
 use Rattle.stage2_walk.specs.Replayed.{IsReplayed2}
-use Rattle.machine_spec.specs.Rows.{Row}
+use Rattle.tagged_tlb.specs.declared.row.Row.{Row}
 use Rattle.machine_spec.specs.Served.{Supplied, gives, halts, came, clash, chain_by}
 use Rattle.translate.specs.Parts.{unreadable}
 use Rattle.served_walk.specs.ServeAt.{StopAt, fed, breaks, ReplyAt, goes_at, serve_at, behind, then_at}

@@ -9,9 +9,11 @@ use Rattle.walk_spec.specs.Ask.{ask, done}
 use Rattle.walk_spec.specs.Needs.{regime_of}
 use Rattle.walk_spec.specs.Steps.{reaches}
 use Rattle.walk_spec.specs.BothStages.{walk}
-use Rattle.machine_spec.specs.Header.{Header, Kind, leaf1, table1, leaf2, table2}
+use Rattle.machine_spec.specs.Header.{Header}
+use Rattle.tagged_tlb.specs.declared.row.Kind.{Kind}
+use Rattle.tagged_tlb.specs.declared.row.Kind.TheVariants.{Leaf1, Table1, Leaf2, Table2}
 use Rattle.machine_spec.specs.Marks.{Mark}
-use Rattle.machine_spec.specs.Rows.{Row}
+use Rattle.tagged_tlb.specs.declared.row.Row.{Row}
 use Rattle.machine_spec.specs.Machine.{core_numbered, world_after, run_of}
 use Rattle.machine_laws.specs.Leaving.{uses_of}
 use Rattle.machine_laws.proofs.Trees.{chain, flat}
@@ -25,25 +27,25 @@ use Rattle.served_walk.proofs.Depth.{on_length, chain_most, walk_most}
 use Rattle.served_walk.proofs.Servable.{leaf1_ends, leaf2_ends, table2_needs, table1_serves}
 
 serves_as : (P : Side → Mark → Option ℕ → Type 0) (r : Row) (kind : Kind) → IsRowBy P r kind → ServesAs r kind
-serves_as P r leaf1 h = λ a m.
+serves_as P r Leaf1 h = λ a m.
     let c = r.key.config in
     let l = h a m in (
       leaf1_ends (P (side_of a.va)) c r r.trail a m.on m.accepted l,
       on_length (regime_for c a) most_items (walk c false a) (done (reaches l.landing)) r.trail (walk_most c false a) l.on,
     )
-serves_as P r table1 h = λ a m.
+serves_as P r Table1 h = λ a m.
     let c = r.key.config in
     let t = h.1 a m in (
       table1_serves (P (side_of a.va)) c r.trail a t t.to_table,
       on_length (regime_for c a) most_items (walk c true a) (flat (regime_for c a) t.plan) r.trail (walk_most c true a) t.on,
     )
-serves_as P r leaf2 h = λ s x held ok.
+serves_as P r Leaf2 h = λ s x held ok.
     let c = r.key.config in
     let l = h.2 s false x held in (
       leaf2_ends (P s) c s x r.trail ok r.region.class l,
       on_length (regime_of c s) most_items2 (chain (regime_of c s) false x) (done (reaches l.leaf)) r.trail (chain_most c s false x ok) l.on,
     )
-serves_as P r table2 h = λ s x held ok.
+serves_as P r Table2 h = λ s x held ok.
     let c = r.key.config in
     let t = h.2 s false x held in (
       table2_needs (P s) c s x r.trail ok t,

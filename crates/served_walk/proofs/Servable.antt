@@ -43,7 +43,7 @@ use Rattle.machine_laws.proofs.Judging.{judged_is}
 -- A COMBINED ROW
 
 -- its trail ends for each access that it may serve
-pub leaf1_ends : (P : Mark → Option ℕ → Type 0) (c : Config) (r : Rattle.machine_spec.specs.Rows.Row) (trail : List Item) (a : Access) → c.m ≡ true → is_refused1 c a ≡ false → IsLeafRow1 P c r trail a → (len : ℕ) × (o : Outcome) × EndsOn c a trail len o
+pub leaf1_ends : (P : Mark → Option ℕ → Type 0) (c : Config) (r : Rattle.tagged_tlb.specs.declared.row.Row.Row) (trail : List Item) (a : Access) → c.m ≡ true → is_refused1 c a ≡ false → IsLeafRow1 P c r trail a → (len : ℕ) × (o : Outcome) × EndsOn c a trail len o
 leaf1_ends P c r trail a on_ ok l =
     let j = judged_is c a trail l.landing on_ ok l.on in
     (length j.front, outcome_of j.end, (j.end, j.front, j.rest, j.is, refl, on_ends (regime_for c a) (walk c true a) j.end j.front j.on, refl))

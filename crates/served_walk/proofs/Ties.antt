@@ -9,7 +9,7 @@ use Rattle.walk_spec.specs.Ask.{Ask, done, ask, Stands, needs, bad, ends, on, en
 use Rattle.walk_spec.specs.Needs.{Regime, regime_of, Need, fits}
 use Rattle.walk_spec.specs.Steps.{End}
 use Rattle.walk_spec.specs.BothStages.{Landing, walk, outcome_of}
-use Rattle.machine_spec.specs.Rows.{Row}
+use Rattle.tagged_tlb.specs.declared.row.Row.{Row}
 use Rattle.machine_spec.specs.Served.{Supplied, came, pushed, halted, serve, taken, credited, begun1, combined}
 use Rattle.machine_laws.proofs.Trees.{IsOn}
 use Rattle.translate.specs.Replayed.{EndsOn}

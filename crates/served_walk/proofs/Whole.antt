@@ -14,7 +14,7 @@ use Rattle.walk_spec.specs.Steps.{End, stops, reaches}
 use Rattle.walk_spec.specs.Stage2.{walk2}
 use Rattle.walk_spec.specs.Stage1.{Asked, asked2}
 use Rattle.walk_spec.specs.BothStages.{Landing, asked, landed, judged2, stage2_behind}
-use Rattle.machine_spec.specs.Rows.{Row}
+use Rattle.tagged_tlb.specs.declared.row.Row.{Row}
 use Rattle.machine_spec.specs.Served.{Supplied, came, clash}
 use Rattle.served_walk.specs.ServeAt.{StopAt, fed, breaks, ReplyAt, serve_at, reply_of, behind, then_at}
 use Rattle.served_walk.specs.ServedWord.{Second, first_chain, shown, TellsLeaf, WasServed}

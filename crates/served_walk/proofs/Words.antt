@@ -19,7 +19,7 @@ use Rattle.walk_spec.specs.Stage1.{word_of, stage1_from, walk1_from}
 use Rattle.walk_spec.specs.BothStages.{asked}
 use Rattle.stage1_walk.specs.Gave.{by_entry, Walked1, answer_of}
 use Rattle.stage1_walk.proofs.OnEntries.{last_same}
-use Rattle.machine_spec.specs.Rows.{Row}
+use Rattle.tagged_tlb.specs.declared.row.Row.{Row}
 use Rattle.machine_spec.specs.Served.{Supplied}
 use Rattle.served_walk.specs.ServeAt.{StopAt, fed, breaks, ReplyAt, serve_at, stop_at, behind, then_at}
 use Rattle.served_walk.specs.ServedWord.{Second, first_chain, shown, TellsHalt, TellsWord, TellsLeaf, WasServed, WordServed, ServedWord}

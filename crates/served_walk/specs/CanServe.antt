@@ -12,9 +12,12 @@ use Rattle.walk_spec.specs.Steps.{reaches}
 use Rattle.walk_spec.specs.Stage1.{stands2}
 use Rattle.walk_spec.specs.Stage2.{is_refused2}
 use Rattle.translate.specs.Replayed.{EndsOn, NeedsMore}
-use Rattle.machine_spec.specs.Header.{Header, Kind, leaf1, table1, leaf2, table2}
-use Rattle.machine_spec.specs.Rows.{Row, holds}
-use Rattle.machine_spec.specs.Sets.{is_row}
+use Rattle.machine_spec.specs.Header.{Header}
+use Rattle.tagged_tlb.specs.declared.row.Kind.{Kind}
+use Rattle.tagged_tlb.specs.declared.row.Kind.TheVariants.{Leaf1, Table1, Leaf2 as OfLeaf2, Table2}
+use Rattle.tagged_tlb.specs.declared.row.Row.{Row}
+use Rattle.tagged_tlb.specs.Rows.{holds}
+use Rattle.tagged_tlb.specs.Sets.{is_row}
 use Rattle.machine_spec.specs.Machine.{core_numbered, world_after}
 use Rattle.machine_laws.specs.Headline.{AreOfCores}
 use Rattle.machine_laws.specs.Leaving.{In}
@@ -28,12 +31,12 @@ Ends r a = (len : ℕ) × (o : Outcome) × EndsOn r.key.config a r.trail len o
 -- table of stage 1 needs more behind it, or ends in a fault of stage 2. A leaf of stage 2 ends the chain of its trail just behind
 -- the last item, and a table of stage 2 needs a word behind it.
 abbrev pub ServesAs : (row : Row) (kind : Kind) → Type 0
-ServesAs r leaf1 = (a : Access) → MayServe r a → Ends r a × (length r.trail ≤ most_items)
-ServesAs r table1 = (a : Access) → MayServe r a → (Ends r a ⊎ NeedsMore r.key.config a r.trail) × (length r.trail ≤ most_items)
-ServesAs r leaf2 =
+ServesAs r Leaf1 = (a : Access) → MayServe r a → Ends r a × (length r.trail ≤ most_items)
+ServesAs r Table1 = (a : Access) → MayServe r a → (Ends r a ⊎ NeedsMore r.key.config a r.trail) × (length r.trail ≤ most_items)
+ServesAs r OfLeaf2 =
     (s : Side) (x : ℕ) → holds r.region x ≡ true → is_refused2 r.key.config x ≡ false →
     ((l : Leaf2) × (stands2 r.key.config s false x r.trail ≡ ends (reaches l) [])) × (length r.trail ≤ most_items2)
-ServesAs r table2 =
+ServesAs r Table2 =
     (s : Side) (x : ℕ) → holds r.region x ≡ true → is_refused2 r.key.config x ≡ false →
     ((w : WordNeed) × (stands2 r.key.config s false x r.trail ≡ needs (word w))) × (length r.trail ≤ most_items2)
 

@@ -5,7 +5,7 @@ use Rattle.walk_spec.specs.Ask.{Ask, done, ask, ended}
 use Rattle.walk_spec.specs.Needs.{Need}
 use Rattle.walk_spec.specs.Steps.{End}
 use Rattle.walk_spec.specs.BothStages.{Landing}
-use Rattle.machine_spec.specs.Rows.{Row}
+use Rattle.tagged_tlb.specs.declared.row.Row.{Row}
 use Rattle.machine_spec.specs.Served.{Supplied, gives, halts, Halt, came, Reply}
 
 -- how a service stops: the walk has ended, with items left over, or the service has halted

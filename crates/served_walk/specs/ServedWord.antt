@@ -12,7 +12,7 @@ use Rattle.walk_spec.specs.Ask.{Ask, ended, lacks}
 use Rattle.walk_spec.specs.Needs.{Need, stage1_base, stage2_base, word, regime_of}
 use Rattle.walk_spec.specs.Steps.{End, stops, reaches}
 use Rattle.walk_spec.specs.Stage1.{word_of}
-use Rattle.machine_spec.specs.Rows.{Row}
+use Rattle.tagged_tlb.specs.declared.row.Row.{Row}
 use Rattle.machine_spec.specs.Served.{Supplied, Halt, came, clash}
 use Rattle.served_walk.specs.ServeAt.{StopAt, fed, breaks, ReplyAt, serve_at}
 

@@ -8,7 +8,7 @@ use Rattle.trails.specs.declared.outcome.Stop.TheVariants.{Fault as FaultStop, A
 use Rattle.walk_spec.specs.Steps.{reaches}
 use Rattle.walk_spec.specs.BothStages.{Landing, outcome_of}
 use Rattle.walk_spec.specs.Fresh.{fed_outcome}
-use Rattle.machine_spec.specs.Rows.{Row}
+use Rattle.tagged_tlb.specs.declared.row.Row.{Row}
 use Rattle.machine_spec.specs.Served.{Halt, came, clash, Reply}
 use Rattle.translate.specs.Deep.{outcome_by}
 use Rattle.served_walk.specs.ServedWord.{Second}

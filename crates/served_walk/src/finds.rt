@@ -1,7 +1,9 @@
 ghost use Rattle.std.specs.Prelude.{◌≡◌, ◌≤◌, ℕ, List, length, option_map};
 ghost use Rattle.trails.specs.Lengths.{most_items, most_items2};
-ghost use Rattle.machine_spec.specs.Header.{Kind, leaf1, table1, leaf2, table2};
-ghost use Rattle.machine_spec.specs.Rows.{Row, matches, matches1, matching, deepest};
+ghost use Rattle.tagged_tlb.specs.declared.row.Kind.{Kind};
+ghost use Rattle.tagged_tlb.specs.declared.row.Kind.TheVariants.{Leaf1, Table1, Leaf2, Table2};
+ghost use Rattle.tagged_tlb.specs.declared.row.Row.{Row};
+ghost use Rattle.tagged_tlb.specs.Rows.{matches, matches1, matching, deepest};
 ghost use Rattle.served_walk.specs.Found.{IsFound};
 
 use tagged_tlb::Key;
@@ -25,38 +27,38 @@ pub trait Finds {
     ghost slot_row: { Self → Kind → ℕ → Row };
 
     /// The combined rows that match an untagged VA.
-    fn leaf1(&self, key: &Key, at: u64) -> Found
-        ensures { (live : List Row) → ties self.now live → IsFound (slot_row self.now leaf1) (matching (matches1 leaf1 key.now at) live) result };
+    fn Leaf1(&self, key: &Key, at: u64) -> Found
+        ensures { (live : List Row) → ties self.now live → IsFound (slot_row self.now Leaf1) (matching (matches1 Leaf1 key.now at) live) result };
 
     /// The row of the deepest table of stage 1 that matches an untagged VA.
-    fn table1(&self, key: &Key, at: u64) -> Option<usize>
-        ensures { (live : List Row) → ties self.now live → option_map (slot_row self.now table1) result ≡ deepest (matches1 table1 key.now at) live };
+    fn Table1(&self, key: &Key, at: u64) -> Option<usize>
+        ensures { (live : List Row) → ties self.now live → option_map (slot_row self.now Table1) result ≡ deepest (matches1 Table1 key.now at) live };
 
     /// The leaves of stage 2 that match an IPA.
-    fn leaf2(&self, key: &Key, at: u64) -> Found
-        ensures { (live : List Row) → ties self.now live → IsFound (slot_row self.now leaf2) (matching (matches leaf2 key.now at) live) result };
+    fn Leaf2(&self, key: &Key, at: u64) -> Found
+        ensures { (live : List Row) → ties self.now live → IsFound (slot_row self.now Leaf2) (matching (matches Leaf2 key.now at) live) result };
 
     /// The row of the deepest table of stage 2 that matches an IPA.
-    fn table2(&self, key: &Key, at: u64) -> Option<usize>
-        ensures { (live : List Row) → ties self.now live → option_map (slot_row self.now table2) result ≡ deepest (matches table2 key.now at) live };
+    fn Table2(&self, key: &Key, at: u64) -> Option<usize>
+        ensures { (live : List Row) → ties self.now live → option_map (slot_row self.now Table2) result ≡ deepest (matches Table2 key.now at) live };
 
     /// The trail of a combined row.
     fn leaf1_trail(&self, slot: usize) -> &[Item]
-        ensures trail { result.now ≡ (slot_row self.now leaf1 slot).trail }
+        ensures trail { result.now ≡ (slot_row self.now Leaf1 slot).trail }
         ensures most { length result.now ≤ most_items };
 
     /// The trail of a table of stage 1.
     fn table1_trail(&self, slot: usize) -> &[Item]
-        ensures trail { result.now ≡ (slot_row self.now table1 slot).trail }
+        ensures trail { result.now ≡ (slot_row self.now Table1 slot).trail }
         ensures most { length result.now ≤ most_items };
 
     /// The chain of a leaf of stage 2.
     fn leaf2_chain(&self, slot: usize) -> &[Item]
-        ensures chain { result.now ≡ (slot_row self.now leaf2 slot).trail }
+        ensures chain { result.now ≡ (slot_row self.now Leaf2 slot).trail }
         ensures most { length result.now ≤ most_items2 };
 
     /// The chain of a table of stage 2.
     fn table2_chain(&self, slot: usize) -> &[Item]
-        ensures chain { result.now ≡ (slot_row self.now table2 slot).trail }
+        ensures chain { result.now ≡ (slot_row self.now Table2 slot).trail }
         ensures most { length result.now ≤ most_items2 };
 }
