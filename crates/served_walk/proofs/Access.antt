@@ -68,14 +68,17 @@ module _ (place : Place) (a : Access) where
 
   -- no row of stage 1 is asked
   pub case_off : (c.m && not (is_refused1 c a)) ≡ false → served place a ≡ reply_of (serve_at sup [] (walk c true a))
-  case_off h = if_false (c.m && not (is_refused1 c a)) (combined leaves table sup (walk c true a)) (serve sup [] (walk c true a)) h ∙ serve_is sup [] (walk c true a)
+  case_off h = if_false (c.m && not (is_refused1 c a)) (combined leaves table sup (walk c true a)) (serve sup [] (walk c true a)) h
+      ∙ serve_is sup [] (walk c true a)
 
   module _ (on : c.m ≡ true) (ok : is_refused1 c a ≡ false) where
     by_rows : served place a ≡ combined leaves table sup (walk c true a)
-    by_rows = if_true (c.m && not (is_refused1 c a)) (combined leaves table sup (walk c true a)) (serve sup [] (walk c true a)) (both_true c.m (is_refused1 c a) on ok)
+    by_rows = if_true (c.m && not (is_refused1 c a)) (combined leaves table sup (walk c true a)) (serve sup [] (walk c true a))
+        (both_true c.m (is_refused1 c a) on ok)
 
     -- one combined row, on whose trail replay has ended
-    pub case_hit : (row : Row) (len : ℕ) (o : Outcome) → leaves ≡ row ∷ [] → EndsOn c a row.trail len o → Shows (served place a) (take len row.trail) None (row ∷ []) o
+    pub case_hit : (row : Row) (len : ℕ) (o : Outcome) → leaves ≡ row ∷ [] → EndsOn c a row.trail len o
+        → Shows (served place a) (take len row.trail) None (row ∷ []) o
     case_hit row len o one h =
         let d = leaf1_served c a row leaves table sup len o one h in
         subst (λ z. Shows z (take len row.trail) None (row ∷ []) o) (sym (by_rows ∙ d.1)) (record { halt = (refl, refl, d.2); by_is = refl })
@@ -83,36 +86,49 @@ module _ (place : Place) (a : Access) where
     -- two of them
     pub case_twice : (one two : Row) (more : List Row) → leaves ≡ one ∷ two ∷ more → Shows (served place a) one.trail (Some two.trail) [] IsTwice
     case_twice one two more h =
-        subst (λ z. Shows z one.trail (Some two.trail) [] IsTwice) (sym (by_rows ∙ ap (λ l. combined l table sup (walk c true a)) h)) (record { halt = (refl, refl, refl); by_is = refl })
+        subst (λ z. Shows z one.trail (Some two.trail) [] IsTwice) (sym (by_rows
+        ∙ ap (λ l. combined l table sup (walk c true a)) h)) (record { halt = (refl, refl, refl); by_is = refl })
 
     -- the deepest table, behind whose trail a walk is left
-    pub case_table : (row : Row) (u : Ask Need Item (End Landing)) → leaves ≡ [] → table ≡ Some row → IsOn r (walk c true a) row.trail u → served place a ≡ reply_of (behind row.trail (row ∷ []) (serve_at sup [] u))
+    pub case_table : (row : Row) (u : Ask Need Item (End Landing)) → leaves ≡ [] → table ≡ Some row → IsOn r (walk c true a) row.trail u
+        → served place a ≡ reply_of (behind row.trail (row ∷ []) (serve_at sup [] u))
     case_table row u none some h =
-        by_rows ∙ ap (λ l. combined l table sup (walk c true a)) none ∙ ap (λ o. begun1 o (λ items. serve sup items (walk c true a))) some ∙ table1_served r row sup (walk c true a) u h
+        by_rows ∙ ap (λ l. combined l table sup (walk c true a)) none ∙ ap (λ o. begun1 o (λ items. serve sup items (walk c true a))) some
+        ∙ table1_served r row sup (walk c true a) u h
 
     -- no row of stage 1
     pub case_none : leaves ≡ [] → table ≡ None → served place a ≡ reply_of (serve_at sup [] (walk c true a))
-    case_none none no_table = by_rows ∙ ap (λ l. combined l table sup (walk c true a)) none ∙ ap (λ o. begun1 o (λ items. serve sup items (walk c true a))) no_table ∙ serve_is sup [] (walk c true a)
+    case_none none no_table = by_rows ∙ ap (λ l. combined l table sup (walk c true a)) none
+        ∙ ap (λ o. begun1 o (λ items. serve sup items (walk c true a))) no_table ∙ serve_is sup [] (walk c true a)
 
     -- stage 1 from the register: the base, and what is behind it
     abbrev pub base_now : Item
     base_now = base_item place.step S1 (sizes1 c (side_of a.va)) (start_base1 place.regs (side_of a.va))
 
     stage1_is : stage1 (asked c true a) ≡ ask stage1_base (λ i. stage1_behind (asked c true a) i.value)
-    stage1_is = if_true c.m (stage1_on (asked c true a)) (stage1_off (asked c true a)) on ∙ if_false (is_refused1 c a) (done (stops (fault1 Translation most_left))) (ask stage1_base (λ i. stage1_behind (asked c true a) i.value)) ok
+    stage1_is = if_true c.m (stage1_on (asked c true a)) (stage1_off (asked c true a)) on
+        ∙ if_false (is_refused1 c a) (done (stops (fault1 Translation most_left))) (ask stage1_base (λ i. stage1_behind (asked c true a) i.value)) ok
 
-    pub case_base : (items : List Item) (rows : List Row) (two : Second) (x : Result Leaf1 Stopped) → WasServed sup (stage1_behind (asked c true a) base_now.value) items rows two x → WasServed sup (stage1 (asked c true a)) (base_now ∷ items) rows two x
-    case_base items rows two x w = was_behind sup (stage1 (asked c true a)) (stage1_behind (asked c true a) base_now.value) (base_now ∷ []) items [] rows two x (ap (serve_at sup []) stage1_is) w
+    pub case_base : (items : List Item) (rows : List Row) (two : Second) (x : Result Leaf1 Stopped)
+        → WasServed sup (stage1_behind (asked c true a) base_now.value) items rows two x → WasServed sup (stage1 (asked c true a)) (base_now ∷ items) rows two x
+    case_base items rows two x w = was_behind sup (stage1 (asked c true a)) (stage1_behind (asked c true a) base_now.value) (base_now ∷ []) items
+        [] rows two x (ap (serve_at sup []) stage1_is) w
 
   -- what is shown of a walk that was served, behind a table's row and without one
-  pub table_shows : (on : c.m ≡ true) (ok : is_refused1 c a ≡ false) (row : Row) (u : Ask Need Item (End Landing)) (items : List Item) (rows : List Row) (two : Second) (x : Result Landing Stopped) →
-      leaves ≡ [] → table ≡ Some row → IsOn r (walk c true a) row.trail u → WasServed sup u items rows two x → Shows (served place a) (row.trail ++ items) (second_of x (row.trail ++ items) two) (row ∷ rows) (comes_out x)
+  pub table_shows : (on : c.m ≡ true) (ok : is_refused1 c a
+      ≡ false) (row : Row) (u : Ask Need Item (End Landing)) (items : List Item) (rows : List Row) (two : Second) (x : Result Landing Stopped) →
+      leaves ≡ [] → table ≡ Some row → IsOn r (walk c true a) row.trail u → WasServed sup u items rows two x
+      → Shows (served place a) (row.trail ++ items) (second_of x (row.trail ++ items) two) (row ∷ rows) (comes_out x)
   table_shows on ok row u items rows two x none some h w =
-      subst (λ z. Shows z (row.trail ++ items) (second_of x (row.trail ++ items) two) (row ∷ rows) (comes_out x)) (sym (case_table on ok row u none some h)) (shows row.trail (row ∷ []) two sup u items rows x w)
+      subst (λ z. Shows z (row.trail
+      ++ items) (second_of x (row.trail
+      ++ items) two) (row ∷ rows) (comes_out x)) (sym (case_table on ok row u none some h)) (shows row.trail (row ∷ []) two sup u items rows x w)
 
-  pub none_shows : (items : List Item) (rows : List Row) (two : Second) (x : Result Landing Stopped) → served place a ≡ reply_of (serve_at sup [] (walk c true a)) → WasServed sup (walk c true a) items rows two x →
+  pub none_shows : (items : List Item) (rows : List Row) (two : Second) (x : Result Landing Stopped)
+      → served place a ≡ reply_of (serve_at sup [] (walk c true a)) → WasServed sup (walk c true a) items rows two x →
       Shows (served place a) items (second_of x items two) rows (comes_out x)
-  none_shows items rows two x e w = subst (λ z. Shows z items (second_of x items two) rows (comes_out x)) (sym e) (shows [] [] two sup (walk c true a) items rows x w)
+  none_shows items rows two x e w = subst (λ z. Shows z items (second_of x items two) rows (comes_out x)) (sym e)
+      (shows [] [] two sup (walk c true a) items rows x w)
 
 -- THE ANSWER
 

@@ -28,7 +28,8 @@ module _ (r : Regime) (p : Bool) (x : ℕ) where
   Need2 left t = record { stage = S2; left = left; place = place_of r.stage2 left t x; s1ptw = p; address = x; table = t }
 
   -- the mark of a word doesn't depend on the place, the mark s1ptw and the table
-  mark_same : (left : ℕ) (i : Item) (w v : WordNeed) → w.stage ≡ S2 → v.stage ≡ S2 → w.left ≡ v.left → w.address ≡ v.address → mark r (word w) i ≡ mark r (word v) i
+  mark_same : (left : ℕ) (i : Item) (w v : WordNeed) → w.stage ≡ S2 → v.stage ≡ S2 → w.left ≡ v.left → w.address ≡ v.address
+      → mark r (word w) i ≡ mark r (word v) i
   unfolding mark
   mark_same left i w v s t l a = rw (s, t, l, a) refl
 
@@ -46,27 +47,33 @@ module _ (r : Regime) (p : Bool) (x : ℕ) where
   abbrev Marked : Ask Need Item (End Leaf2) → List Item → Type 0
   Marked t items = marks r t items ≡ map At items
 
-  then_marks : (below : ℕ → Ask Need Item (End Leaf2)) (step : Lead Leaf2 ℕ) (items : List Item) (u : Ask Need Item (End Leaf2)) → ((t : ℕ) → IsOn r (below t) items u → Marked (below t) items) → IsOn r (step_then below step) items u → Marked (step_then below step) items
+  then_marks : (below : ℕ → Ask Need Item (End Leaf2)) (step : Lead Leaf2 ℕ) (items : List Item) (u : Ask Need Item (End Leaf2))
+      → ((t : ℕ) → IsOn r (below t) items u → Marked (below t) items) → IsOn r (step_then below step) items u → Marked (step_then below step) items
   then_marks below (Down t) items u rec h = rec t h
   then_marks below (Reached l) [] u rec h = refl
   then_marks below (Reached l) (i ∷ items) u rec h = absurd h
   then_marks below (Stopped f) [] u rec h = refl
   then_marks below (Stopped f) (i ∷ items) u rec h = absurd h
 
-  from_marks : (left t : ℕ) (items : List Item) (u : Ask Need Item (End Leaf2)) → left ≤ most_left → IsOn r (walk2_from (asked2 r p x) left t) items u → Marked (walk2_from (asked2 r p x) left t) items
+  from_marks : (left t : ℕ) (items : List Item) (u : Ask Need Item (End Leaf2)) → left ≤ most_left → IsOn r (walk2_from (asked2 r p x) left t) items u
+      → Marked (walk2_from (asked2 r p x) left t) items
   from_marks left t [] u l h = marks_nil r (walk2_from (asked2 r p x) left t)
   from_marks zero t (i ∷ items) u l h =
-      ap (λ m. m ∷ marks r (step_then (λ _. done (stops (fault2 (asked2 r p x) Translation 0))) (step2 (asked2 r p x) 0 i.pa i.value)) items) (word_mark 0 t i l h.0)
-      ∙ ap (λ ms. At i ∷ ms) (then_marks _ (step2 (asked2 r p x) 0 i.pa i.value) items u (λ n g. done_marks (stops (fault2 (asked2 r p x) Translation 0)) items u g) h.1) where
+      ap (λ m. m ∷ marks r (step_then (λ _. done (stops (fault2 (asked2 r p x) Translation 0))) (step2 (asked2 r p x) 0 i.pa i.value)) items)
+      (word_mark 0 t i l h.0)
+      ∙ ap (λ ms. At i ∷ ms) (then_marks _ (step2 (asked2 r p x) 0 i.pa i.value) items u
+      (λ n g. done_marks (stops (fault2 (asked2 r p x) Translation 0)) items u g) h.1) where
         done_marks : (e : End Leaf2) (items : List Item) (u : Ask Need Item (End Leaf2)) → IsOn r (done e) items u → Marked (done e) items
         done_marks e [] u g = refl
         done_marks e (j ∷ js) u g = absurd g
   from_marks (suc left) t (i ∷ items) u l h =
       ap (λ m. m ∷ marks r (step_then (walk2_from (asked2 r p x) left) (step2 (asked2 r p x) (suc left) i.pa i.value)) items) (word_mark (suc left) t i l h.0)
-      ∙ ap (λ ms. At i ∷ ms) (then_marks (walk2_from (asked2 r p x) left) (step2 (asked2 r p x) (suc left) i.pa i.value) items u (λ n g. from_marks left n items u (omega (arith, l)) g) h.1)
+      ∙ ap (λ ms. At i ∷ ms) (then_marks (walk2_from (asked2 r p x) left) (step2 (asked2 r p x) (suc left) i.pa i.value) items u
+      (λ n g. from_marks left n items u (omega (arith, l)) g) h.1)
 
   behind_marks : (big : Bool) (base : ℕ) (items : List Item) (u : Ask Need Item (End Leaf2)) → r.stage2.start ≤ most_left →
-      let t = cond big (done (stops (fault2 (asked2 r p x) AddressSize most_left))) (walk2_from (asked2 r p x) r.stage2.start base) in IsOn r t items u → Marked t items
+      let t = cond big (done (stops (fault2 (asked2 r p x) AddressSize most_left))) (walk2_from (asked2 r p x) r.stage2.start base) in IsOn r t items u
+      → Marked t items
   behind_marks true base [] u l h = refl
   behind_marks true base (i ∷ items) u l h = absurd h
   behind_marks false base items u l h = from_marks r.stage2.start base items u l h

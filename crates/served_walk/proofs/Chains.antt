@@ -35,7 +35,8 @@ use Rattle.served_walk.proofs.Ties.{ends_on, needs_on}
 -- A ROW'S CHAIN
 
 -- where a row's trail is supplied, the walk goes on behind it
-serve_row : {A : Type 0} (r : Regime) (sup : Need → Supplied) (n : Need) (k : Item → Ask Need Item A) (row : Row) (i : Item) (rest : List Item) (u : Ask Need Item A) →
+serve_row : {A : Type 0} (r : Regime) (sup : Need → Supplied) (n : Need) (k : Item
+    → Ask Need Item A) (row : Row) (i : Item) (rest : List Item) (u : Ask Need Item A) →
     sup n ≡ gives i rest (row ∷ []) → IsOn r (ask n k) (i ∷ rest) u → serve_at sup [] (ask n k) ≡ behind (i ∷ rest) (row ∷ []) (serve_at sup [] u)
 serve_row r sup n k row i rest u e h =
     ap (λ s. goes_at s (λ i rest. serve_at sup rest (k i))) e
@@ -43,11 +44,13 @@ serve_row r sup n k row i rest u e h =
     ∙ ap (push_at i (row ∷ [])) (serve_front r sup rest [] (k i) u h.1)
 
 -- an IPA that is refused ends at once
-refused_ends : (r : Regime) (b : Bool) (f : Fault) (t : Ask Need Item (End Leaf2)) (items : List Item) (l : Leaf2) → on (fits r) (cond b (done (stops f)) t) items ≡ ends (reaches l) [] → (b ≡ false) × (on (fits r) t items ≡ ends (reaches l) [])
+refused_ends : (r : Regime) (b : Bool) (f : Fault) (t : Ask Need Item (End Leaf2)) (items : List Item) (l : Leaf2)
+    → on (fits r) (cond b (done (stops f)) t) items ≡ ends (reaches l) [] → (b ≡ false) × (on (fits r) t items ≡ ends (reaches l) [])
 refused_ends r true f t items l h = absurd cc
 refused_ends r false f t items l h = (refl, h)
 
-refused_needs : (r : Regime) (b : Bool) (f : Fault) (t : Ask Need Item (End Leaf2)) (items : List Item) (n : Need) → on (fits r) (cond b (done (stops f)) t) items ≡ needs n → (b ≡ false) × (on (fits r) t items ≡ needs n)
+refused_needs : (r : Regime) (b : Bool) (f : Fault) (t : Ask Need Item (End Leaf2)) (items : List Item) (n : Need)
+    → on (fits r) (cond b (done (stops f)) t) items ≡ needs n → (b ≡ false) × (on (fits r) t items ≡ needs n)
 refused_needs r true f t items n h = absurd cc
 refused_needs r false f t items n h = (refl, h)
 
@@ -75,14 +78,17 @@ module _ (c : Config) (s : Side) (p : Bool) (x : ℕ) (sup : Need → Supplied) 
   pub chain_is : is_refused2 c x ≡ false → walk2 q2 ≡ chain r p x
   chain_is h = accepted_is (is_refused2 c x) (fault2 q2 Translation most_left) (chain r p x) h
 
-  chain_leaf : (items : List Item) (l : Leaf2) → stands2 c s false x items ≡ ends (reaches l) [] → (is_refused2 c x ≡ false) × IsOn r (chain r p x) items (done (reaches l))
+  chain_leaf : (items : List Item) (l : Leaf2) → stands2 c s false x items ≡ ends (reaches l) []
+      → (is_refused2 c x ≡ false) × IsOn r (chain r p x) items (done (reaches l))
   chain_leaf items l h =
       let d = refused_ends r (is_refused2 c x) early (chain r false x) items l h in
       let o : IsOn r (chain r false x) items (done (reaches l)) = ends_on r (chain r false x) items (reaches l) d.1 in
-      let w : TwinOn r r (chain r false x) (chain r p x) (done (reaches l)) items = twin_on r r (chain r false x) (chain r p x) (done (reaches l)) items (twin_chain c s s false p x) o in
+      let w : TwinOn r r (chain r false x) (chain r p x) (done (reaches l)) items = twin_on r r (chain r false x) (chain r p x) (done (reaches l)) items
+      (twin_chain c s s false p x) o in
       (d.0, subst (IsOn r (chain r p x) items) (twin_leaf r r l w.left w.twin) w.on)
 
-  leaf_by : (row : Row) (other : Supplied) (items : List Item) (l : Leaf2) → sup (stage2_base x) ≡ chain_by row other items → IsOn r (chain r p x) items (done (reaches l)) →
+  leaf_by : (row : Row) (other : Supplied) (items : List Item) (l : Leaf2) → sup (stage2_base x) ≡ chain_by row other items
+      → IsOn r (chain r p x) items (done (reaches l)) →
       serve_at sup [] (chain r p x) ≡ record { items = items; stop = fed (reaches l) []; by = row ∷ [] }
   leaf_by row other [] l e h = absurd cc
   leaf_by row other (i ∷ rest) l e h =
@@ -90,7 +96,8 @@ module _ (c : Config) (s : Side) (p : Bool) (x : ℕ) (sup : Need → Supplied) 
       ∙ ap (λ z. record { items = z; stop = fed (reaches l) []; by = row ∷ [] }) (append-nil (i ∷ rest))
 
   -- a leaf's row gives its chain, whatever mark s1ptw
-  pub leaf2_served : (row : Row) (other : Supplied) (l : Leaf2) → sup (stage2_base x) ≡ chain_by row other row.trail → IsReplayed2 (Ended l) (stands2 c s false x row.trail) →
+  pub leaf2_served : (row : Row) (other : Supplied) (l : Leaf2) → sup (stage2_base x) ≡ chain_by row other row.trail
+      → IsReplayed2 (Ended l) (stands2 c s false x row.trail) →
       serve_at sup [] (walk2 q2) ≡ record { items = row.trail; stop = fed (reaches l) []; by = row ∷ [] }
   leaf2_served row other l e h =
       let d = chain_leaf row.trail l h in
@@ -114,8 +121,12 @@ module _ (c : Config) (s : Side) (p : Bool) (x : ℕ) (sup : Need → Supplied) 
   done_ask e (i ∷ items) n k h = h
 
   here : (left t : ℕ) (w : WordNeed) (k : Item → Ask Need Item (End Leaf2)) → ask (word w) k ≡ From false left t → (w.left ≡ left) × (w.table ≡ t)
-  here zero t w k h = (let e : w ≡ record { stage = S2; left = 0; place = place_of r.stage2 0 t x; s1ptw = false; address = x; table = t } = cc in (ap (λ v. v.left) e, ap (λ v. v.table) e))
-  here (suc left) t w k h = (let e : w ≡ record { stage = S2; left = suc left; place = place_of r.stage2 (suc left) t x; s1ptw = false; address = x; table = t } = cc in (ap (λ v. v.left) e, ap (λ v. v.table) e))
+  here zero t w k h = (let e : w
+      ≡ record { stage = S2; left = 0; place = place_of r.stage2 0 t x; s1ptw = false; address = x; table = t } = cc in
+      (ap (λ v. v.left) e, ap (λ v. v.table) e))
+  here (suc left) t w k h = (let e : w
+      ≡ record { stage = S2; left = suc left; place = place_of r.stage2 (suc left) t x; s1ptw = false; address = x; table = t } = cc in
+      (ap (λ v. v.left) e, ap (λ v. v.table) e))
 
   at_here : (left t : ℕ) (w : WordNeed) (k : Item → Ask Need Item (End Leaf2)) → ask (word w) k ≡ From false left t → AtWord left t [] w
   unfolding AtWord
@@ -126,27 +137,34 @@ module _ (c : Config) (s : Side) (p : Bool) (x : ℕ) (sup : Need → Supplied) 
   abbrev One : Bool → (ℕ → Ask Need Item (End Leaf2)) → ℕ → Item → Ask Need Item (End Leaf2)
   One b below left i = step_then below (step2 (asked2 r b x) left i.pa i.value)
 
-  turn_word : (left : ℕ) (i : Item) (rest : List Item) (w : WordNeed) (k : Item → Ask Need Item (End Leaf2)) (below : ℕ → Ask Need Item (End Leaf2)) (below' : ℕ → Ask Need Item (End Leaf2)) (m : ℕ) →
+  turn_word : (left : ℕ) (i : Item) (rest : List Item) (w : WordNeed) (k : Item → Ask Need Item (End Leaf2)) (below : ℕ
+      → Ask Need Item (End Leaf2)) (below' : ℕ → Ask Need Item (End Leaf2)) (m : ℕ) →
       ((next : ℕ) → IsOn r (below next) rest (ask (word w) k) → IsOn r (below' next) rest (From p w.left w.table) × (w.left ≤ m)) → Turn2 r left i →
       IsOn r (One false below left i) rest (ask (word w) k) → IsOn r (One p below' left i) rest (From p w.left w.table) × (w.left ≤ m)
   turn_word left i rest w k below below' m rec (table next a d) h = rw (d p x) (rec next (rw (d false x) at h))
-  turn_word left i rest w k below below' m rec (leaf f n d) h = absurd (done_ask (reaches (Rattle.walk_spec.specs.Stage2.leaf2_of (asked2 r false x) left i.pa f)) rest (word w) k (rw (d false x) at h))
-  turn_word left i rest w k below below' m rec (fault n d) h = absurd (done_ask (stops (fault2 (asked2 r false x) n left)) rest (word w) k (rw (d false x) at h))
+  turn_word left i rest w k below below' m rec (leaf f n d) h = absurd
+      (done_ask (reaches (Rattle.walk_spec.specs.Stage2.leaf2_of (asked2 r false x) left i.pa f)) rest (word w) k (rw (d false x) at h))
+  turn_word left i rest w k below below' m rec (fault n d) h = absurd
+      (done_ask (stops (fault2 (asked2 r false x) n left)) rest (word w) k (rw (d false x) at h))
 
-  at_word : (left t : ℕ) (items : List Item) (w : WordNeed) (k : Item → Ask Need Item (End Leaf2)) → IsOn r (From false left t) items (ask (word w) k) → AtWord left t items w
+  at_word : (left t : ℕ) (items : List Item) (w : WordNeed) (k : Item → Ask Need Item (End Leaf2)) → IsOn r (From false left t) items (ask (word w) k)
+      → AtWord left t items w
   unfolding AtWord
   at_word left t [] w k h = at_here left t w k h
   at_word zero t (i ∷ rest) w k h =
-      let d = turn_word 0 i rest w k (λ _. done (stops (fault2 (asked2 r false x) Translation 0))) (λ _. done (stops (fault2 q2 Translation 0))) 0 (λ next o. absurd (done_ask _ rest (word w) k o)) (turn2 r 0 i) h.1 in
+      let d = turn_word 0 i rest w k (λ _. done (stops (fault2 (asked2 r false x) Translation 0))) (λ _. done (stops (fault2 q2 Translation 0))) 0
+      (λ next o. absurd (done_ask _ rest (word w) k o)) (turn2 r 0 i) h.1 in
       ((fits_marked 0 (place_of r.stage2 0 t x) t i ∙ h.0, d.0), d.1)
   at_word (suc left) t (i ∷ rest) w k h =
-      let d = turn_word (suc left) i rest w k (From false left) (From p left) (suc left) (λ next o. let z = at_word left next rest w k o in (z.0, omega (arith, z.1))) (turn2 r (suc left) i) h.1 in
+      let d = turn_word (suc left) i rest w k (From false left) (From p left) (suc left)
+      (λ next o. let z = at_word left next rest w k o in (z.0, omega (arith, z.1))) (turn2 r (suc left) i) h.1 in
       ((fits_marked (suc left) (place_of r.stage2 (suc left) t x) t i ∙ h.0, d.0), d.1)
 
   abbrev Behind : Bool → Bool → ℕ → Ask Need Item (End Leaf2)
   Behind big b base = cond big (done (stops (fault2 (asked2 r b x) AddressSize most_left))) (From b r.stage2.start base)
 
-  behind_word : (big : Bool) (base : ℕ) (items : List Item) (w : WordNeed) (k : Item → Ask Need Item (End Leaf2)) → IsOn r (Behind big false base) items (ask (word w) k) → IsOn r (Behind big p base) items (From p w.left w.table) × (w.left ≤ r.stage2.start)
+  behind_word : (big : Bool) (base : ℕ) (items : List Item) (w : WordNeed) (k : Item → Ask Need Item (End Leaf2))
+      → IsOn r (Behind big false base) items (ask (word w) k) → IsOn r (Behind big p base) items (From p w.left w.table) × (w.left ≤ r.stage2.start)
   unfolding AtWord
   behind_word true base items w k h = absurd (done_ask _ items (word w) k h)
   behind_word false base items w k h = at_word r.stage2.start base items w k h
@@ -155,13 +173,15 @@ module _ (c : Config) (s : Side) (p : Bool) (x : ℕ) (sup : Need → Supplied) 
   base_fits i = refl
 
   -- a chain that needs a word has taken items, and is the walk from the word's table
-  chain_word : (items : List Item) (w : WordNeed) (k : Item → Ask Need Item (End Leaf2)) → IsOn r (chain r false x) items (ask (word w) k) → IsOn r (chain r p x) items (From p w.left w.table) × (w.left ≤ r.stage2.start)
+  chain_word : (items : List Item) (w : WordNeed) (k : Item → Ask Need Item (End Leaf2)) → IsOn r (chain r false x) items (ask (word w) k)
+      → IsOn r (chain r p x) items (From p w.left w.table) × (w.left ≤ r.stage2.start)
   chain_word [] w k h = absurd cc
   chain_word (i ∷ rest) w k h =
       let d = behind_word (is_too_large r.stage2 i.value) i.value rest w k h.1 in
       ((h.0, d.0), d.1)
 
-  chain_table : (items : List Item) (from : From2) → NeedsOf from (stands2 c s false x items) → (is_refused2 c x ≡ false) × IsOn r (chain r p x) items (From p (left_below from.level) from.base)
+  chain_table : (items : List Item) (from : From2) → NeedsOf from (stands2 c s false x items)
+      → (is_refused2 c x ≡ false) × IsOn r (chain r p x) items (From p (left_below from.level) from.base)
   chain_table items from n =
       let w : WordNeed = n.0 in
       let d = refused_needs r (is_refused2 c x) early (chain r false x) items (word w) n.1 in
@@ -174,22 +194,26 @@ module _ (c : Config) (s : Side) (p : Bool) (x : ℕ) (sup : Need → Supplied) 
       (d.0, subst (λ l. IsOn r (chain r p x) items (From p l from.base)) (sym level) (subst (λ b. IsOn r (chain r p x) items (From p w.left b)) (sym base) a.0))
 
   -- it isn't empty, since a chain needs the base first
-  table_by : (row : Row) (other : Supplied) (items : List Item) (left t : ℕ) (n : WordNeed) → stands2 c s false x items ≡ needs (word n) → sup (stage2_base x) ≡ chain_by row other items → IsOn r (chain r p x) items (From p left t) → is_refused2 c x ≡ false →
+  table_by : (row : Row) (other : Supplied) (items : List Item) (left t : ℕ) (n : WordNeed) → stands2 c s false x items ≡ needs (word n)
+      → sup (stage2_base x) ≡ chain_by row other items → IsOn r (chain r p x) items (From p left t) → is_refused2 c x ≡ false →
       serve_at sup [] (chain r p x) ≡ behind items (row ∷ []) (serve_at sup [] (From p left t))
   table_by row other [] left t n z e h ok = (let q = refused_needs r (is_refused2 c x) early (chain r false x) [] (word n) z in absurd cc)
   table_by row other (i ∷ rest) left t n z e h ok = serve_row r sup (stage2_base x) (λ i. walk2_behind q2 i.value) row i rest (From p left t) e h
 
   -- behind a table's row the walk goes on from its table, whatever mark s1ptw
-  pub table2_served : (row : Row) (other : Supplied) (from : From2) → sup (stage2_base x) ≡ chain_by row other row.trail → IsReplayed2 (More from) (stands2 c s false x row.trail) →
+  pub table2_served : (row : Row) (other : Supplied) (from : From2) → sup (stage2_base x) ≡ chain_by row other row.trail
+      → IsReplayed2 (More from) (stands2 c s false x row.trail) →
       serve_at sup [] (walk2 q2) ≡ behind row.trail (row ∷ []) (serve_at sup [] (walk2_from q2 (left_below from.level) from.base))
   table2_served row other from e h =
       let d = chain_table row.trail from h in
       ap (serve_at sup []) (chain_is d.0) ∙ table_by row other row.trail (left_below from.level) from.base h.0 h.1 e d.1 d.0
 
   -- where two leaves match, they are what is served
-  pub both_served : (one two : List Item) → is_refused2 c x ≡ false → sup (stage2_base x) ≡ halts (clash one two) → serve_at sup [] (walk2 q2) ≡ stop_at (breaks (clash one two))
+  pub both_served : (one two : List Item) → is_refused2 c x ≡ false → sup (stage2_base x) ≡ halts (clash one two)
+      → serve_at sup [] (walk2 q2) ≡ stop_at (breaks (clash one two))
   both_served one two ok e = ap (serve_at sup []) (chain_is ok) ∙ ap (λ s. goes_at s (λ i rest. serve_at sup rest (walk2_behind q2 i.value))) e
 
   -- where no row matches, the register gives the base
-  pub base_served : (i : Item) → is_refused2 c x ≡ false → sup (stage2_base x) ≡ gives i [] [] → serve_at sup [] (walk2 q2) ≡ behind (i ∷ []) [] (serve_at sup [] (walk2_behind q2 i.value))
+  pub base_served : (i : Item) → is_refused2 c x ≡ false → sup (stage2_base x) ≡ gives i [] []
+      → serve_at sup [] (walk2 q2) ≡ behind (i ∷ []) [] (serve_at sup [] (walk2_behind q2 i.value))
   base_served i ok e = ap (serve_at sup []) (chain_is ok) ∙ ap (λ s. goes_at s (λ i rest. serve_at sup rest (walk2_behind q2 i.value))) e

@@ -1,6 +1,5 @@
 -- How many items a walk takes at most.
 use Rattle.std.proofs.Common.{◌≡◌, ℕ, zero, suc, ◌+◌, ◌*◌, ◌≤◌, Bool, true, false, cond, List, [], ◌∷◌, length, refl, arith, Result, Ok, Err}
-use Rattle.fault_codes.specs.declared.fault.Fault.{Fault}
 use Rattle.fault_codes.specs.declared.fault.Class.TheVariants.{Translation, AddressSize, Permission}
 use Rattle.fault_codes.specs.declared.fault.Stage.TheVariants.{S2}
 use Rattle.geometry.specs.Tables.{most_left}
@@ -19,7 +18,7 @@ use Rattle.walk_spec.specs.declared.entry.Table1.{Table1}
 use Rattle.walk_spec.specs.declared.leaf.Leaf1.{Leaf1}
 use Rattle.walk_spec.specs.declared.leaf.Leaf2.{Leaf2}
 use Rattle.walk_spec.specs.Ask.{Ask, done, ask, after, finer, go_on}
-use Rattle.walk_spec.specs.Needs.{Regime, regime_of, Need, stage1_base, stage2_base}
+use Rattle.walk_spec.specs.Needs.{Regime, regime_of, Need, stage1_base}
 use Rattle.walk_spec.specs.Steps.{End, stops, reaches, step_then}
 use Rattle.walk_spec.specs.Stage2.{Asked2, fault2, step2, walk2, walk2_from, walk2_behind, is_refused2}
 use Rattle.walk_spec.specs.Stage1.{Asked, asked2, fault1, walk1_from, is_readable, read1, read1_by, word_of, stage1_from}
@@ -60,7 +59,8 @@ at_go n stop f (Ok i) h = h i
 at_go n stop f (Err x) h = tt
 
 -- a finer walk of at most seven items for each question
-at_finer : {N M X A : Type 0} (stop : X → A) (how : N → Ask M Item (Result Item X)) → ((q : N) → AtMost most_per_word (how q)) → (n : ℕ) (t : Ask N Item A) → AtMost n t
+at_finer : {N M X A : Type 0} (stop : X → A) (how : N → Ask M Item (Result Item X)) → ((q : N) → AtMost most_per_word (how q)) → (n : ℕ) (t : Ask N Item A)
+    → AtMost n t
     → AtMost (n * most_per_word) (finer stop how t)
 at_finer stop how g n (done a) h = tt
 at_finer stop how g zero (ask q k) h = absurd h
@@ -143,10 +143,13 @@ module _ (c : Config) (judged : Bool) (a : Access) where
   output_most : (e : End Leaf1) → AtMost most_items2 (stage2_behind q e)
   output_most (stops f) = tt
   output_most (reaches l) = by c.vm where
-    by : (b : Bool) → AtMost most_items2 (cond b (after (walk2 (asked2 r false l.out)) (λ e. done (Rattle.walk_spec.specs.BothStages.judged2 judged a l e))) (done (reaches (Rattle.walk_spec.specs.BothStages.landed l))))
+    by : (b : Bool) → AtMost most_items2 (cond b
+        (after (walk2 (asked2 r false l.out)) (λ e. done (Rattle.walk_spec.specs.BothStages.judged2 judged a l e)))
+        (done (reaches (Rattle.walk_spec.specs.BothStages.landed l))))
     by true = at_after most_items2 0 (walk2 (asked2 r false l.out)) (λ e. done _) (walk2_most c (side_of a.va) false l.out) (λ e. tt)
     by false = tt
 
   -- a whole walk
   pub walk_most : AtMost most_items (walk c judged a)
-  walk_most = at_more (29 + most_items2) most_items (walk c judged a) (omega arith) (at_after 29 most_items2 (stage1 q) (stage2_behind q) stage1_most output_most)
+  walk_most = at_more (29 + most_items2) most_items (walk c judged a) (omega arith)
+      (at_after 29 most_items2 (stage1 q) (stage2_behind q) stage1_most output_most)

@@ -51,11 +51,13 @@ module _ (r : Regime) (sup : Need → Supplied) where
   OnStop {A} t items (breaks h) = (n : Need) × (k : Item → Ask Need Item A) × IsOn r t items (ask n k)
 
   module _ {A : Type 0} where
-    more_on : (n : Need) (k : Item → Ask Need Item A) (i : Item) → fits r n i ≡ true → (items : List Item) (s : StopAt A) → OnStop (k i) items s → OnStop (ask n k) (i ∷ items) s
+    more_on : (n : Need) (k : Item → Ask Need Item A) (i : Item) → fits r n i ≡ true → (items : List Item) (s : StopAt A) → OnStop (k i) items s
+        → OnStop (ask n k) (i ∷ items) s
     more_on n k i f items (fed a left) h = ((f, h.0), h.1)
     more_on n k i f items (breaks q) h = (h.0, h.1, (f, h.2))
 
-    goes_on_stop : (n : Need) (k : Item → Ask Need Item A) (s : Supplied) → FitsHere (ask n k) s → ((i : Item) (rest : List Item) (u : Ask Need Item A) → IsOn r (k i) rest u → let y = serve_at sup rest (k i) in OnStop (k i) y.items y.stop) →
+    goes_on_stop : (n : Need) (k : Item → Ask Need Item A) (s : Supplied) → FitsHere (ask n k) s
+        → ((i : Item) (rest : List Item) (u : Ask Need Item A) → IsOn r (k i) rest u → let y = serve_at sup rest (k i) in OnStop (k i) y.items y.stop) →
         let y = goes_at s (λ i rest. serve_at sup rest (k i)) in OnStop (ask n k) y.items y.stop
     goes_on_stop n k (gives i rest rows) h rec = more_on n k i h.1.0 (serve_at sup rest (k i)).items (serve_at sup rest (k i)).stop (rec i rest h.0 h.1.1)
     goes_on_stop n k (halts q) h rec = (n, k, refl)
@@ -65,7 +67,8 @@ module _ (r : Regime) (sup : Need → Supplied) where
     serve_on (done a) u [] h f = (refl, refl)
     serve_on (done a) u (i ∷ queue) h f = absurd h
     serve_on (ask n k) u [] h f = goes_on_stop n k (sup n) f.0 (λ i rest v g. serve_on (k i) v rest g (f.1 i))
-    serve_on (ask n k) u (i ∷ queue) h f = more_on n k i h.0 (serve_at sup queue (k i)).items (serve_at sup queue (k i)).stop (serve_on (k i) u queue h.1 (f.1 i))
+    serve_on (ask n k) u (i ∷ queue) h f = more_on n k i h.0 (serve_at sup queue (k i)).items (serve_at sup queue (k i)).stop
+        (serve_on (k i) u queue h.1 (f.1 i))
 
   fit_after_here : {A B : Type 0} (t : Ask Need Item A) (f : A → Ask Need Item B) (s : Supplied) → FitsHere t s → FitsHere (after t f) s
   fit_after_here t f (gives i rest rows) h = (after h.0 f, on_after r t h.0 f (i ∷ rest) h.1)
@@ -89,7 +92,8 @@ module _ (place : Place) (a : Access) where
   abbrev pub Fit : {A : Type 0} → Ask Need Item A → Type 0
   Fit t = IsFit rg sup t
 
-  word_by : {A : Type 0} (w : WordNeed) (k : Item → Ask Need Item A) (o : Option ℕ) → FitsHere rg sup (ask (word w) k) (supplied_by (word w) (option_map (needed_item place.step w) o))
+  word_by : {A : Type 0} (w : WordNeed) (k : Item → Ask Need Item A) (o : Option ℕ)
+      → FitsHere rg sup (ask (word w) k) (supplied_by (word w) (option_map (needed_item place.step w) o))
   word_by w k None = tt
   word_by w k (Some v) = (k (needed_item place.step w v), (fits_needed rg w place.step v, refl))
 
@@ -108,8 +112,10 @@ module _ (place : Place) (a : Access) where
   Last2 q t = done (stops (fault2 q Translation 0))
 
   from2_fit : (q : Asked2) (left table : ℕ) → Fit (walk2_from q left table)
-  from2_fit q zero table = word_fit (Word2 q 0 table) (λ i. step_then (Last2 q) (step2 q 0 i.pa i.value)) (λ i. step2_fit (Last2 q) (step2 q 0 i.pa i.value) (λ t. tt))
-  from2_fit q (suc left) table = word_fit (Word2 q (suc left) table) (λ i. step_then (walk2_from q left) (step2 q (suc left) i.pa i.value)) (λ i. step2_fit (walk2_from q left) (step2 q (suc left) i.pa i.value) (λ t. from2_fit q left t))
+  from2_fit q zero table = word_fit (Word2 q 0 table) (λ i. step_then (Last2 q) (step2 q 0 i.pa i.value))
+      (λ i. step2_fit (Last2 q) (step2 q 0 i.pa i.value) (λ t. tt))
+  from2_fit q (suc left) table = word_fit (Word2 q (suc left) table) (λ i. step_then (walk2_from q left) (step2 q (suc left) i.pa i.value))
+      (λ i. step2_fit (walk2_from q left) (step2 q (suc left) i.pa i.value) (λ t. from2_fit q left t))
 
   abbrev Ready : Item → Ask Need Item (Result Item Fault)
   Ready i = done (Ok i)
@@ -125,14 +131,20 @@ module _ (place : Place) (a : Access) where
     pub walk2_fit : (p : Bool) (x : ℕ) → Fit (walk2 (asked2 rg p x))
     walk2_fit p x =
         fit_if rg sup (is_refused2 rg.config x) (done (stops (fault2 (asked2 rg p x) Translation most_left))) (chain rg p x) (λ e. tt)
-        (λ e. (chains p x e, λ i. fit_if rg sup (is_too_large rg.stage2 i.value) (done (stops (fault2 (asked2 rg p x) AddressSize most_left))) (walk2_from (asked2 rg p x) rg.stage2.start i.value) (λ b. tt) (λ b. from2_fit (asked2 rg p x) rg.stage2.start i.value)))
+        (λ e. (
+          chains p x e,
+          λ i. fit_if rg sup (is_too_large rg.stage2 i.value) (done (stops (fault2 (asked2 rg p x) AddressSize most_left)))
+              (walk2_from (asked2 rg p x) rg.stage2.start i.value) (λ b. tt) (λ b. from2_fit (asked2 rg p x) rg.stage2.start i.value),
+        ))
 
     read_fit : (e : Entry1) (d : End Leaf2) → Fit (read1_by rg.config e d)
     read_fit e (stops f) = tt
-    read_fit e (reaches l) = fit_if rg sup (is_readable rg.config l) (read1 e l.pa) (done (Err record { stage = S2; level = l.level; class = Permission; s1ptw = true })) (λ b. read1_fit e l.pa) (λ b. tt)
+    read_fit e (reaches l) = fit_if rg sup (is_readable rg.config l) (read1 e l.pa)
+        (done (Err record { stage = S2; level = l.level; class = Permission; s1ptw = true })) (λ b. read1_fit e l.pa) (λ b. tt)
 
     pub word_of_fit : (e : Entry1) → Fit (word_of rg e)
-    word_of_fit e = fit_if rg sup rg.config.vm (after (walk2 (asked2 rg true e.place)) (read1_by rg.config e)) (read1 e e.place) (λ b. fit_after rg sup (walk2 (asked2 rg true e.place)) (read1_by rg.config e) (walk2_fit true e.place) (λ d. read_fit e d)) (λ b. read1_fit e e.place)
+    word_of_fit e = fit_if rg sup rg.config.vm (after (walk2 (asked2 rg true e.place)) (read1_by rg.config e)) (read1 e e.place)
+        (λ b. fit_after rg sup (walk2 (asked2 rg true e.place)) (read1_by rg.config e) (walk2_fit true e.place) (λ d. read_fit e d)) (λ b. read1_fit e e.place)
 
     go_fit : (k : Item → Ask Need Item (End Leaf1)) (d : Result Item Fault) → ((i : Item) → Fit (k i)) → Fit (go_on stops k d)
     go_fit k (Ok i) h = h i
@@ -141,7 +153,8 @@ module _ (place : Place) (a : Access) where
     -- the finer walk of any walk over entries
     pub finer_fit : (t : Ask Entry1 Item (End Leaf1)) → Fit (finer stops (word_of rg) t)
     finer_fit (done e) = tt
-    finer_fit (ask e k) = fit_after rg sup (word_of rg e) (go_on stops (λ i. finer stops (word_of rg) (k i))) (word_of_fit e) (λ d. go_fit (λ i. finer stops (word_of rg) (k i)) d (λ i. finer_fit (k i)))
+    finer_fit (ask e k) = fit_after rg sup (word_of rg e) (go_on stops (λ i. finer stops (word_of rg) (k i))) (word_of_fit e)
+        (λ d. go_fit (λ i. finer stops (word_of rg) (k i)) d (λ i. finer_fit (k i)))
 
     abbrev q : Asked
     q = asked (config_of place.regs) true a
@@ -151,13 +164,20 @@ module _ (place : Place) (a : Access) where
 
     output_fit : (e : End Leaf1) → Fit (stage2_behind q e)
     output_fit (stops f) = tt
-    output_fit (reaches l) = fit_if rg sup rg.config.vm (after (walk2 (asked2 rg false l.out)) (λ e. done (judged2 true a l e))) (done (reaches (landed l))) (λ b. fit_after rg sup (walk2 (asked2 rg false l.out)) (Judge l) (walk2_fit false l.out) (λ d. tt)) (λ b. tt)
+    output_fit (reaches l) = fit_if rg sup rg.config.vm (after (walk2 (asked2 rg false l.out)) (λ e. done (judged2 true a l e)))
+        (done (reaches (landed l))) (λ b. fit_after rg sup (walk2 (asked2 rg false l.out)) (Judge l) (walk2_fit false l.out) (λ d. tt)) (λ b. tt)
 
     stage1_fit : Fit (stage1 q)
     stage1_fit =
         fit_if rg sup rg.config.m (stage1_on q) (stage1_off q)
         (λ b. fit_if rg sup (is_refused1 rg.config a) (done (stops (fault1 Translation most_left))) (ask stage1_base (λ i. stage1_behind q i.value)) (λ d. tt)
-        (λ d. ((stage1_behind q (start_base1 place.regs (side_of a.va)), (fits_base1 place.regs (side_of a.va) place.step, refl)), λ i. fit_if rg sup (is_too_large rg.stage1 i.value) (done (stops (fault1 AddressSize most_left))) (stage1_from q rg.stage1.start record { address = i.value; bits = no_bits }) (λ z. tt) (λ z. finer_fit (walk1_from q rg.stage1.start record { address = i.value; bits = no_bits })))))
+        (λ d. (
+          (stage1_behind q (start_base1 place.regs (side_of a.va)), (fits_base1 place.regs (side_of a.va) place.step, refl)),
+          λ i. fit_if rg sup
+              (is_too_large rg.stage1 i.value) (done (stops (fault1 AddressSize most_left)))
+              (stage1_from q rg.stage1.start record { address = i.value; bits = no_bits }) (λ z. tt)
+              (λ z. finer_fit (walk1_from q rg.stage1.start record { address = i.value; bits = no_bits })),
+        )))
         (λ b. tt)
 
     -- the whole walk, and the walk from a table
@@ -168,13 +188,15 @@ module _ (place : Place) (a : Access) where
     from_table_fit left t = fit_after rg sup (stage1_from q left t) (stage2_behind q) (finer_fit (walk1_from q left t)) output_fit
 
     -- so what is served for an access stands on its walk
-    pub served_on : (queue : List Item) (u : Ask Need Item (End Landing)) → IsOn rg (walk (config_of place.regs) true a) queue u → let y = serve_at sup queue (walk (config_of place.regs) true a) in OnStop rg sup (walk (config_of place.regs) true a) y.items y.stop
+    pub served_on : (queue : List Item) (u : Ask Need Item (End Landing)) → IsOn rg (walk (config_of place.regs) true a) queue u
+        → let y = serve_at sup queue (walk (config_of place.regs) true a) in OnStop rg sup (walk (config_of place.regs) true a) y.items y.stop
     served_on queue u h = serve_on rg sup (walk (config_of place.regs) true a) u queue h walk_fit
 
 -- ROWS WHOSE TRAILS STAND ON CHAINS
 
 module _ (place : Place) (a : Access) where
-  chain_fits : (p : Bool) (x : ℕ) (row : Row) (other : Supplied) (trail : List Item) → FitsHere (rg place a) (sup place a) (chain (rg place a) p x) other → (u : Ask Need Item (End Leaf2)) → IsOn (rg place a) (chain (rg place a) p x) trail u →
+  chain_fits : (p : Bool) (x : ℕ) (row : Row) (other : Supplied) (trail : List Item) → FitsHere (rg place a) (sup place a) (chain (rg place a) p x) other
+      → (u : Ask Need Item (End Leaf2)) → IsOn (rg place a) (chain (rg place a) p x) trail u →
       FitsHere (rg place a) (sup place a) (chain (rg place a) p x) (chain_by row other trail)
   chain_fits p x row other [] o u h = o
   chain_fits p x row other (i ∷ rest) o u h = (u, h)
@@ -184,15 +206,21 @@ module _ (place : Place) (a : Access) where
     pub leaf : (r : Row) → leaves ≡ r ∷ [] → (u : Ask Need Item (End Leaf2)) × IsOn (rg place a) (chain (rg place a) p x) r.trail u
     pub below : (r : Row) → table ≡ Some r → (u : Ask Need Item (End Leaf2)) × IsOn (rg place a) (chain (rg place a) p x) r.trail u
 
-  by_found : (p : Bool) (x : ℕ) (leaves : List Row) (table : Option Row) → ChainsStand p x leaves table → FitsHere (rg place a) (sup place a) (chain (rg place a) p x) (chain_of (fresh_of place a (stage2_base x)) leaves table)
+  by_found : (p : Bool) (x : ℕ) (leaves : List Row) (table : Option Row) → ChainsStand p x leaves table
+      → FitsHere (rg place a) (sup place a) (chain (rg place a) p x) (chain_of (fresh_of place a (stage2_base x)) leaves table)
   by_found p x [] None h = (walk2_behind (asked2 (rg place a) p x) (start_base2 place.regs), (fits_base2 place.regs (side_of a.va) x place.step, refl))
   by_found p x [] (Some r) h =
       let d = h.below r refl in
-      chain_fits p x r (fresh_of place a (stage2_base x)) r.trail (walk2_behind (asked2 (rg place a) p x) (start_base2 place.regs), (fits_base2 place.regs (side_of a.va) x place.step, refl)) d.0 d.1
+      chain_fits p x r (fresh_of place a (stage2_base x)) r.trail
+      (walk2_behind (asked2 (rg place a) p x) (start_base2 place.regs), (fits_base2 place.regs (side_of a.va) x place.step, refl)) d.0 d.1
   by_found p x (r ∷ []) t h =
       let d = h.leaf r refl in
-      chain_fits p x r (fresh_of place a (stage2_base x)) r.trail (walk2_behind (asked2 (rg place a) p x) (start_base2 place.regs), (fits_base2 place.regs (side_of a.va) x place.step, refl)) d.0 d.1
+      chain_fits p x r (fresh_of place a (stage2_base x)) r.trail
+      (walk2_behind (asked2 (rg place a) p x) (start_base2 place.regs), (fits_base2 place.regs (side_of a.va) x place.step, refl)) d.0 d.1
   by_found p x (r ∷ s ∷ more) t h = tt
 
-  pub chains_fit : ((p : Bool) (x : ℕ) → is_refused2 (config_of place.regs) x ≡ false → ChainsStand p x (matching (matches OfLeaf2 (key_of place.regs) x) place.rows) (deepest (matches OfTable2 (key_of place.regs) x) place.rows)) → ChainsFit place a
-  chains_fit h p x ok = by_found p x (matching (matches OfLeaf2 (key_of place.regs) x) place.rows) (deepest (matches OfTable2 (key_of place.regs) x) place.rows) (h p x ok)
+  pub chains_fit : ((p : Bool) (x : ℕ) → is_refused2 (config_of place.regs) x ≡ false
+      → ChainsStand p x (matching (matches OfLeaf2 (key_of place.regs) x) place.rows) (deepest (matches OfTable2 (key_of place.regs) x) place.rows))
+      → ChainsFit place a
+  chains_fit h p x ok = by_found p x (matching (matches OfLeaf2 (key_of place.regs) x) place.rows)
+      (deepest (matches OfTable2 (key_of place.regs) x) place.rows) (h p x ok)

@@ -17,10 +17,13 @@ stop_fed (ended a) = fed a []
 stop_fed (lacks n) = breaks (came (lacks n))
 
 -- what answers a need is what is supplied, and what is lacking is not
-pub took_served : {A : Type 0} (reads : Need → Item → Type 0) (sup : Need → Supplied) → ((n : Need) (i : Item) → reads n i → sup n ≡ gives i [] []) → (t : Ask Need Item A) (items : List Item) (e : Fed Need A) →
-    Took reads t items e → ((n : Need) → e ≡ lacks n → sup n ≡ halts (came (lacks n))) → serve_at sup [] t ≡ record { items = items; stop = stop_fed e; by = [] }
+pub took_served : {A : Type 0} (reads : Need → Item → Type 0) (sup : Need → Supplied) → ((n : Need) (i : Item) → reads n i → sup n ≡ gives i [] [])
+    → (t : Ask Need Item A) (items : List Item) (e : Fed Need A) →
+    Took reads t items e → ((n : Need) → e ≡ lacks n → sup n ≡ halts (came (lacks n)))
+    → serve_at sup [] t ≡ record { items = items; stop = stop_fed e; by = [] }
 took_served reads sup g (done a) items e h l = rw (h.0, h.1) refl
-took_served reads sup g (ask n k) [] e h l = ap (λ s. goes_at s (λ i rest. serve_at sup rest (k i))) (l n h) ∙ ap (λ z. record { items = []; stop = stop_fed z; by = [] }) (sym h)
+took_served reads sup g (ask n k) [] e h l = ap (λ s. goes_at s (λ i rest. serve_at sup rest (k i))) (l n h)
+    ∙ ap (λ z. record { items = []; stop = stop_fed z; by = [] }) (sym h)
 took_served reads sup g (ask n k) (i ∷ items) e h l =
     ap (λ s. goes_at s (λ i rest. serve_at sup rest (k i))) (g n i h.0) ∙ ap (push_at i []) (took_served reads sup g (k i) items e h.1 l)
 
@@ -34,7 +37,8 @@ module _ (place : Place) (a : Access) where
   misses w F never (inl e) = e
   misses w F never (inr f) = absurd (never f)
 
-  lacks_given : {A : Type 0} (F : Type 0) → (F → ⊥) → (e : Fed Need A) → LacksFor (Some place.memory) F e → (n : Need) → e ≡ lacks n → supply place a n ≡ halts (came (lacks n))
+  lacks_given : {A : Type 0} (F : Type 0) → (F → ⊥) → (e : Fed Need A) → LacksFor (Some place.memory) F e → (n : Need) → e ≡ lacks n
+      → supply place a n ≡ halts (came (lacks n))
   lacks_given F never (ended b) h n q = absurd cc
   lacks_given F never (lacks stage1_base) h n q = absurd h
   lacks_given F never (lacks (stage2_base x)) h n q = absurd h
@@ -43,7 +47,8 @@ module _ (place : Place) (a : Access) where
       let none : place.memory w.place ≡ None = misses w F never h in
       subst (λ z. supply place a z ≡ halts (came (lacks z))) (sym m) (rw none refl)
 
-  told_fed : {L : Type 0} (F : Type 0) (two : Second) (e : Fed Need (End L)) (r : Result L Stop) → LacksFor (Some place.memory) F e → r ≡ result_of e → (TellsLeaf r two (stop_fed e)) × (first_chain (stop_fed e) ≡ [])
+  told_fed : {L : Type 0} (F : Type 0) (two : Second) (e : Fed Need (End L)) (r : Result L Stop) → LacksFor (Some place.memory) F e → r ≡ result_of e
+      → (TellsLeaf r two (stop_fed e)) × (first_chain (stop_fed e) ≡ [])
   told_fed {L} F two (ended (stops f)) r h q = (subst (λ z. TellsLeaf {L = L} z two (fed (stops f) [])) (sym q) (refl, refl), refl)
   told_fed {L} F two (ended (reaches l)) r h q = (subst (λ z. TellsLeaf {L = L} z two (fed (reaches l) [])) (sym q) refl, refl)
   told_fed F two (lacks stage1_base) r h q = absurd h
@@ -51,7 +56,8 @@ module _ (place : Place) (a : Access) where
   told_fed {L} F two (lacks (word w)) r h q = (subst (λ z. TellsLeaf {L = L} z two (breaks (came (lacks (word w))))) (sym q) refl, refl)
 
   -- a walk over the words of memory is served without rows
-  pub walked_served : {L : Type 0} (F : Type 0) → (F → ⊥) → (t : Ask Need Item (End L)) (old new : List Item) (r : Result L Stop) (two : Second) → Walked (ReadsWord place.step (Some place.memory)) (Some place.memory) F t old new r →
+  pub walked_served : {L : Type 0} (F : Type 0) → (F → ⊥) → (t : Ask Need Item (End L)) (old new : List Item) (r : Result L Stop) (two : Second)
+      → Walked (ReadsWord place.step (Some place.memory)) (Some place.memory) F t old new r →
       (items : List Item) × (new ≡ old ++ items) × WasServed (supply place a) t items [] two r
   walked_served F never t old new r two w =
       let e = took_served (ReadsWord place.step (Some place.memory)) (supply place a) reads_given t w.more w.end w.took (lacks_given F never w.end w.cause) in

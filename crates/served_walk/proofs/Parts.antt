@@ -31,11 +31,14 @@ use Rattle.served_walk.proofs.Chains.{leaf2_served, table2_served, both_served, 
 
 module _ {L : Type 0} (sup : Need → Supplied) where
   -- a reply that is known
-  pub was : (t : Ask Need Item (End L)) (y : ReplyAt (End L)) (two : Second) (r : Result L Stop) → serve_at sup [] t ≡ y → TellsLeaf r two y.stop → WasServed sup t (shown y) y.by two r
-  was t y two r e h = subst (λ z. WasServed sup t (shown z) z.by two r) e (record { items_are = refl; by_is = refl; told = subst (λ z. TellsLeaf r two z.stop) (sym e) h })
+  pub was : (t : Ask Need Item (End L)) (y : ReplyAt (End L)) (two : Second) (r : Result L Stop) → serve_at sup [] t ≡ y → TellsLeaf r two y.stop
+      → WasServed sup t (shown y) y.by two r
+  was t y two r e h = subst (λ z. WasServed sup t (shown z) z.by two r) e
+      (record { items_are = refl; by_is = refl; told = subst (λ z. TellsLeaf r two z.stop) (sym e) h })
 
   -- behind items and rows
-  pub was_behind : (t u : Ask Need Item (End L)) (items more : List Item) (rows by : List Row) (two : Second) (r : Result L Stop) → serve_at sup [] t ≡ behind items rows (serve_at sup [] u) → WasServed sup u more by two r → WasServed sup t (items ++ more) (rows ++ by) two r
+  pub was_behind : (t u : Ask Need Item (End L)) (items more : List Item) (rows by : List Row) (two : Second) (r : Result L Stop)
+      → serve_at sup [] t ≡ behind items rows (serve_at sup [] u) → WasServed sup u more by two r → WasServed sup t (items ++ more) (rows ++ by) two r
   was_behind t u items more rows by two r e w =
       let y = serve_at sup [] u in
       record {
@@ -48,7 +51,8 @@ module _ {L : Type 0} (sup : Need → Supplied) where
   was_fault f two = record { items_are = refl; by_is = refl; told = (refl, refl) }
 
   -- a walk that reached its leaf goes on behind it
-  pub goes_leaf : {A : Type 0} (t : Ask Need Item (End L)) (f : End L → Ask Need Item A) (items : List Item) (rows : List Row) (two : Second) (l : L) → WasServed sup t items rows two (Ok l) → serve_at sup [] (after t f) ≡ behind items rows (serve_at sup [] (f (reaches l)))
+  pub goes_leaf : {A : Type 0} (t : Ask Need Item (End L)) (f : End L → Ask Need Item A) (items : List Item) (rows : List Row) (two : Second) (l : L)
+      → WasServed sup t items rows two (Ok l) → serve_at sup [] (after t f) ≡ behind items rows (serve_at sup [] (f (reaches l)))
   goes_leaf t f items rows two l w =
       let y = serve_at sup [] t in
       let i : y.items ≡ items = sym (w.items_are ∙ ap (λ s. y.items ++ first_chain s) w.told ∙ append-nil y.items) in
@@ -67,27 +71,36 @@ module _ (c : Config) (s : Side) (p : Bool) (x : ℕ) (sup : Need → Supplied) 
   refused_is true f t h = refl
   refused_is false f t h = absurd cc
 
-  pub chain_refused : (two : Second) → is_refused2 c x ≡ true → WasServed sup Chain [] [] two (Err (FaultStop (fault2 (asked2 (regime_of c s) p x) Translation most_left)))
+  pub chain_refused : (two : Second) → is_refused2 c x ≡ true
+      → WasServed sup Chain [] [] two (Err (FaultStop (fault2 (asked2 (regime_of c s) p x) Translation most_left)))
   chain_refused two h =
       let f = fault2 (asked2 (regime_of c s) p x) Translation most_left in
       subst (λ t. WasServed sup t [] [] two (Err (FaultStop f))) (sym (refused_is (is_refused2 c x) f _ h)) (was_fault sup f two)
 
-  pub chain_hit : (row : Row) (other : Supplied) (l : Leaf2) (two : Second) → sup (stage2_base x) ≡ chain_by row other row.trail → IsReplayed2 (Ended l) (stands2 c s false x row.trail) → WasServed sup Chain row.trail (row ∷ []) two (Ok l)
+  pub chain_hit : (row : Row) (other : Supplied) (l : Leaf2) (two : Second) → sup (stage2_base x) ≡ chain_by row other row.trail
+      → IsReplayed2 (Ended l) (stands2 c s false x row.trail) → WasServed sup Chain row.trail (row ∷ []) two (Ok l)
   chain_hit row other l two e h =
       subst (λ z. WasServed sup Chain z (row ∷ []) two (Ok l)) (append-nil row.trail)
       (was sup Chain record { items = row.trail; stop = fed (reaches l) []; by = row ∷ [] } two (Ok l) (leaf2_served c s p x sup row other l e h) refl)
 
-  pub chain_twice : (one other : List Item) (two : Second) → is_refused2 c x ≡ false → sup (stage2_base x) ≡ halts (clash one other) → two.chain ≡ other → two.instead ≡ length one → WasServed sup Chain one [] two (Err Conflict)
-  chain_twice one other two ok e t n = was sup Chain record { items = []; stop = breaks (clash one other); by = [] } two (Err Conflict) (both_served c s p x sup one other ok e) (refl, t, n)
+  pub chain_twice : (one other : List Item) (two : Second) → is_refused2 c x ≡ false → sup (stage2_base x) ≡ halts (clash one other) → two.chain ≡ other
+      → two.instead ≡ length one → WasServed sup Chain one [] two (Err Conflict)
+  chain_twice one other two ok e t n = was sup Chain record { items = []; stop = breaks (clash one other); by = [] } two (Err Conflict)
+      (both_served c s p x sup one other ok e) (refl, t, n)
 
-  pub chain_below : (row : Row) (other : Supplied) (from : From2) (items : List Item) (rows : List Row) (two : Second) (r : Result Leaf2 Stop) → sup (stage2_base x) ≡ chain_by row other row.trail → IsReplayed2 (More from) (stands2 c s false x row.trail) →
-      WasServed sup (walk2_from (asked2 (regime_of c s) p x) (left_below from.level) from.base) items rows two r → WasServed sup Chain (row.trail ++ items) (row ∷ rows) two r
+  pub chain_below : (row : Row) (other : Supplied) (from : From2) (items : List Item) (rows : List Row) (two : Second) (r : Result Leaf2 Stop)
+      → sup (stage2_base x) ≡ chain_by row other row.trail → IsReplayed2 (More from) (stands2 c s false x row.trail) →
+      WasServed sup (walk2_from (asked2 (regime_of c s) p x) (left_below from.level) from.base) items rows two r
+      → WasServed sup Chain (row.trail ++ items) (row ∷ rows) two r
   chain_below row other from items rows two r e h w =
-      was_behind sup Chain (walk2_from (asked2 (regime_of c s) p x) (left_below from.level) from.base) row.trail items (row ∷ []) rows two r (table2_served c s p x sup row other from e h) w
+      was_behind sup Chain (walk2_from (asked2 (regime_of c s) p x) (left_below from.level) from.base) row.trail items (row ∷ []) rows two r
+      (table2_served c s p x sup row other from e h) w
 
-  pub chain_base : (i : Item) (items : List Item) (rows : List Row) (two : Second) (r : Result Leaf2 Stop) → is_refused2 c x ≡ false → sup (stage2_base x) ≡ gives i [] [] →
+  pub chain_base : (i : Item) (items : List Item) (rows : List Row) (two : Second) (r : Result Leaf2 Stop) → is_refused2 c x ≡ false
+      → sup (stage2_base x) ≡ gives i [] [] →
       WasServed sup (walk2_behind (asked2 (regime_of c s) p x) i.value) items rows two r → WasServed sup Chain (i ∷ items) rows two r
-  chain_base i items rows two r ok e w = was_behind sup Chain (walk2_behind (asked2 (regime_of c s) p x) i.value) (i ∷ []) items [] rows two r (base_served c s p x sup i ok e) w
+  chain_base i items rows two r ok e w = was_behind sup Chain (walk2_behind (asked2 (regime_of c s) p x) i.value) (i ∷ []) items [] rows two r
+      (base_served c s p x sup i ok e) w
 
 -- ONE WORD
 
@@ -115,19 +128,24 @@ module _ (r : Regime) (e : Entry1) (sup : Need → Supplied) where
   read_had : (p : ℕ) (i : Item) → sup (Need1 p) ≡ gives i [] [] → serve_at sup [] (read1 e p) ≡ record { items = i ∷ []; stop = fed (Ok i) []; by = [] }
   read_had p i h = ap (λ s. goes_at s (λ i rest. serve_at sup rest (Ready i))) h
 
-  read_none : (p : ℕ) → sup (Need1 p) ≡ halts (came (lacks (Need1 p))) → serve_at sup [] (read1 e p) ≡ record { items = []; stop = breaks (came (lacks (Need1 p))); by = [] }
+  read_none : (p : ℕ) → sup (Need1 p) ≡ halts (came (lacks (Need1 p)))
+      → serve_at sup [] (read1 e p) ≡ record { items = []; stop = breaks (came (lacks (Need1 p))); by = [] }
   read_none p h = ap (λ s. goes_at s (λ i rest. serve_at sup rest (Ready i))) h
 
   abbrev Lacks : ℕ → Stop
   Lacks p = Absent S1 (level_of e.left) p false
 
   -- with stage 2 off
-  pub flat_had : (i : Item) (two : Second) → r.config.vm ≡ false → sup (Need1 e.place) ≡ gives i [] [] → WordServed sup (word_of r e) (i ∷ []) [] two (Ok i.value)
+  pub flat_had : (i : Item) (two : Second) → r.config.vm ≡ false → sup (Need1 e.place) ≡ gives i [] []
+      → WordServed sup (word_of r e) (i ∷ []) [] two (Ok i.value)
   flat_had i two v h = ([], i, refl, refl, ap (serve_at sup []) (vm_off r.config.vm _ _ v) ∙ read_had e.place i h)
 
-  pub flat_none : (two : Second) → r.config.vm ≡ false → sup (Need1 e.place) ≡ halts (came (lacks (Need1 e.place))) → WordServed sup (word_of r e) [] [] two (Err (Lacks e.place))
+  pub flat_none : (two : Second) → r.config.vm ≡ false → sup (Need1 e.place) ≡ halts (came (lacks (Need1 e.place)))
+      → WordServed sup (word_of r e) [] [] two (Err (Lacks e.place))
   flat_none two v h =
-      let q : serve_at sup [] (word_of r e) ≡ record { items = []; stop = breaks (came (lacks (Need1 e.place))); by = [] } = ap (serve_at sup []) (vm_off r.config.vm _ _ v) ∙ read_none e.place h in
+      let q : serve_at sup [] (word_of r e)
+      ≡ record { items = []; stop = breaks (came (lacks (Need1 e.place))); by = [] } = ap (serve_at sup []) (vm_off r.config.vm _ _ v)
+      ∙ read_none e.place h in
       (sym (ap shown q), sym (ap (λ y. y.by) q), subst (λ y. TellsWord (Lacks e.place) two y.stop) (sym q) refl)
 
   module _ (v : r.config.vm ≡ true) (items : List Item) (rows : List Row) (two : Second) where
@@ -142,16 +160,19 @@ module _ (r : Regime) (e : Entry1) (sup : Need → Supplied) where
       read_is h = vm_on (is_readable r.config l) _ _ h
 
       -- the word was read
-      pub deep_had : (i : Item) → is_readable r.config l ≡ true → sup (Need1 l.pa) ≡ gives i [] [] → WordServed sup (word_of r e) (items ++ i ∷ []) rows two (Ok i.value)
+      pub deep_had : (i : Item) → is_readable r.config l ≡ true → sup (Need1 l.pa) ≡ gives i [] []
+          → WordServed sup (word_of r e) (items ++ i ∷ []) rows two (Ok i.value)
       deep_had i d h = (
         items,
         i,
         refl,
         refl,
-        behind_leaf ∙ ap (λ t. behind items rows (serve_at sup [] t)) (read_is d) ∙ ap (behind items rows) (read_had l.pa i h) ∙ ap (λ b. record { items = items ++ i ∷ []; stop = fed (Ok i) []; by = b }) (append-nil rows),
+        behind_leaf ∙ ap (λ t. behind items rows (serve_at sup [] t)) (read_is d) ∙ ap (behind items rows) (read_had l.pa i h)
+            ∙ ap (λ b. record { items = items ++ i ∷ []; stop = fed (Ok i) []; by = b }) (append-nil rows),
       )
 
-      stopped_at : (x : Stop) (y : StopAt (Result Item Fault)) → serve_at sup [] (Read (reaches l)) ≡ record { items = []; stop = y; by = [] } → first_chain y ≡ [] → TellsWord x two y → WordServed sup (word_of r e) items rows two (Err x)
+      stopped_at : (x : Stop) (y : StopAt (Result Item Fault)) → serve_at sup [] (Read (reaches l)) ≡ record { items = []; stop = y; by = [] }
+          → first_chain y ≡ [] → TellsWord x two y → WordServed sup (word_of r e) items rows two (Err x)
       stopped_at x y h f t =
           let q : serve_at sup [] (word_of r e) ≡ record { items = items ++ []; stop = y; by = rows ++ [] } = behind_leaf ∙ ap (behind items rows) h in (
             sym (ap shown q ∙ ap (λ z. (items ++ []) ++ z) f ∙ append-nil (items ++ []) ∙ append-nil items),
@@ -160,15 +181,18 @@ module _ (r : Regime) (e : Entry1) (sup : Need → Supplied) where
           )
 
       -- memory lacks it
-      pub deep_none : is_readable r.config l ≡ true → sup (Need1 l.pa) ≡ halts (came (lacks (Need1 l.pa))) → WordServed sup (word_of r e) items rows two (Err (Lacks l.pa))
+      pub deep_none : is_readable r.config l ≡ true → sup (Need1 l.pa) ≡ halts (came (lacks (Need1 l.pa)))
+          → WordServed sup (word_of r e) items rows two (Err (Lacks l.pa))
       deep_none d h = stopped_at (Lacks l.pa) (breaks (came (lacks (Need1 l.pa)))) (ap (serve_at sup []) (read_is d) ∙ read_none l.pa h) refl refl
 
       -- stage 2 doesn't let it be read
       pub deep_denied : is_readable r.config l ≡ false → WordServed sup (word_of r e) items rows two (Err (FaultStop (unreadable l)))
-      deep_denied d = stopped_at (FaultStop (unreadable l)) (fed (Err (unreadable l)) []) (ap (serve_at sup []) (vm_off (is_readable r.config l) _ _ d)) refl (refl, refl)
+      deep_denied d = stopped_at (FaultStop (unreadable l)) (fed (Err (unreadable l)) [])
+          (ap (serve_at sup []) (vm_off (is_readable r.config l) _ _ d)) refl (refl, refl)
 
     stop_word : (x : Stop) (xs : List Item) (by : List Row) (y : StopAt (End Leaf2)) → TellsLeaf {L = Leaf2} (Err x) two y →
-        let z = then_at record { items = xs; stop = y; by = by } (λ a left. serve_at sup left (Read a)) in (shown z ≡ xs ++ first_chain y) × (z.by ≡ by) × TellsWord x two z.stop
+        let z = then_at record { items = xs; stop = y; by = by } (λ a left. serve_at sup left (Read a)) in (shown z ≡ xs ++ first_chain y) × (z.by ≡ by)
+        × TellsWord x two z.stop
     stop_word x xs by (fed (reaches l) left) h = absurd h
     stop_word x xs by (fed (stops f) left) h = (ap (λ l. l ++ []) (append-nil xs), append-nil by, h)
     stop_word x xs by (breaks q) h = (refl, refl, h)
@@ -178,5 +202,6 @@ module _ (r : Regime) (e : Entry1) (sup : Need → Supplied) where
     deep_stop x w =
         let y = serve_at sup [] Place2 in
         let d = stop_word x y.items y.by y.stop w.told in
-        let q : serve_at sup [] (word_of r e) ≡ then_at y (λ a left. serve_at sup left (Read a)) = ap (serve_at sup []) word_is ∙ serve_after sup [] Place2 Read in
+        let q : serve_at sup [] (word_of r e) ≡ then_at y (λ a left. serve_at sup left (Read a)) = ap (serve_at sup []) word_is
+        ∙ serve_after sup [] Place2 Read in
         (w.items_are ∙ sym d.0 ∙ ap shown (sym q), w.by_is ∙ sym d.1 ∙ ap (λ z. z.by) (sym q), subst (λ z. TellsWord x two z.stop) (sym q) d.2)

@@ -1,10 +1,9 @@
 -- The rows of a core can serve, over every run.
-use Rattle.std.proofs.Common.{◌≡◌, ℕ, ◌<◌, false, true, List, [], ◌∷◌, Option}
+use Rattle.std.proofs.Common.{ℕ, false, true, List, [], ◌∷◌, Option}
 use Rattle.sysregs.specs.declared.regs.Side.{Side}
 use Rattle.sysregs.specs.declared.regs.Side.TheVariants.{Low}
 use Rattle.sysregs.specs.Sides.{side_of}
 use Rattle.trails.specs.Lengths.{most_items, most_items2}
-use Rattle.trails.specs.declared.event.Event.{Event}
 use Rattle.walk_spec.specs.Ask.{ask, done}
 use Rattle.walk_spec.specs.Needs.{regime_of}
 use Rattle.walk_spec.specs.Steps.{reaches}
@@ -17,8 +16,8 @@ use Rattle.tagged_tlb.specs.declared.row.Row.{Row}
 use Rattle.machine_spec.specs.Machine.{core_numbered, world_after, run_of}
 use Rattle.machine_laws.specs.Leaving.{uses_of}
 use Rattle.machine_laws.proofs.Trees.{chain, flat}
-use Rattle.machine_laws.proofs.Facts.{regime_for, IsStored, sided, IsRowBy, Facts, view_of}
-use Rattle.machine_laws.proofs.Gone.{Ranks, AreRanked}
+use Rattle.machine_laws.proofs.Facts.{regime_for, IsStored, sided, IsRowBy, view_of}
+use Rattle.machine_laws.proofs.Gone.{AreRanked}
 use Rattle.machine_laws.proofs.LeavingRuns.{run_ranked}
 use Rattle.machine_laws.proofs.Theorem.{facts_of_run}
 use Rattle.machine_laws.proofs.Promised.{all_served, all_made}

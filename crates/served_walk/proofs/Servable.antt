@@ -43,7 +43,8 @@ use Rattle.machine_laws.proofs.Judging.{judged_is}
 -- A COMBINED ROW
 
 -- its trail ends for each access that it may serve
-pub leaf1_ends : (P : Mark → Option ℕ → Type 0) (c : Config) (r : Rattle.tagged_tlb.specs.declared.row.Row.Row) (trail : List Item) (a : Access) → c.m ≡ true → is_refused1 c a ≡ false → IsLeafRow1 P c r trail a → (len : ℕ) × (o : Outcome) × EndsOn c a trail len o
+pub leaf1_ends : (P : Mark → Option ℕ → Type 0) (c : Config) (r : Rattle.tagged_tlb.specs.declared.row.Row.Row) (trail : List Item) (a : Access)
+    → c.m ≡ true → is_refused1 c a ≡ false → IsLeafRow1 P c r trail a → (len : ℕ) × (o : Outcome) × EndsOn c a trail len o
 leaf1_ends P c r trail a on_ ok l =
     let j = judged_is c a trail l.landing on_ ok l.on in
     (length j.front, outcome_of j.end, (j.end, j.front, j.rest, j.is, refl, on_ends (regime_for c a) (walk c true a) j.end j.front j.on, refl))
@@ -52,16 +53,19 @@ ends_not_needs : (s : Stands Need Item (End Landing)) (e : End Landing) (rest : 
 ends_not_needs s e rest n h k = absurd cc
 
 -- so replay answers that it ended
-pub leaf1_answer : (c : Config) (a : Access) (trail : List Item) (len0 : ℕ) (o0 : Outcome) → EndsOn c a trail len0 o0 → (answer : Replay) → IsReplayed c a trail answer → (len : ℕ) × (o : Outcome) × (answer ≡ Ended len o)
+pub leaf1_answer : (c : Config) (a : Access) (trail : List Item) (len0 : ℕ) (o0 : Outcome) → EndsOn c a trail len0 o0 → (answer : Replay)
+    → IsReplayed c a trail answer → (len : ℕ) × (o : Outcome) × (answer ≡ Ended len o)
 leaf1_answer c a trail len0 o0 d (Ended len o) h = (len, o, refl)
 leaf1_answer c a trail len0 o0 d (More from) h =
-    let whole : stands_whole c a trail ≡ ends d.0 d.2 = ap (stands_whole c a) d.3 ∙ on_ends_append (fits (regime_of c (side_of a.va))) (walk c true a) d.1 d.2 d.0 [] d.5 in
+    let whole : stands_whole c a trail ≡ ends d.0 d.2 = ap (stands_whole c a) d.3
+    ∙ on_ends_append (fits (regime_of c (side_of a.va))) (walk c true a) d.1 d.2 d.0 [] d.5 in
     absurd (ends_not_needs (stands_whole c a trail) d.0 d.2 h.0.0.0 whole h.0.0.1)
 leaf1_answer c a trail len0 o0 d Other h = absurd (h.0 len0 o0 d)
 
 -- CHAINS OF STAGE 2
 
-accepted_on : (r : Regime) (b : Bool) (e : End Leaf2) (t : Ask Need Item (End Leaf2)) (items : List Item) (s : Stands Need Item (End Leaf2)) → b ≡ false → on (fits r) t items ≡ s → on (fits r) (Rattle.std.proofs.Common.cond b (done e) t) items ≡ s
+accepted_on : (r : Regime) (b : Bool) (e : End Leaf2) (t : Ask Need Item (End Leaf2)) (items : List Item) (s : Stands Need Item (End Leaf2)) → b ≡ false
+    → on (fits r) t items ≡ s → on (fits r) (Rattle.std.proofs.Common.cond b (done e) t) items ≡ s
 accepted_on r true e t items s h k = absurd (both_ways true h refl)
 accepted_on r false e t items s h k = k
 
@@ -70,7 +74,11 @@ module _ (P : Mark → Option ℕ → Type 0) (c : Config) (s : Side) (x : ℕ) 
   early = stops (fault2 (asked2 (regime_of c s) false x) Translation most_left)
 
   pub leaf2_ends : (class : ℕ) → IsLeafRow2 P (regime_of c s) false trail x class → (l : Leaf2) × (stands2 c s false x trail ≡ ends (reaches l) [])
-  leaf2_ends class l = (l.leaf, accepted_on (regime_of c s) (is_refused2 c x) early (chain (regime_of c s) false x) trail _ ok (on_ends (regime_of c s) (chain (regime_of c s) false x) (reaches l.leaf) trail l.on))
+  leaf2_ends class l = (
+    l.leaf,
+    accepted_on (regime_of c s) (is_refused2 c x) early (chain (regime_of c s) false x) trail _ ok
+        (on_ends (regime_of c s) (chain (regime_of c s) false x) (reaches l.leaf) trail l.on),
+  )
 
   word_only : (n : Need) → is_need1 n ≡ false → needs_base n ≡ false → (w : WordNeed) × (n ≡ word w)
   word_only stage1_base f b = absurd cc
@@ -80,15 +88,18 @@ module _ (P : Mark → Option ℕ → Type 0) (c : Config) (s : Side) (x : ℕ) 
   pub table2_needs : IsTableRow2 P (regime_of c s) false trail x → (w : WordNeed) × (stands2 c s false x trail ≡ needs (word w))
   table2_needs t =
       let w = word_only t.need t.words.0 t.words.1 in
-      let h : on (fits (regime_of c s)) (chain (regime_of c s) false x) trail ≡ needs (word w.0) = on_needs (regime_of c s) (chain (regime_of c s) false x) t.need t.go trail t.on ∙ ap (λ n. needs n) w.1 in
+      let h : on (fits (regime_of c s)) (chain (regime_of c s) false x) trail
+      ≡ needs (word w.0) = on_needs (regime_of c s) (chain (regime_of c s) false x) t.need t.go trail t.on ∙ ap (λ n. needs n) w.1 in
       (w.0, accepted_on (regime_of c s) (is_refused2 c x) early (chain (regime_of c s) false x) trail _ ok h)
 
-pub leaf2_answer : (l0 : Leaf2) (st : Stands Need Item (End Leaf2)) → st ≡ ends (reaches l0) [] → (answer : Replay2) → IsReplayed2 answer st → (l : Leaf2) × (answer ≡ Ended2 l)
+pub leaf2_answer : (l0 : Leaf2) (st : Stands Need Item (End Leaf2)) → st ≡ ends (reaches l0) [] → (answer : Replay2) → IsReplayed2 answer st
+    → (l : Leaf2) × (answer ≡ Ended2 l)
 leaf2_answer l0 st h (Ended2 l) k = (l, refl)
 leaf2_answer l0 st h (More2 from) k = (let q = k.1 in absurd cc)
 leaf2_answer l0 st h Other2 k = absurd (k.0 l0 h)
 
-pub table2_answer : (w : WordNeed) (st : Stands Need Item (End Leaf2)) → st ≡ needs (word w) → (answer : Replay2) → IsReplayed2 answer st → (from : From2) × (answer ≡ More2 from)
+pub table2_answer : (w : WordNeed) (st : Stands Need Item (End Leaf2)) → st ≡ needs (word w) → (answer : Replay2) → IsReplayed2 answer st
+    → (from : From2) × (answer ≡ More2 from)
 table2_answer w st h (Ended2 l) k = absurd cc
 table2_answer w st h (More2 from) k = (from, refl)
 table2_answer w st h Other2 k = absurd (k.1 w h)
@@ -130,12 +141,22 @@ module _ {A : Type 0} (r : Regime) (u : Ask Need Item A) where
   more_one (done b) j trail h e = h
   more_one (ask n k) j trail h e = absurd cc
 
-  last_mark : (t : Ask Need Item A) (trail : List Item) (front : List Mark) (m : Mark) → IsOn r t trail u → marks r t trail ≡ front ++ m ∷ [] → LastMark r trail m
+  last_mark : (t : Ask Need Item A) (trail : List Item) (front : List Mark) (m : Mark) → IsOn r t trail u → marks r t trail ≡ front ++ m ∷ []
+      → LastMark r trail m
   last_mark (done a) [] front m h e = absurd (none_last front m e)
   last_mark (ask n k) [] front m h e = absurd (none_last front m e)
   last_mark (done a) (i ∷ trail) front m h e = absurd h
-  last_mark (ask n k) (i ∷ []) [] m h e = record { before = []; item = i; need = n; is = refl; mark_is = sym (head_is (marks r (k i) []) [] (mark r n i) m e); fit = h.0 }
-  last_mark (ask n k) (i ∷ []) (x ∷ front) m h e = absurd (none_last front m (sym (marks_nil r (k i)) ∙ tail_is (marks r (k i) []) (front ++ m ∷ []) (mark r n i) x e))
+  last_mark (ask n k) (i ∷ []) [] m h e = record {
+    before = [];
+    item = i;
+    need = n;
+    is = refl;
+    mark_is = sym
+        (head_is (marks r (k i) []) [] (mark r n i) m e);
+    fit = h.0;
+  }
+  last_mark (ask n k) (i ∷ []) (x ∷ front) m h e = absurd (none_last front m (sym (marks_nil r (k i))
+      ∙ tail_is (marks r (k i) []) (front ++ m ∷ []) (mark r n i) x e))
   last_mark (ask n k) (i ∷ j ∷ trail) [] m h e = absurd (more_one (k i) j trail h.1 (tail_is (marks r (k i) (j ∷ trail)) [] (mark r n i) m e))
   last_mark (ask n k) (i ∷ j ∷ trail) (x ∷ front) m h e =
       let d = last_mark (k i) (j ∷ trail) front m h.1 (tail_is (marks r (k i) (j ∷ trail)) (front ++ m ∷ []) (mark r n i) x e) in
@@ -155,14 +176,18 @@ stage_same : (s : Stage) → is_stage1 s ≡ true → s ≡ S1
 stage_same S1 h = refl
 stage_same S2 h = absurd cc
 
-top_of_word : (c : Config) (s : Side) (w : WordNeed) (i : Item) → w.stage ≡ S1 → FitsWord w i → is_table (part_of (regime_of c s) w.stage w.left i.value) ≡ true → is_top c s i ≡ true
+top_of_word : (c : Config) (s : Side) (w : WordNeed) (i : Item) → w.stage ≡ S1 → FitsWord w i
+    → is_table (part_of (regime_of c s) w.stage w.left i.value) ≡ true → is_top c s i ≡ true
 top_of_word c s w i e f h =
-    let k : is_table (part1 (regime_of c s) (means1_of c s w.left i.value)) ≡ true = subst (λ z. is_table (part_of (regime_of c s) z w.left i.value) ≡ true) e h in
+    let k : is_table (part1 (regime_of c s) (means1_of c s w.left i.value))
+    ≡ true = subst (λ z. is_table (part_of (regime_of c s) z w.left i.value) ≡ true) e h in
     let l : left_below i.level ≡ w.left = ap left_below f.level ∙ left_all w.left in
-    let d : is_table_kind (means1_of c s (left_below i.level) i.value) ≡ true = ap (λ n. is_table_kind (means1_of c s n i.value)) l ∙ table_kind (regime_of c s) (means1_of c s w.left i.value) k in
+    let d : is_table_kind (means1_of c s (left_below i.level) i.value) ≡ true = ap (λ n. is_table_kind (means1_of c s n i.value)) l
+    ∙ table_kind (regime_of c s) (means1_of c s w.left i.value) k in
     top_by (stage_eq i.stage S1) (is_base i.what) (is_table_kind (means1_of c s (left_below i.level) i.value)) (ap (λ z. stage_eq z S1) (f.stage ∙ e)) d
 
-top_of : (c : Config) (s : Side) (n : Need) (i : Item) → fits (regime_of c s) n i ≡ true → is_first (mark (regime_of c s) n i) ≡ true → (mark (regime_of c s) n i).base ≡ false → is_table (mark (regime_of c s) n i).part ≡ true → is_top c s i ≡ true
+top_of : (c : Config) (s : Side) (n : Need) (i : Item) → fits (regime_of c s) n i ≡ true → is_first (mark (regime_of c s) n i) ≡ true
+    → (mark (regime_of c s) n i).base ≡ false → is_table (mark (regime_of c s) n i).part ≡ true → is_top c s i ≡ true
 unfolding mark
 top_of c s stage1_base i f one b t = absurd cc
 top_of c s (stage2_base x) i f one b t = absurd cc
@@ -175,10 +200,16 @@ module _ (P : Mark → Option ℕ → Type 0) (c : Config) (trail : List Item) (
   -- where its last word is a table (the facts say so far that it is no leaf)
   pub table1_top : is_table t.last.part ≡ true → EndsAtTop c (side_of a.va) trail
   table1_top h =
-      let d = last_mark rg (flat rg t.plan) (walk c true a) trail t.front t.last t.on t.is in
-      (d.before, d.item, d.is, top_of c (side_of a.va) d.need d.item d.fit (sym (ap is_first d.mark_is) ∙ t.first) (sym (ap (λ m. m.base) d.mark_is) ∙ t.word) (sym (ap (λ m. is_table m.part) d.mark_is) ∙ h))
+      let d = last_mark rg (flat rg t.plan) (walk c true a) trail t.front t.last t.on t.is in (
+        d.before,
+        d.item,
+        d.is,
+        top_of c (side_of a.va) d.need d.item d.fit (sym (ap is_first d.mark_is) ∙ t.first) (sym (ap (λ m. m.base) d.mark_is)
+            ∙ t.word) (sym (ap (λ m. is_table m.part) d.mark_is) ∙ h),
+      )
 
-  table_by : (p : Plan) → IsOn rg (walk c true a) trail (flat rg p) → EndsAtTop c (side_of a.va) trail → ◌⊎◌ ((len : ℕ) × (o : Outcome) × EndsOn c a trail len o) (NeedsMore c a trail)
+  table_by : (p : Plan) → IsOn rg (walk c true a) trail (flat rg p) → EndsAtTop c (side_of a.va) trail
+      → ◌⊎◌ ((len : ℕ) × (o : Outcome) × EndsOn c a trail len o) (NeedsMore c a trail)
   table_by (fin e) h top = inl (length trail, outcome_of e, (e, trail, [], sym (append-nil trail), refl, on_ends rg (walk c true a) e trail h, refl))
   table_by (own n k) h top = inr ((n, on_needs rg (walk c true a) n (λ i. flat rg (k i)) trail h), top)
   table_by (via p x next k) h top = inr ((stage2_base x, on_needs rg (walk c true a) (stage2_base x) _ trail h), top)

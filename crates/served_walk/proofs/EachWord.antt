@@ -58,24 +58,30 @@ module _ {S : Type 0} (sup : S → Need → Supplied) (config : S → Config) (b
     Go k = go_on stops (λ i. Finer (k i))
 
     -- one word, and then the rest
-    word_then : (n : Entry1) (k : Item → Ask Entry1 Item (End Leaf1)) (s mid s' : S) (i : Item) (items rest : List Item) (rows : List Row) (r : Result (End Leaf1) Stop) →
-        serve_at z [] (how n) ≡ record { items = items; stop = fed (Ok i) []; by = rows } → by mid ≡ by s ++ rows → Together (k i) mid rest r s' → Together (ask n k) s (items ++ rest) r s'
+    word_then : (n : Entry1) (k : Item
+        → Ask Entry1 Item (End Leaf1)) (s mid s' : S) (i : Item) (items rest : List Item) (rows : List Row) (r : Result (End Leaf1) Stop) →
+        serve_at z [] (how n) ≡ record { items = items; stop = fed (Ok i) []; by = rows } → by mid ≡ by s ++ rows → Together (k i) mid rest r s'
+        → Together (ask n k) s (items ++ rest) r s'
     word_then n k s mid s' i items rest rows r e b d = record {
       reply = behind items rows d.reply;
-      is = serve_after z [] (how n) (Go k) ∙ ap (λ (y : ReplyAt (Result Item Fault)). then_at y (λ a left. serve_at z left (Go k a))) e ∙ ap (behind items rows) d.is;
+      is = serve_after z [] (how n) (Go k) ∙ ap (λ (y : ReplyAt (Result Item Fault)). then_at y (λ a left. serve_at z left (Go k a))) e
+          ∙ ap (behind items rows) d.is;
       items_are = ap (λ l. items ++ l) d.items_are ∙ sym (shown_behind items rows d.reply);
       by_is = d.by_is ∙ ap (λ l. l ++ d.reply.by) b ∙ append_assoc (by s) rows d.reply.by;
       told = d.told;
     }
 
     -- what stops one word stops the walk
-    stop_by : (k : Item → Ask Entry1 Item (End Leaf1)) (s s' : S) (x : Stop) (items : List Item) (rows : List Row) (e : StopAt (Result Item Fault)) → TellsWord x (two s') e →
-        let y = then_at record { items = items; stop = e; by = rows } (λ a left. serve_at z left (Go k a)) in (shown y ≡ items ++ first_chain e) × (y.by ≡ rows) × TellsEnd (Err x) (two s') y.stop
+    stop_by : (k : Item → Ask Entry1 Item (End Leaf1)) (s s' : S) (x : Stop) (items : List Item) (rows : List Row) (e : StopAt (Result Item Fault))
+        → TellsWord x (two s') e →
+        let y = then_at record { items = items; stop = e; by = rows } (λ a left. serve_at z left (Go k a)) in (shown y ≡ items ++ first_chain e)
+        × (y.by ≡ rows) × TellsEnd (Err x) (two s') y.stop
     stop_by k s s' x items rows (fed (Ok i) left) h = absurd h
     stop_by k s s' x items rows (fed (Err f) left) h = (ap (λ l. l ++ []) (append-nil items), append-nil rows, h)
     stop_by k s s' x items rows (breaks q) h = (refl, refl, h)
 
-    word_stops : (n : Entry1) (k : Item → Ask Entry1 Item (End Leaf1)) (s s' : S) (x : Stop) (items : List Item) (rows : List Row) (r : Result (End Leaf1) Stop) →
+    word_stops : (n : Entry1) (k : Item
+        → Ask Entry1 Item (End Leaf1)) (s s' : S) (x : Stop) (items : List Item) (rows : List Row) (r : Result (End Leaf1) Stop) →
         WordServed z (how n) items rows (two s') (Err x) → by s' ≡ by s ++ rows → r ≡ Err x → Together (ask n k) s items r s'
     word_stops n k s s' x items rows r h b e =
         let w = serve_at z [] (how n) in
@@ -94,12 +100,15 @@ module _ {S : Type 0} (sup : S → Need → Supplied) (config : S → Config) (b
       pub sup_is : sup s ≡ z
       pub config_is : config s ≡ c
 
-    word_had : (s s' : S) (n : Entry1) (items : List Item) (r : Result ℕ Stop) → Kept s → (h : by_entry gives s n items r s') → WordServed z (how n) items h.rows (two s') r
+    word_had : (s s' : S) (n : Entry1) (items : List Item) (r : Result ℕ Stop) → Kept s → (h : by_entry gives s n items r s')
+        → WordServed z (how n) items h.rows (two s') r
     word_had s s' n items r k h =
-        subst (λ v. WordServed v (how n) items h.rows (two s') r) k.sup_is (subst (λ g. WordServed (sup s) (word_of (regime_of g side) n) items h.rows (two s') r) k.config_is (h.had side n refl refl))
+        subst (λ v. WordServed v (how n) items h.rows (two s') r) k.sup_is
+        (subst (λ g. WordServed (sup s) (word_of (regime_of g side) n) items h.rows (two s') r) k.config_is (h.had side n refl refl))
 
     -- a walk over the supply is served as the finer walk
-    pub ran_served : (t : Ask Entry1 Item (End Leaf1)) (s : S) (items : List Item) (r : Result (End Leaf1) Stop) (s' : S) → Kept s → Ran (λ i. i.value) (by_entry gives) t s items r s' → Together t s items r s'
+    pub ran_served : (t : Ask Entry1 Item (End Leaf1)) (s : S) (items : List Item) (r : Result (End Leaf1) Stop) (s' : S) → Kept s
+        → Ran (λ i. i.value) (by_entry gives) t s items r s' → Together t s items r s'
     ran_served (done a) s items r s' y h = record {
       reply = stop_at (fed a []);
       is = refl;
@@ -111,7 +120,8 @@ module _ {S : Type 0} (sup : S → Need → Supplied) (config : S → Config) (b
         let g = w.4 in
         let o = word_had s w.3 n (w.0 ++ w.1 ∷ []) (Ok w.1.value) y g in
         let j : w.1 ≡ o.1 = last_same w.0 o.0 w.1 o.1 o.2 in
-        let e : serve_at z [] (how n) ≡ record { items = w.0 ++ w.1 ∷ []; stop = fed (Ok w.1) []; by = g.rows } = o.4 ∙ ap (λ i. record { items = w.0 ++ w.1 ∷ []; stop = fed (Ok i) []; by = g.rows }) (sym j) in
+        let e : serve_at z [] (how n) ≡ record { items = w.0 ++ w.1 ∷ []; stop = fed (Ok w.1) []; by = g.rows } = o.4
+        ∙ ap (λ i. record { items = w.0 ++ w.1 ∷ []; stop = fed (Ok i) []; by = g.rows }) (sym j) in
         let kept : Kept w.3 = record { sup_is = g.same ∙ y.sup_is; config_is = g.same_config ∙ y.config_is } in
         let d = ran_served (k w.1) w.3 w.2 r s' kept w.6 in
         subst (λ l. Together (ask n k) s l r s') (sym w.5) (word_then n k s w.3 s' w.1 (w.0 ++ w.1 ∷ []) w.2 g.rows r e g.by_is d)
@@ -127,11 +137,14 @@ module _ {S : Type 0} (sup : S → Need → Supplied) (config : S → Config) (b
   leaf_told (Err x) second (breaks q) h = h
 
   -- stage 1 from a table over the supply was served: what it appended, the rows that served, and how it stopped
-  pub stage1_served : (c : Config) (a : Access) (left : ℕ) (table : Table1) (s s' : S) (old new : List Item) (r : Result Leaf1 Stop) → config s ≡ c → Walked1 gives (asked c true a) left table s old new r s' →
-      (items : List Item) × (rows : List Row) × (new ≡ old ++ items) × (by s' ≡ by s ++ rows) × WasServed (sup s) (stage1_from (asked c true a) left table) items rows (two s') r
+  pub stage1_served : (c : Config) (a : Access) (left : ℕ) (table : Table1) (s s' : S) (old new : List Item) (r : Result Leaf1 Stop) → config s ≡ c
+      → Walked1 gives (asked c true a) left table s old new r s' →
+      (items : List Item) × (rows : List Row) × (new ≡ old ++ items) × (by s' ≡ by s ++ rows)
+      × WasServed (sup s) (stage1_from (asked c true a) left table) items rows (two s') r
   stage1_served c a left table s s' old new r u w =
       let d = ran_served (side_of a.va) c (sup s) (walk1_from (asked c true a) left table) s w.more w.end s' (record { sup_is = refl; config_is = u }) w.ran in
-      let told : TellsLeaf r (two s') d.reply.stop = subst (λ q. TellsLeaf q (two s') d.reply.stop) (sym w.answer) (leaf_told w.end (two s') d.reply.stop d.told) in (
+      let told : TellsLeaf r (two s') d.reply.stop = subst (λ q. TellsLeaf q (two s') d.reply.stop) (sym w.answer)
+      (leaf_told w.end (two s') d.reply.stop d.told) in (
         w.more,
         d.reply.by,
         w.grown,
