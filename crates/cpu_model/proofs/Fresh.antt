@@ -11,7 +11,7 @@ use Rattle.table_reads.specs.Memory.{Memory}
 use Rattle.trace_lang.specs.declared.header.Size.TheVariants.{NoRows}
 use Rattle.walk_spec.specs.Walked.{IsFresh, HasLine}
 use Rattle.machine_spec.specs.Header.{Header}
-use Rattle.machine_spec.specs.Sets.{Cache}
+use Rattle.tagged_tlb.specs.Sets.{Cache}
 use Rattle.machine_spec.specs.Machine.{Visited, visited}
 use Rattle.machine_laws.proofs.NoRows.{fresh_answer, visited_fresh}
 use Rattle.trails.specs.Printed.{printed}

@@ -6,7 +6,7 @@ use Rattle.trace_lang.specs.declared.header.Size.{Size}
 use Rattle.trace_lang.specs.declared.header.Policy.{Policy}
 use Rattle.machine_spec.specs.Header.{Header}
 use Rattle.machine_spec.specs.Moments.{Bank, no_bank, most_queued}
-use Rattle.machine_spec.specs.Sets.{Cache}
+use Rattle.tagged_tlb.specs.Sets.{Cache}
 use Rattle.machine_spec.specs.Machine.{Visit}
 
 -- its number, the size of its caches and their policy, its registers with their queue, and its rows

@@ -7,8 +7,9 @@ pub use Rattle.phys_mem.specs.Memory
 pub use Rattle.phys_mem.specs.Words
 pub use Rattle.machine_spec.specs.Header
 pub use Rattle.machine_spec.specs.Moments
-pub use Rattle.machine_spec.specs.Rows
-pub use Rattle.machine_spec.specs.Sets
+pub use Rattle.tagged_tlb.specs.Shapes
+pub use Rattle.tagged_tlb.specs.Rows
+pub use Rattle.tagged_tlb.specs.Sets
 pub use Rattle.machine_spec.specs.Served
 pub use Rattle.machine_spec.specs.Machine
 pub mod Cores

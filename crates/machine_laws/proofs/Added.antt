@@ -10,12 +10,15 @@ use Rattle.sysregs.proofs.Configs.{equal_self, same_bool_self, same_fields_self}
 use Rattle.trace_lang.specs.declared.header.Policy.{Policy}
 use Rattle.trace_lang.specs.declared.header.Policy.TheVariants.{Lru, Fifo, Random}
 use Rattle.tagged_tlb.specs.declared.row.Key.{Key}
-use Rattle.walk_spec.specs.Needs.{Region}
-use Rattle.machine_spec.specs.Header.{Header, shape_of, leaf1, leaf2}
+use Rattle.walk_spec.specs.declared.region.Region.{Region}
+use Rattle.tagged_tlb.specs.declared.row.Kind.TheVariants.{Leaf1, Leaf2}
+use Rattle.tagged_tlb.specs.Shapes.{shape_of}
+use Rattle.machine_spec.specs.Header.{Header}
 use Rattle.machine_spec.specs.Marks.{Mark, is_global}
-use Rattle.machine_spec.specs.Rows.{Row, same_kind, same_region, holds, matches1}
+use Rattle.tagged_tlb.specs.declared.row.Row.{Row}
+use Rattle.tagged_tlb.specs.Rows.{same_kind, same_region, holds, matches1}
 use Rattle.machine_spec.specs.Made.{Maker, key_of}
-use Rattle.machine_spec.specs.Sets.{Cache, victim, without, same_set, same_key, added, is_row, to_end, touched}
+use Rattle.tagged_tlb.specs.Sets.{Cache, victim, without, same_set, same_key, added, is_row, to_end, touched}
 use Rattle.machine_laws.proofs.Facts.{In, IsApart, IsApart1, IsApart2, AllApart}
 use Rattle.machine_laws.proofs.Lists.{In-from_filter, In-push_cases, In-without}
 use Rattle.machine_laws.proofs.Pairs.{pairs_filter, pairs_without, pairs_push}
@@ -104,7 +107,7 @@ any_not p (y ∷ ys) x h (inr i) = any_not p ys x (or_parts (p y) (list_any p ys
 
 -- rows of stage 2 leaves keep no ASID and aren't global
 abbrev pub IsKeyed : Row → Type 0
-IsKeyed r = r.kind ≡ leaf2 → (r.key.asid ≡ 0) × (r.global ≡ false)
+IsKeyed r = r.kind ≡ Leaf2 → (r.key.asid ≡ 0) × (r.global ≡ false)
 
 other_key : (r x : Row) → IsKeyed r → IsKeyed x → same_key r x ≡ false → IsApart2 x r
 other_key r x kr kx h lx lr cf vm rg =
@@ -129,8 +132,8 @@ module _ (h : Header) (c : ℕ) where
 
   -- olds: the rows before; news: all rows that were made
   module _ (olds news : List Row) (keyed_old : (x : Row) → In x olds → IsKeyed x) (keyed_new : (x : Row) → In x news → IsKeyed x)
-      (alone : (y : Row) → In y news → y.kind ≡ leaf1 → (x : Row) → In x olds → IsApart1 x y)
-      (single : (x y : Row) → In x news → In y news → x.kind ≡ leaf1 → y.kind ≡ leaf1 → same_key y x ≡ true) where
+      (alone : (y : Row) → In y news → y.kind ≡ Leaf1 → (x : Row) → In x olds → IsApart1 x y)
+      (single : (x y : Row) → In x news → In y news → x.kind ≡ Leaf1 → y.kind ≡ Leaf1 → same_key y x ≡ true) where
     abbrev Known : List Row → Type 0
     Known rows = (x : Row) → In x rows → In x olds ⊎ In x news
 
@@ -160,17 +163,17 @@ by_parts : (a b c d e : Bool) → a ≡ true → b ≡ true → c ≡ true → d
 by_parts a b c d e p q r s h = sym (rw (p, q, r, s) refl) ∙ h
 
 -- a combined row that didn't match is of another ASID, where it serves the same
-pub other_asid : (g : Regs) (x : ℕ) (old new : Row) → matches1 leaf1 (key_of g) x old ≡ false → new.key ≡ key_of g → holds new.region x ≡ true
+pub other_asid : (g : Regs) (x : ℕ) (old new : Row) → matches1 Leaf1 (key_of g) x old ≡ false → new.key ≡ key_of g → holds new.region x ≡ true
     → IsApart1 old new
 other_asid g x old new unmatched key held lo ln cf vm rg gl =
     let k : Key = key_of g in
-    let a : same_kind old.kind leaf1 ≡ true = subst (λ z. same_kind z leaf1 ≡ true) (sym lo) refl in
+    let a : same_kind old.kind Leaf1 ≡ true = subst (λ z. same_kind z Leaf1 ≡ true) (sym lo) refl in
     let b : holds old.region x ≡ true = subst (λ z. holds z x ≡ true) (sym rg) held in
     let v : (old.key.vmid == k.vmid) ≡ true = eq-eqb old.key.vmid k.vmid (vm ∙ ap (λ (z : Key). z.vmid) key) in
     let f : same_fields old.key.config k.config ≡ true =
     subst (λ z. same_fields old.key.config z ≡ true) (cf ∙ ap (λ (z : Key). z.config) key) (same_fields_self old.key.config) in
     let n = or_parts old.global (old.key.asid == k.asid)
-    (by_parts (same_kind old.kind leaf1) (holds old.region x) (old.key.vmid == k.vmid) (same_fields old.key.config k.config)
+    (by_parts (same_kind old.kind Leaf1) (holds old.region x) (old.key.vmid == k.vmid) (same_fields old.key.config k.config)
     (old.global || (old.key.asid == k.asid)) a b v f unmatched) in
     (n.0, λ e. both_ways (old.key.asid == k.asid) n.1 (eq-eqb old.key.asid k.asid (e ∙ ap (λ (z : Key). z.asid) key)))
 

@@ -20,13 +20,15 @@ use Rattle.walk_spec.specs.Fresh.{start_base2}
 use Rattle.table_reads.specs.Numbers.{sizes2}
 use Rattle.table_reads.specs.Items.{base_item}
 use Rattle.fault_codes.specs.declared.fault.Stage.TheVariants.{S2}
-use Rattle.machine_spec.specs.Header.{Kind, leaf2, table2}
+use Rattle.tagged_tlb.specs.declared.row.Kind.{Kind}
+use Rattle.tagged_tlb.specs.declared.row.Kind.TheVariants.{Leaf2 as leaf2, Table2 as table2}
 use Rattle.machine_spec.specs.Moments.{regs_after}
 use Rattle.machine_spec.specs.Marks.{Mark, mark, marks, is_first, has_asid}
 use Rattle.machine_spec.specs.Uses.{AllUsed, LastIs}
 use Rattle.machine_spec.specs.Kept.{View, now, regs_when, IsHeld, IsKeptItem, IsNowBase}
 use Rattle.machine_spec.specs.Allowed.{last_entry}
-use Rattle.machine_spec.specs.Rows.{Row, matches, matching, deepest}
+use Rattle.tagged_tlb.specs.declared.row.Row.{Row}
+use Rattle.tagged_tlb.specs.Rows.{matches, matching, deepest}
 use Rattle.machine_spec.specs.Made.{key_of}
 use Rattle.machine_spec.specs.Served.{Supplied, chain_by, begun2, chain_of, fresh_of, supply}
 use Rattle.machine_spec.specs.Machine.{Core}

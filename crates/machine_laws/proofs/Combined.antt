@@ -24,12 +24,13 @@ use Rattle.walk_spec.specs.BothStages.{Landing, walk}
 use Rattle.walk_laws.proofs.Stepping.{takes_ends}
 use Rattle.walk_laws.proofs.Landings.{walk_in_step}
 use Rattle.walk_laws.proofs.Shifts.{of_fields, same_side}
-use Rattle.machine_spec.specs.Header.{Kind, leaf1, table1, leaf2, table2}
+use Rattle.tagged_tlb.specs.declared.row.Kind.{Kind}
+use Rattle.tagged_tlb.specs.declared.row.Kind.TheVariants.{Leaf1, Table1, Leaf2, Table2}
 use Rattle.machine_spec.specs.Moments.{regs_after}
 use Rattle.machine_spec.specs.Marks.{Part, nothing, table, leaf_of_stage1, leaf_of_stage2, Mark, mark, marks, is_first, is_table, is_leaf, is_global, is_leaf1, has_asid, tag_by}
 use Rattle.machine_spec.specs.Uses.{AllUsed}
 use Rattle.machine_spec.specs.Kept.{View, now, IsHeld}
-use Rattle.machine_spec.specs.Rows.{Row}
+use Rattle.tagged_tlb.specs.declared.row.Row.{Row}
 use Rattle.machine_spec.specs.Made.{Maker, key_of, key_for, made_in, is_read_now, last_first, rows_of, leaf_row, leaf_rows, combined_rows, numbered, rows_made, chain_with}
 use Rattle.machine_laws.proofs.Trees.{IsOn, AllSecond}
 use Rattle.machine_laws.proofs.Facts.{In, sided, regime_for, IsStored, IsRow}
@@ -132,7 +133,7 @@ module _ (laws : Laws) (v : View) (s : Step) (none : (i : Inval) → issued_now 
 
   abbrev row_with : Key → ℕ → Mark → List Item → Row
   row_with key class m trail = record {
-    kind = leaf1;
+    kind = Leaf1;
     key = key;
     global = is_global m.part;
     region = record { class = class; start = untagged a.va / 2 ^ class };
@@ -241,16 +242,16 @@ combined_made k x trail ms (lacks n) r h = absurd h
 kind_of : (r s : Row) (k : Kind) → r ≡ s → s.kind ≡ k → r.kind ≡ k
 kind_of r s k e h = ap (λ (z : Row). z.kind) e ∙ h
 
-is_table1 : {P : Type 0} → table1 ≡ leaf1 → P
+is_table1 : {P : Type 0} → Table1 ≡ Leaf1 → P
 is_table1 h = absurd cc
 
-is_leaf2 : {P : Type 0} → leaf2 ≡ leaf1 → P
+is_leaf2 : {P : Type 0} → Leaf2 ≡ Leaf1 → P
 is_leaf2 h = absurd cc
 
-is_table2 : {P : Type 0} → table2 ≡ leaf1 → P
+is_table2 : {P : Type 0} → Table2 ≡ Leaf1 → P
 is_table2 h = absurd cc
 
-not_combined : (k : Maker) (whole part : List Item) (ms : List Mark) (r : Row) → In r (rows_of k whole part ms) → r.kind ≡ leaf1 → ⊥
+not_combined : (k : Maker) (whole part : List Item) (ms : List Mark) (r : Row) → In r (rows_of k whole part ms) → r.kind ≡ Leaf1 → ⊥
 not_combined k whole part [] r h e = absurd h
 not_combined k whole part (m ∷ ms) r h e =
     elim (In-append (row_at k m (whole ++ m.item ∷ []) (chain_with part m)) (rows_of k (whole ++ m.item ∷ []) (chain_with part m) ms) r h) [
@@ -271,7 +272,7 @@ numbered_cases n (z ∷ rows) r (inl e) = (z, inl refl, (made_in z.made.step n, 
 numbered_cases n (z ∷ rows) r (inr i) = let c = numbered_cases (n + 1) rows r i in (c.0, inr c.1, c.2)
 
 pub made_one : (k : Maker) (x : ℕ) (trail : List Item) (ms : List Mark) (end : Fed Need (End Landing)) (r : Row) → In r (rows_made k x trail ms end)
-    → r.kind ≡ leaf1 → IsMade1 k (end_class end) x ms r
+    → r.kind ≡ Leaf1 → IsMade1 k (end_class end) x ms r
 made_one k x trail ms end r h e =
     let c = numbered_cases 0 (rows_of k [] [] ms ++ combined_rows k x trail ms end) r h in
     let z : Row = c.0 in

@@ -18,8 +18,8 @@ use Rattle.machine_spec.specs.Header.{Header}
 use Rattle.machine_spec.specs.Moments.{memory_after, Bank, bank_after, banked, regs_after, stored}
 use Rattle.machine_spec.specs.Invalidations.{is_at_el1, issued_by, completes}
 use Rattle.machine_spec.specs.Kept.{View, now}
-use Rattle.machine_spec.specs.Rows.{Row}
-use Rattle.machine_spec.specs.Sets.{Cache, filled}
+use Rattle.tagged_tlb.specs.declared.row.Row.{Row}
+use Rattle.tagged_tlb.specs.Sets.{Cache, filled}
 use Rattle.machine_spec.specs.Served.{Place, Reply, Halt, came, clash, served}
 use Rattle.machine_spec.specs.Machine.{Core, World, no_core, with_bank, with_cache, killed, delivered_by, delivered, most_held, posted, mailed, finished, Visit, made_by, visited_by, visited, visit_of, core_numbered, regs_in, acted, moved, at_each, after_event, step_of}
 use Rattle.trace_lang.specs.Traces.{core_of}

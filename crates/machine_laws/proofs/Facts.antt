@@ -17,16 +17,20 @@ use Rattle.walk_spec.specs.Needs.{Regime, regime_of, Need}
 use Rattle.walk_spec.specs.Steps.{End, stops, reaches}
 use Rattle.walk_spec.specs.Stage1.{untagged}
 use Rattle.walk_spec.specs.BothStages.{Landing, walk, is_refused1}
-use Rattle.machine_spec.specs.Header.{Header, Kind, leaf1, table1, leaf2, table2}
+use Rattle.tagged_tlb.specs.declared.row.Kind.{Kind}
+use Rattle.tagged_tlb.specs.declared.row.Kind.TheVariants.{Leaf1 as leaf1, Table1 as table1, Leaf2 as leaf2, Table2 as table2}
+use Rattle.machine_spec.specs.Header.{Header}
 use Rattle.machine_spec.specs.Moments.{memory_after, bank_after}
 use Rattle.machine_spec.specs.Invalidations.{inval_at, IsComplete}
-use Rattle.machine_spec.specs.Marks.{Mark, marks, is_first, is_leaf, is_global, has_asid}
+use Rattle.machine_spec.specs.Marks.{Mark, marks, is_first, is_table, is_global, has_asid}
 use Rattle.machine_spec.specs.Uses.{AllUsed}
 use Rattle.machine_spec.specs.Kept.{View, now, regs_when, tag_of, IsHeld, IsKeptItem}
-use Rattle.machine_spec.specs.Rows.{Row, holds}
+use Rattle.tagged_tlb.specs.declared.row.Row.{Row}
+use Rattle.tagged_tlb.specs.Rows.{holds}
 use Rattle.machine_spec.specs.Made.{last_first}
 use Rattle.machine_spec.specs.Machine.{Core, World, core_numbered}
 pub use Rattle.machine_laws.specs.Leaving.{In}
+pub use Rattle.machine_laws.specs.MayServe.{MayServe}
 use Rattle.machine_laws.proofs.Pairs.{AllPairs}
 use Rattle.machine_laws.proofs.Trees.{IsOn, chain, Plan, fin, flat, IsSound, IsWords}
 
@@ -55,12 +59,6 @@ abbrev pub IsStored : View → List Inval → Row → Mark → Option ℕ → Ty
 IsStored v inbox r m None = IsLast v inbox r m
 IsStored v inbox r m (Some u) = IsKeptItem v r.key.config r.key.vmid m u × (u < now v)
 
--- an access that a row of stage 1 may serve
-pub record MayServe (r : Row) (a : Access) : Type 0 where
-  pub held : holds r.region (untagged a.va) ≡ true
-  pub on : r.key.config.m ≡ true
-  pub accepted : is_refused1 r.key.config a ≡ false
-
 -- a trail that leads to a translation for an access, by rights or not
 pub record IsLeafRow1 (P : Mark → Option ℕ → Type 0) (c : Config) (r : Row) (trail : List Item) (a : Access) : Type 0 where
   pub landing : Landing
@@ -80,7 +78,7 @@ pub record IsTableRow1 (P : Mark → Option ℕ → Type 0) (c : Config) (trail 
   pub is : marks (regime_for c a) (walk c true a) trail ≡ front ++ last ∷ []
   pub first : is_first last ≡ true
   pub word : last.base ≡ false
-  pub not_leaf : is_leaf last.part ≡ false
+  pub to_table : is_table last.part ≡ true
   pub stored : AllUsed P None (front ++ last ∷ [])
 
 -- a chain that reaches a leaf of stage 2

@@ -18,16 +18,17 @@ use Rattle.walk_spec.specs.Stage2.{is_refused2}
 use Rattle.walk_spec.specs.Stage1.{untagged}
 use Rattle.walk_spec.specs.BothStages.{Landing, walk}
 use Rattle.walk_spec.specs.Fresh.{fed_outcome}
-use Rattle.machine_spec.specs.Header.{leaf1}
+use Rattle.tagged_tlb.specs.declared.row.Kind.TheVariants.{Leaf1 as leaf1}
 use Rattle.machine_spec.specs.Moments.{memory_after, regs_after}
 use Rattle.machine_spec.specs.Invalidations.{issued_by}
 use Rattle.machine_spec.specs.Marks.{Mark, marks}
 use Rattle.machine_spec.specs.Uses.{next_first, AllUsed, LastIs}
 use Rattle.machine_spec.specs.Kept.{View, now, IsKeptNow, IsNowBase}
 use Rattle.machine_spec.specs.Allowed.{is_of_word, IsNowOf, last_entry, IsRight}
-use Rattle.machine_spec.specs.Rows.{Row, matches1}
+use Rattle.tagged_tlb.specs.declared.row.Row.{Row}
+use Rattle.tagged_tlb.specs.Rows.{matches1}
 use Rattle.machine_spec.specs.Made.{key_of, last_first}
-use Rattle.machine_spec.specs.Sets.{Cache, filled}
+use Rattle.tagged_tlb.specs.Sets.{Cache, filled}
 use Rattle.machine_spec.specs.Served.{Supplied, gives, halts, Place, supply, Halt, came, clash, Reply, serve, served}
 use Rattle.machine_spec.specs.Machine.{Core, made_by}
 use Rattle.machine_laws.proofs.Trees.{IsOn, chain, Plan, flat, IsSound, IsWords, IsWord}

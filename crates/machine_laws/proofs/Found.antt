@@ -11,8 +11,9 @@ use Rattle.walk_spec.specs.Ask.{Ask, done, ask}
 use Rattle.walk_spec.specs.Needs.{Need}
 use Rattle.walk_spec.specs.Steps.{End}
 use Rattle.walk_spec.specs.BothStages.{Landing}
-use Rattle.machine_spec.specs.Header.{Kind}
-use Rattle.machine_spec.specs.Rows.{Row, same_kind, holds, matches, matches1, is_older, inserted, by_making, matching, closer, deepest}
+use Rattle.tagged_tlb.specs.declared.row.Kind.{Kind}
+use Rattle.tagged_tlb.specs.declared.row.Row.{Row}
+use Rattle.tagged_tlb.specs.Rows.{same_kind, holds, matches, matches1, is_older, inserted, by_making, matching, closer, deepest}
 use Rattle.machine_spec.specs.Served.{Supplied, gives, halts, goes_on, serve, taken}
 use Rattle.machine_laws.proofs.Facts.{In, IsApart, AllApart}
 use Rattle.machine_laws.proofs.Lists.{In-from_filter, In-append, none_some}

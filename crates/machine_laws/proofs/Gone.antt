@@ -9,10 +9,11 @@ use Rattle.trace_lang.specs.declared.header.Policy.{Policy}
 use Rattle.trace_lang.specs.declared.header.Policy.TheVariants.{Lru, Fifo, Random}
 use Rattle.tlbi_ops.specs.declared.inval.Inval.{Inval}
 use Rattle.tlbi_ops.specs.Covers.{covers}
-use Rattle.machine_spec.specs.Header.{Header, Shape, shape_of, keeps_rows}
-use Rattle.machine_spec.specs.Rows.{Row}
+use Rattle.tagged_tlb.specs.Shapes.{Shape, shape_of, keeps_rows}
+use Rattle.machine_spec.specs.Header.{Header}
+use Rattle.tagged_tlb.specs.declared.row.Row.{Row}
 use Rattle.machine_spec.specs.Made.{numbered}
-use Rattle.machine_spec.specs.Sets.{Cache, victim, without, same_set, same_key, placed, added, is_row, to_end, touched, filled}
+use Rattle.tagged_tlb.specs.Sets.{Cache, victim, without, same_set, same_key, placed, added, is_row, to_end, touched, filled}
 use Rattle.machine_spec.specs.Machine.{Core, killed, delivered_by, delivered, most_held, posted, mailed_by}
 use Rattle.tlbi_ops.specs.Operands.{reaches_core}
 use Rattle.machine_laws.specs.Leaving.{rows_of_set, In, Used, pushed_out, IsEvicted, IsUsedSince}

@@ -15,12 +15,13 @@ use Rattle.tlbi_ops.specs.Covers.{covers}
 use Rattle.walk_spec.specs.Needs.{regime_of}
 use Rattle.walk_spec.specs.BothStages.{walk}
 use Rattle.tagged_tlb.specs.declared.row.Made.{Made}
-use Rattle.machine_spec.specs.Header.{Kind, leaf1, table1, leaf2, table2}
+use Rattle.tagged_tlb.specs.declared.row.Kind.{Kind}
+use Rattle.tagged_tlb.specs.declared.row.Kind.TheVariants.{Leaf1, Table1, Leaf2, Table2}
 use Rattle.machine_spec.specs.Moments.{bank_after}
 use Rattle.machine_spec.specs.Invalidations.{event_at, inval_at, completes, IsComplete}
 use Rattle.machine_spec.specs.Marks.{Mark, marks, tag_by}
 use Rattle.machine_spec.specs.Kept.{View, now, regs_when, base_by, tag_of, IsHeld, IsKeptItem}
-use Rattle.machine_spec.specs.Rows.{Row}
+use Rattle.tagged_tlb.specs.declared.row.Row.{Row}
 use Rattle.machine_spec.specs.Machine.{Core}
 use Rattle.machine_laws.proofs.Trees.{chain}
 use Rattle.machine_laws.proofs.Facts.{In, sided, regime_for, IsLast, IsStored, IsRowBy, IsRow, AllApart, Facts}
@@ -31,7 +32,7 @@ use Rattle.machine_laws.proofs.Uses.{used_map}
 -- what a row promises holds of a weaker condition too, and doesn't look at its number
 pub numbered_by : (P Q : Side → Mark → Option ℕ → Type 0) → ((s : Side) (m : Mark) (o : Option ℕ) → P s m o → Q s m o) → (r : Row) (d : Made) (k : Kind)
     → IsRowBy P r k → IsRowBy Q (record r { made = d }) k
-numbered_by P Q f r d leaf1 h = λ a s.
+numbered_by P Q f r d Leaf1 h = λ a s.
     let g = h a (record { held = s.held; on = s.on; accepted = s.accepted }) in
     record {
       landing = g.landing;
@@ -42,7 +43,7 @@ numbered_by P Q f r d leaf1 h = λ a s.
           used_map (P (side_of a.va)) (Q (side_of a.va)) (f (side_of a.va)) None (marks (regime_for r.key.config a) (walk r.key.config false a) r.trail)
           g.stored;
     }
-numbered_by P Q f r d table1 h = (
+numbered_by P Q f r d Table1 h = (
   h.0,
   λ a s.
       let g = h.1 a (record { held = s.held; on = s.on; accepted = s.accepted }) in
@@ -56,11 +57,11 @@ numbered_by P Q f r d table1 h = (
         is = g.is;
         first = g.first;
         word = g.word;
-        not_leaf = g.not_leaf;
+        to_table = g.to_table;
         stored = used_map (P (side_of a.va)) (Q (side_of a.va)) (f (side_of a.va)) None (g.front ++ g.last ∷ []) g.stored;
       },
 )
-numbered_by P Q f r d leaf2 h = (
+numbered_by P Q f r d Leaf2 h = (
   h.0,
   h.1,
   λ s p x i.
@@ -72,7 +73,7 @@ numbered_by P Q f r d leaf2 h = (
         stored = used_map (P s) (Q s) (f s) None (marks (regime_of r.key.config s) (chain (regime_of r.key.config s) p x) r.trail) g.stored;
       },
 )
-numbered_by P Q f r d table2 h = (
+numbered_by P Q f r d Table2 h = (
   h.0,
   h.1,
   λ s p x i.

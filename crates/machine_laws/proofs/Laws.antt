@@ -16,7 +16,7 @@ use Rattle.walk_spec.specs.BothStages.{Landing, walk, is_refused1}
 use Rattle.machine_spec.specs.Marks.{table, leaf_of_stage2, Mark, marks, is_first, is_global}
 use Rattle.machine_spec.specs.Uses.{LastIs}
 use Rattle.machine_spec.specs.Allowed.{is_of_word, last_entry, last_entry1}
-use Rattle.machine_spec.specs.Rows.{holds}
+use Rattle.tagged_tlb.specs.Rows.{holds}
 use Rattle.machine_spec.specs.Made.{last_first}
 use Rattle.machine_laws.proofs.Trees.{IsOn, chain, Plan, fin, flat, IsSound, IsWords, IsWord, AllSecond}
 use Rattle.machine_laws.proofs.Facts.{regime_for}

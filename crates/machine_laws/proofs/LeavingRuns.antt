@@ -12,12 +12,13 @@ use Rattle.tlbi_ops.specs.Covers.{covers}
 use Rattle.walk_spec.specs.Needs.{regime_of}
 use Rattle.walk_spec.specs.Stage1.{untagged}
 use Rattle.walk_spec.specs.BothStages.{walk}
-use Rattle.machine_spec.specs.Header.{Header, shape_of}
+use Rattle.tagged_tlb.specs.Shapes.{shape_of}
+use Rattle.machine_spec.specs.Header.{Header}
 use Rattle.machine_spec.specs.Invalidations.{issued_by, completes}
 use Rattle.machine_spec.specs.Marks.{marks}
-use Rattle.machine_spec.specs.Rows.{Row}
+use Rattle.tagged_tlb.specs.declared.row.Row.{Row}
 use Rattle.machine_spec.specs.Made.{Maker, rows_of, combined_rows}
-use Rattle.machine_spec.specs.Sets.{Cache, same_set, filled}
+use Rattle.tagged_tlb.specs.Sets.{Cache, same_set, filled}
 use Rattle.machine_spec.specs.Served.{Reply, Halt, came, clash, served}
 use Rattle.machine_spec.specs.Machine.{Core, World, no_core, killed, Visit, visited_by, visit_of, core_numbered, regs_in, accessed, acted, moved, after_event, opened, world_after}
 use Rattle.machine_laws.specs.Leaving.{In, Used, effective, IsRemoved, used_by, used_here, used_at, uses_from, uses_of, IsEvicted, RowsLeaveForACause, LruLosesTheLongestUnused}
@@ -139,12 +140,12 @@ module _ (h : Header) (c : ℕ) where
       ap (λ v. (now.served ++ now.made) ++ v) (uses_more es (after_event h w d) e) ∙ sym (append_assoc (now.served ++ now.made) _ _)
 
   -- behind a run the rows of a core are ranked
-  abbrev IsRun : List Event → Type 0
+  abbrev pub IsRun : List Event → Type 0
   IsRun es =
       let w = world_after h es in
       (length w.cores ≡ h.cores) × IsRanked h c w.step (uses_of h c es) (core_numbered w c).cache.rows
 
-  run_ranked : c < h.cores → (es : List Event) → IsRun es
+  pub run_ranked : c < h.cores → (es : List Event) → IsRun es
   run_ranked lt es = from_end IsRun more first es
     where
       first : IsRun []

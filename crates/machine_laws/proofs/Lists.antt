@@ -2,7 +2,7 @@
 use Rattle.std.proofs.Common.{◌≡◌, ℕ, zero, suc, Bool, true, false, cond, List, [], ◌∷◌, ◌++◌, drop, ◌⊎◌, inl, inr, refl, sym, subst, append_assoc, append-nil, Option, Some, None}
 use Rattle.std.specs.Prelude.{filter, find}
 use Rattle.std.proofs.lemmas.Option.{same_Some}
-use Rattle.machine_spec.specs.Sets.{without}
+use Rattle.tagged_tlb.specs.Sets.{without}
 use Rattle.machine_laws.specs.Leaving.{In}
 
 module _ {X : Type 0} (P : List X → Type 0) (step : (xs : List X) (x : X) → P xs → P (xs ++ x ∷ [])) where

@@ -8,17 +8,20 @@ use Rattle.trails.specs.declared.step.Step.{Step}
 use Rattle.tlbi_ops.specs.declared.inval.Inval.{Inval}
 use Rattle.tagged_tlb.specs.declared.row.Made.{Made}
 use Rattle.walk_spec.specs.Ask.{done, ask, Fed, ended, lacks}
-use Rattle.walk_spec.specs.Needs.{Need, Region}
+use Rattle.walk_spec.specs.declared.region.Region.{Region}
+use Rattle.walk_spec.specs.Needs.{Need}
 use Rattle.walk_spec.specs.Steps.{End}
 use Rattle.walk_spec.specs.Stage1.{untagged}
 use Rattle.walk_spec.specs.BothStages.{Landing}
-use Rattle.machine_spec.specs.Header.{leaf1, keeps_rows}
+use Rattle.tagged_tlb.specs.declared.row.Kind.TheVariants.{Leaf1}
+use Rattle.tagged_tlb.specs.Shapes.{keeps_rows}
 use Rattle.machine_spec.specs.Moments.{regs_after}
 use Rattle.machine_spec.specs.Marks.{Mark, marks}
 use Rattle.machine_spec.specs.Kept.{View, now}
-use Rattle.machine_spec.specs.Rows.{Row, holds}
+use Rattle.tagged_tlb.specs.declared.row.Row.{Row}
+use Rattle.tagged_tlb.specs.Rows.{holds}
 use Rattle.machine_spec.specs.Made.{Maker, rows_of, combined_rows, rows_made}
-use Rattle.machine_spec.specs.Sets.{added, touched}
+use Rattle.tagged_tlb.specs.Sets.{added, touched}
 use Rattle.machine_spec.specs.Served.{came, Reply}
 use Rattle.machine_spec.specs.Machine.{Core}
 use Rattle.machine_laws.proofs.Facts.{In, sided, regime_for, IsStored, IsRowBy, IsRow, IsApart1, Facts}
@@ -77,7 +80,7 @@ module _ (laws : Laws) (v : View) (w : Core) (a : Access) (s : Step) (r : Reply)
       (before_numbers end u c.0 (In-append (rows_of maker [] [] met) (combined_rows maker (untagged a.va) r.items met end) c.0 c.1)))
 
   -- no combined row before the step serves the same as one that was made
-  alone : (end : Fed Need (End Landing)) (y : Row) → In y (news end) → y.kind ≡ leaf1 → (x : Row) → In x w.cache.rows → IsApart1 x y
+  alone : (end : Fed Need (End Landing)) (y : Row) → In y (news end) → y.kind ≡ Leaf1 → (x : Row) → In x w.cache.rows → IsApart1 x y
   alone end y i ly x ix =
       let d = made_one maker (untagged a.va) r.items met end y i ly in
       let n : ℕ = end_class end in

@@ -40,12 +40,13 @@ use Rattle.walk_laws.proofs.Places.{class_up}
 use Rattle.walk_laws.proofs.Stage1.{IsStage2, asks_stage2}
 use Rattle.walk_laws.proofs.Sound.{sound1}
 use Rattle.walk_laws.proofs.Shifts.{of_fields, same_side}
-use Rattle.machine_spec.specs.Header.{Kind, table1, leaf2, table2}
+use Rattle.tagged_tlb.specs.declared.row.Kind.{Kind}
+use Rattle.tagged_tlb.specs.declared.row.Kind.TheVariants.{Table1 as table1, Leaf2 as leaf2, Table2 as table2}
 use Rattle.machine_spec.specs.Moments.{regs_after}
-use Rattle.machine_spec.specs.Marks.{Part, nothing, table, leaf_of_stage1, leaf_of_stage2, part1, part_of, Mark, mark, marks, is_first, is_leaf, has_asid, tag_by}
+use Rattle.machine_spec.specs.Marks.{Part, nothing, table, leaf_of_stage1, leaf_of_stage2, part1, part_of, Mark, mark, marks, is_first, is_leaf, is_table, has_asid, tag_by}
 use Rattle.machine_spec.specs.Uses.{AllUsed}
 use Rattle.machine_spec.specs.Kept.{View, now, regs_when, IsHeld, IsKeptItem}
-use Rattle.machine_spec.specs.Rows.{Row}
+use Rattle.tagged_tlb.specs.declared.row.Row.{Row}
 use Rattle.machine_spec.specs.Made.{Maker, key_of, key_for, made_in, row_of, only_if, rows_by, is_read_now, chain_with, rows_of}
 use Rattle.machine_laws.proofs.Trees.{IsOn, is_need1, needs_base, chain, Plan, fin, own, via, joined, flat, IsSound, IsWords, AllSecond}
 use Rattle.machine_laws.proofs.Facts.{In, sided, regime_for, IsStored, IsRow}
@@ -343,7 +344,7 @@ module _ (laws : Laws) (v : View) (s : Step) (none : (i : Inval) → issued_now 
                 is = t.same;
                 first = first;
                 word = base;
-                not_leaf = ap is_leaf part;
+                to_table = ap is_table part;
                 stored =
                     front_first (Good v) (Then (side_of b.va) r) (λ x u. closed (side_of b.va) r refl refl x u (both_same v.side (side_of b.va) x e)) None ws
                     m rest first

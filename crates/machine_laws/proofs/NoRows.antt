@@ -25,12 +25,13 @@ use Rattle.walk_spec.specs.Needs.{Need, stage1_base, stage2_base, word, WordNeed
 use Rattle.walk_spec.specs.Steps.{End}
 use Rattle.walk_spec.specs.BothStages.{Landing, is_refused1, walk}
 use Rattle.walk_spec.specs.Fresh.{start_base1, start_base2, given, fresh_items, fresh_outcome}
-use Rattle.machine_spec.specs.Header.{Header, keeps_rows}
+use Rattle.tagged_tlb.specs.Shapes.{keeps_rows}
+use Rattle.machine_spec.specs.Header.{Header}
 use Rattle.machine_spec.specs.Invalidations.{issued_by, completes}
 use Rattle.machine_spec.specs.Kept.{View}
 use Rattle.machine_spec.specs.Allowed.{is_earlier, has_word, is_changed}
-use Rattle.machine_spec.specs.Rows.{Row}
-use Rattle.machine_spec.specs.Sets.{Cache, added, touched, filled}
+use Rattle.tagged_tlb.specs.declared.row.Row.{Row}
+use Rattle.tagged_tlb.specs.Sets.{Cache, added, touched, filled}
 use Rattle.machine_spec.specs.Served.{Supplied, supplied_by, Place, supply, came, Reply, pushed, goes_on, serve, served}
 use Rattle.machine_spec.specs.Machine.{Core, World, no_core, killed, delivered_by, delivered, most_held, posted, mailed, mailed_by}
 use Rattle.machine_spec.specs.Machine.{Visited, Visit, is_old, is_stale, made_by, visited_by, visited, visit_of, core_numbered, regs_in, accessed, acted, moved}

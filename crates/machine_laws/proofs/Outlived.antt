@@ -24,10 +24,12 @@ use Rattle.walk_spec.specs.Needs.{Need, regime_of}
 use Rattle.walk_spec.specs.Steps.{End, stops, reaches}
 use Rattle.walk_spec.specs.Stage1.{untagged}
 use Rattle.walk_spec.specs.BothStages.{Landing, walk}
-use Rattle.machine_spec.specs.Header.{Header, Kind, table1, leaf2, table2}
+use Rattle.tagged_tlb.specs.declared.row.Kind.{Kind}
+use Rattle.tagged_tlb.specs.declared.row.Kind.TheVariants.{Table1, Leaf2, Table2}
+use Rattle.machine_spec.specs.Header.{Header}
 use Rattle.machine_spec.specs.Invalidations.{issued_by, completes}
 use Rattle.machine_spec.specs.Marks.{Part, nothing, table, leaf_of_stage1, leaf_of_stage2, Mark, marks, is_leaf1}
-use Rattle.machine_spec.specs.Rows.{Row}
+use Rattle.tagged_tlb.specs.declared.row.Row.{Row}
 use Rattle.machine_spec.specs.Made.{Maker, key_for, only_if, row_of, rows_by, is_read_now, chain_with, rows_of, last_first, leaf_row, leaf_rows, combined_rows, numbered, rows_made}
 use Rattle.machine_spec.specs.Served.{Place, Reply, Halt, came, clash, served}
 use Rattle.machine_spec.specs.Machine.{Core, World, no_core, delivered_by, delivered, most_held, posted, mailed, mailed_by, finished, Visit, made_by, visited_by, visit_of, core_numbered, regs_in, accessed, acted, moved, after_event, opened, world_after}
@@ -61,13 +63,13 @@ module _ (k : Maker) where
 
   by_new : (m : Mark) (whole chain : List Item) (s : Stage) (part : Part) (x : Row) → In x (rows_by k m whole chain s part) → IsNew k.step x
   by_new m whole chain S1 nothing x i = absurd i
-  by_new m whole chain S1 (table cached) x i = new_if cached k.step (row_of k m table1 whole) x (row_new m table1 whole) i
+  by_new m whole chain S1 (table cached) x i = new_if cached k.step (row_of k m Table1 whole) x (row_new m Table1 whole) i
   by_new m whole chain S1 (leaf_of_stage1 global) x i = absurd i
   by_new m whole chain S1 (leaf_of_stage2 cached) x i = absurd i
   by_new m whole chain S2 nothing x i = absurd i
-  by_new m whole chain S2 (table cached) x i = new_if cached k.step (row_of k m table2 chain) x (row_new m table2 chain) i
+  by_new m whole chain S2 (table cached) x i = new_if cached k.step (row_of k m Table2 chain) x (row_new m Table2 chain) i
   by_new m whole chain S2 (leaf_of_stage1 global) x i = absurd i
-  by_new m whole chain S2 (leaf_of_stage2 cached) x i = new_if cached k.step (row_of k m leaf2 chain) x (row_new m leaf2 chain) i
+  by_new m whole chain S2 (leaf_of_stage2 cached) x i = new_if cached k.step (row_of k m Leaf2 chain) x (row_new m Leaf2 chain) i
 
   read_new : (m : Mark) (whole chain : List Item) (b : Bool) (x : Row) → In x (cond b (rows_by k m whole chain m.stage m.part) []) → IsNew k.step x
   read_new m whole chain true x i = by_new m whole chain m.stage m.part x i

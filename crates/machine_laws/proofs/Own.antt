@@ -16,8 +16,10 @@ use Rattle.walk_spec.specs.Steps.{End}
 use Rattle.walk_spec.specs.Stage1.{untagged}
 use Rattle.walk_spec.specs.BothStages.{Landing, is_refused1, walk}
 use Rattle.walk_spec.specs.Fresh.{given}
-use Rattle.machine_spec.specs.Header.{Kind, leaf1, table1, leaf2, table2}
-use Rattle.machine_spec.specs.Rows.{Row, same_kind, holds, matches, matches1, matching, deepest}
+use Rattle.tagged_tlb.specs.declared.row.Kind.{Kind}
+use Rattle.tagged_tlb.specs.declared.row.Kind.TheVariants.{Leaf1, Table1, Leaf2, Table2}
+use Rattle.tagged_tlb.specs.declared.row.Row.{Row}
+use Rattle.tagged_tlb.specs.Rows.{same_kind, holds, matches, matches1, matching, deepest}
 use Rattle.machine_spec.specs.Made.{key_of}
 use Rattle.machine_spec.specs.Served.{Place, Supplied, supplied_by, chain_by, begun2, chain_of, fresh_of, supply, serve, begun1, combined, served}
 use Rattle.machine_laws.specs.Rules.{RowsServeTheirOwn}
@@ -90,8 +92,8 @@ module _ (p : Place) (a : Access) where
   supply_named : (n : Need) → NamesLive own_rows (supply p a n)
   supply_named stage1_base = fresh_named stage1_base
   supply_named (stage2_base x) =
-      chain_of_named own_rows (fresh_of p a (stage2_base x)) (fresh_named (stage2_base x)) (matching (matches leaf2 (key_of p.regs) x) p.rows)
-      (deepest (matches table2 (key_of p.regs) x) p.rows) (matched_own leaf2 x) (deepest_own table2 x)
+      chain_of_named own_rows (fresh_of p a (stage2_base x)) (fresh_named (stage2_base x)) (matching (matches Leaf2 (key_of p.regs) x) p.rows)
+      (deepest (matches Table2 (key_of p.regs) x) p.rows) (matched_own Leaf2 x) (deepest_own Table2 x)
   supply_named (word w) = fresh_named (word w)
 
   begun1_own : (w : Ask Need Item (End Landing)) (t : Option Row) → ((r : Row) → t ≡ Some r → In r own_rows)
@@ -111,13 +113,13 @@ module _ (p : Place) (a : Access) where
   its_walk = walk (config_of p.regs) true a
 
   abbrev leaves : List Row
-  leaves = matching (matches1 leaf1 (key_of p.regs) (untagged a.va)) p.rows
+  leaves = matching (matches1 Leaf1 (key_of p.regs) (untagged a.va)) p.rows
 
   abbrev the_table : Option Row
-  the_table = deepest (matches1 table1 (key_of p.regs) (untagged a.va)) p.rows
+  the_table = deepest (matches1 Table1 (key_of p.regs) (untagged a.va)) p.rows
 
   served_if : (on : Bool) (x : Row) → In x (cond on (combined leaves the_table (supply p a) its_walk) (serve (supply p a) [] its_walk)).by → In x own_rows
-  served_if true x m = combined_own its_walk leaves the_table (matched1_own leaf1 (untagged a.va)) (deepest1_own table1 (untagged a.va)) x m
+  served_if true x m = combined_own its_walk leaves the_table (matched1_own Leaf1 (untagged a.va)) (deepest1_own Table1 (untagged a.va)) x m
   served_if false x m = serve_live (supply p a) own_rows supply_named its_walk [] x m
 
   -- a row that served is live, and of the register fields and the VMID

@@ -1,7 +1,7 @@
 -- Lists of which each element is in a relation with every later one.
 use Rattle.std.proofs.Common.{ℕ, zero, suc, Bool, true, false, cond, List, [], ◌∷◌, ◌++◌, inl, inr, refl, sym, subst}
 use Rattle.std.specs.Prelude.{filter}
-use Rattle.machine_spec.specs.Sets.{without}
+use Rattle.tagged_tlb.specs.Sets.{without}
 use Rattle.machine_laws.specs.Leaving.{In}
 use Rattle.machine_laws.proofs.Lists.{In-from_filter, In-push_cases, In-without}
 

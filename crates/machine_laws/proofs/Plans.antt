@@ -23,7 +23,7 @@ use Rattle.machine_spec.specs.Marks.{Mark, mark, marks}
 use Rattle.machine_spec.specs.Uses.{next_first, above_of, AllUsed, LastIs}
 use Rattle.machine_spec.specs.Kept.{View, now, IsNowBase}
 use Rattle.machine_spec.specs.Allowed.{is_of_word, IsNowOf}
-use Rattle.machine_spec.specs.Rows.{Row}
+use Rattle.tagged_tlb.specs.declared.row.Row.{Row}
 use Rattle.machine_spec.specs.Served.{Supplied, gives, halts, clash, supplied_by, supply, came, Reply, pushed, goes_on, serve}
 use Rattle.machine_laws.proofs.Trees.{IsOn, is_need1, needs_base, chain, Plan, fin, own, via, joined, flat, rest_by, IsSound, IsSecond, IsWords, AllSecond}
 use Rattle.machine_laws.proofs.Facts.{regime_for}

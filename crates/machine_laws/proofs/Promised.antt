@@ -18,10 +18,10 @@ use Rattle.machine_laws.proofs.Theorem.{runs_allowed}
 use Rattle.machine_laws.proofs.Unchanged.{unchanged_is_fresh}
 use Rattle.machine_laws.proofs.NoRows.{fresh_without_rows}
 
-all_served : ServesWell
+pub all_served : ServesWell
 all_served = serves_well laws_hold (plans_are_fine laws_hold)
 
-all_made : MakesWell
+pub all_made : MakesWell
 all_made = makes_well laws_hold
 
 pub runs_are_allowed : RunsAreAllowed

@@ -8,10 +8,10 @@ use Rattle.trace_lang.specs.declared.header.Policy.{Policy}
 use Rattle.trace_lang.specs.declared.header.Policy.TheVariants.{Lru, Fifo, Random}
 use Rattle.tlbi_ops.specs.declared.inval.Inval.{Inval}
 use Rattle.tlbi_ops.specs.Covers.{covers}
-use Rattle.machine_spec.specs.Header.{keeps_rows}
+use Rattle.tagged_tlb.specs.Shapes.{keeps_rows}
 use Rattle.machine_spec.specs.Invalidations.{completes}
-use Rattle.machine_spec.specs.Rows.{Row}
-use Rattle.machine_spec.specs.Sets.{Cache, touched}
+use Rattle.tagged_tlb.specs.declared.row.Row.{Row}
+use Rattle.tagged_tlb.specs.Sets.{Cache, touched}
 use Rattle.machine_spec.specs.Machine.{acted}
 use Rattle.machine_laws.specs.Rules.{QuietEventsKeepRows, NoRowsMadeChangesNone, NothingCoveredChangesNothing, BarrierEmptiesInboxes}
 

@@ -26,7 +26,8 @@ use Rattle.walk_spec.specs.declared.entry.Entry1.{Entry1}
 use Rattle.walk_spec.specs.declared.leaf.Leaf1.{Leaf1}
 use Rattle.walk_spec.specs.declared.leaf.Leaf2.{Leaf2}
 use Rattle.walk_spec.specs.Ask.{Ask, done, ask, after, on}
-use Rattle.walk_spec.specs.Needs.{Regime, regime_of, Need, stage1_base, stage2_base, word, WordNeed, fits, Region}
+use Rattle.walk_spec.specs.declared.region.Region.{Region}
+use Rattle.walk_spec.specs.Needs.{Regime, regime_of, Need, stage1_base, stage2_base, word, WordNeed, fits}
 use Rattle.walk_spec.specs.Steps.{End, stops, reaches, step_then}
 use Rattle.walk_spec.specs.Stage2.{is_refused2}
 use Rattle.walk_spec.specs.Stage1.{Asked, untagged, entry1, step1, walk1_from, is_readable}
@@ -37,7 +38,7 @@ use Rattle.walk_laws.proofs.Shifts.{of_fields, same_side}
 use Rattle.walk_laws.proofs.Stage1.{under}
 use Rattle.walk_laws.proofs.Tables1.{Opens, is_open, tables1_in_step}
 use Rattle.machine_spec.specs.Marks.{table, Mark, mark, marks, is_first, part_of, part1}
-use Rattle.machine_spec.specs.Rows.{holds}
+use Rattle.tagged_tlb.specs.Rows.{holds}
 use Rattle.machine_laws.proofs.Trees.{IsOn, chain, Plan, fin, own, via, joined, flat, rest_by, IsSound, AllSecond}
 use Rattle.machine_laws.proofs.Facts.{regime_for}
 use Rattle.machine_laws.proofs.Laws.{FirstTable}

@@ -18,7 +18,8 @@ use Rattle.table_reads.specs.declared.lead.Lead.TheVariants.{Down, Reached, Stop
 use Rattle.table_reads.specs.Places.{is_too_large}
 use Rattle.walk_spec.specs.declared.leaf.Leaf2.{Leaf2}
 use Rattle.walk_spec.specs.Ask.{Ask, done, ask}
-use Rattle.walk_spec.specs.Needs.{Regime, regime_of, Need, stage1_base, stage2_base, word, WordNeed, fits, mapping_of, mapping2, class_by, sizes_of, Region}
+use Rattle.walk_spec.specs.declared.region.Region.{Region}
+use Rattle.walk_spec.specs.Needs.{Regime, regime_of, Need, stage1_base, stage2_base, word, WordNeed, fits, mapping_of, mapping2, class_by, sizes_of}
 use Rattle.walk_spec.specs.Steps.{End, stops, reaches, step_then}
 use Rattle.walk_spec.specs.Stage2.{Asked2, fault2, leaf2_of, step2, walk2_from, walk2_behind, is_refused2, walk2}
 use Rattle.walk_spec.specs.Stage1.{asked2}
@@ -31,7 +32,7 @@ use Rattle.walk_laws.proofs.Levels.{beneath}
 use Rattle.walk_laws.proofs.Stage2.{down2, walk2_levels, class2, behind2, Stepped2, stepped2, reached2}
 use Rattle.walk_laws.proofs.Tables2.{level_of_one, fit_level}
 use Rattle.machine_spec.specs.Marks.{Part, nothing, table, leaf_of_stage2, Mark, mark, marks, part_of, part2}
-use Rattle.machine_spec.specs.Rows.{holds}
+use Rattle.tagged_tlb.specs.Rows.{holds}
 use Rattle.machine_laws.proofs.Trees.{IsOn, chain, IsWords}
 use Rattle.machine_laws.proofs.Laws.{ChainLeaf, ChainTable}
 use Rattle.machine_laws.proofs.Stands.{words_on, marks_nil}

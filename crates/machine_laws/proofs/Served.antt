@@ -21,13 +21,15 @@ use Rattle.walk_spec.specs.Stage1.{asked2, stands2, untagged}
 use Rattle.walk_spec.specs.BothStages.{Landing, walk, is_refused1, outcome_of}
 use Rattle.walk_spec.specs.Fresh.{fed_outcome}
 use Rattle.walk_laws.specs.Shift.{stands}
-use Rattle.machine_spec.specs.Header.{Kind, leaf1, table1}
+use Rattle.tagged_tlb.specs.declared.row.Kind.{Kind}
+use Rattle.tagged_tlb.specs.declared.row.Kind.TheVariants.{Leaf1 as leaf1, Table1 as table1}
 use Rattle.machine_spec.specs.Moments.{regs_after, memory_after}
-use Rattle.machine_spec.specs.Marks.{Mark, mark, marks, is_first}
+use Rattle.machine_spec.specs.Marks.{Mark, Part, nothing, table, leaf_of_stage1, leaf_of_stage2, mark, marks, is_first, is_leaf, is_table}
 use Rattle.machine_spec.specs.Uses.{use_of, above_of, AllUsed, LastIs}
 use Rattle.machine_spec.specs.Kept.{View, now, regs_when, IsKeptNow, IsNowBase, IsKept}
 use Rattle.machine_spec.specs.Allowed.{is_of_word, IsNowOf, FaultIsRead, last_entry, last_entry1, Case, IsEnded, IsLacking, IsTwice, IsForked, Reaches, IsConflict, IsRight}
-use Rattle.machine_spec.specs.Rows.{Row, holds, matches1, is_older, inserted, by_making, matching, deepest}
+use Rattle.tagged_tlb.specs.declared.row.Row.{Row}
+use Rattle.tagged_tlb.specs.Rows.{holds, matches1, is_older, inserted, by_making, matching, deepest}
 use Rattle.machine_spec.specs.Made.{key_of, last_first}
 use Rattle.machine_spec.specs.Served.{Supplied, supply, Halt, came, clash, Reply, pushed, halted, serve, taken, credited, begun1, combined, served}
 use Rattle.machine_spec.specs.Machine.{Core}
@@ -130,6 +132,12 @@ stage_of S1 S1 h e = h
 stage_of S1 S2 h e = absurd cc
 stage_of S2 S1 h e = refl
 stage_of S2 S2 h e = refl
+
+table_no_leaf : (p : Part) → is_table p ≡ true → is_leaf p ≡ false
+table_no_leaf nothing h = refl
+table_no_leaf (table cached) h = refl
+table_no_leaf (leaf_of_stage1 global) h = absurd cc
+table_no_leaf (leaf_of_stage2 cached) h = absurd cc
 
 -- behind a table's word, the last base is that of what follows
 table_base : (k : ℕ) (front : List Mark) (m : Mark) (ms : List Mark) → IsWord m → LastIs (IsNowBase k) ms → LastIs (IsNowBase k) (front ++ m ∷ ms)
@@ -292,7 +300,7 @@ module _ (laws : Laws) (plans : PlansAreFine) (v : View) (w : Core) (a : Access)
     is = t.is;
     first = t.first;
     word = t.word;
-    not_leaf = t.not_leaf;
+    to_table = t.to_table;
     stored = good_all r s asid (t.front ++ t.last ∷ []) t.stored;
   })
 
@@ -319,7 +327,7 @@ module _ (laws : Laws) (plans : PlansAreFine) (v : View) (w : Core) (a : Access)
         on = t.on;
         kept = λ items h. (
           subst (AllUsed (Good v) None) (sym (eq items))
-              (table_append (Good v) (now v) (opened v) None t.front t.last (marks rg (flat rg t.plan) items) t.first t.not_leaf h.next t.stored h.used),
+              (table_append (Good v) (now v) (opened v) None t.front t.last (marks rg (flat rg t.plan) items) t.first (table_no_leaf t.last.part t.to_table) h.next t.stored h.used),
           subst (LastIs (IsNowBase (now v))) (sym (eq items)) (table_base (now v) t.front t.last (marks rg (flat rg t.plan) items) t.word h.last_base),
         );
         last = λ g q. subst (LastOk (now v) g) (sym t.is) (table_last trail t g (flat_fin rg t.plan g q));

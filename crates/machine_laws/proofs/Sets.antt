@@ -6,9 +6,13 @@ use Rattle.std.proofs.lemmas.Bool.{and_from, both_ways, cases_Bool, eq-eqb}
 use Rattle.std.proofs.lemmas.List.Elements.{filter-append}
 use Rattle.trace_lang.specs.declared.header.Policy.{Policy}
 use Rattle.trace_lang.specs.declared.header.Policy.TheVariants.{Lru, Fifo, Random}
-use Rattle.machine_spec.specs.Header.{Header, Kind, leaf1, table1, leaf2, table2, Shape, shape_of, keeps_rows}
-use Rattle.machine_spec.specs.Rows.{Row, same_kind}
-use Rattle.machine_spec.specs.Sets.{Cache, victim, without, same_set, same_key, placed, added, is_row, to_end, touched, filled}
+use Rattle.tagged_tlb.specs.declared.row.Kind.{Kind}
+use Rattle.tagged_tlb.specs.declared.row.Kind.TheVariants.{Leaf1, Table1, Leaf2, Table2}
+use Rattle.tagged_tlb.specs.Shapes.{Shape, shape_of, keeps_rows}
+use Rattle.machine_spec.specs.Header.{Header}
+use Rattle.tagged_tlb.specs.declared.row.Row.{Row}
+use Rattle.tagged_tlb.specs.Rows.{same_kind}
+use Rattle.tagged_tlb.specs.Sets.{Cache, victim, without, same_set, same_key, placed, added, is_row, to_end, touched, filled}
 use Rattle.machine_laws.specs.Rules.{SetLoses, FullSetsLoseOne}
 use Rattle.machine_laws.proofs.Facts.{In}
 use Rattle.machine_laws.proofs.Lists.{In-from_filter, In-push_cases, In-without}
@@ -54,10 +58,10 @@ filter-other p q apart (x ∷ xs) (suc n) = other_later p q x xs n (p x) (filter
 -- ONE SET
 
 pub kind_itself : (k : Kind) → same_kind k k ≡ true
-kind_itself leaf1 = refl
-kind_itself table1 = refl
-kind_itself leaf2 = refl
-kind_itself table2 = refl
+kind_itself Leaf1 = refl
+kind_itself Table1 = refl
+kind_itself Leaf2 = refl
+kind_itself Table2 = refl
 
 -- a row is in its own set
 pub same_set_itself : (s : Shape) (r : Row) → same_set s r r ≡ true

@@ -22,7 +22,7 @@ use Rattle.machine_spec.specs.Header.{Header}
 use Rattle.machine_spec.specs.Moments.{regs_after, memory_after}
 use Rattle.machine_spec.specs.Kept.{View, now, regs_when}
 use Rattle.machine_spec.specs.Allowed.{is_changed, is_conflict, Case, IsRight, IsAnswer, case_of, IsAllowed, AllAllowed}
-use Rattle.machine_spec.specs.Sets.{Cache}
+use Rattle.tagged_tlb.specs.Sets.{Cache}
 use Rattle.machine_spec.specs.Served.{Place, Reply, Halt, came, clash, served}
 use Rattle.machine_spec.specs.Machine.{Core, World, no_core, visited_by, visited, core_numbered, opened, after_event, world_after, answer_in, answer_to, step_of, run_from, run_of}
 use Rattle.trace_lang.specs.Traces.{core_of}

@@ -9,10 +9,11 @@ use Rattle.trace_lang.specs.declared.header.Policy.TheVariants.{Lru}
 use Rattle.tlbi_ops.specs.declared.inval.Inval.{Inval}
 use Rattle.tlbi_ops.specs.Operands.{reaches_core}
 use Rattle.tlbi_ops.specs.Covers.{covers}
-use Rattle.machine_spec.specs.Header.{Header, shape_of}
+use Rattle.tagged_tlb.specs.Shapes.{shape_of}
+use Rattle.machine_spec.specs.Header.{Header}
 use Rattle.machine_spec.specs.Invalidations.{issued_by, completes}
-use Rattle.machine_spec.specs.Rows.{Row}
-use Rattle.machine_spec.specs.Sets.{Cache, victim, same_set, same_key, is_row, filled}
+use Rattle.tagged_tlb.specs.declared.row.Row.{Row}
+use Rattle.tagged_tlb.specs.Sets.{Cache, victim, same_set, same_key, is_row, filled}
 use Rattle.machine_spec.specs.Served.{Place, Reply, Halt, came, clash, served}
 use Rattle.machine_spec.specs.Machine.{World, most_held, made_by, visit_of, core_numbered, regs_in, after_event, opened, world_after}
 

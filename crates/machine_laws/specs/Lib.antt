@@ -9,9 +9,10 @@ pub use Rattle.machine_spec.specs.Uses
 pub use Rattle.machine_spec.specs.Kept
 pub use Rattle.machine_spec.specs.Allowed
 pub use Rattle.machine_spec.specs.Unchanged
-pub use Rattle.machine_spec.specs.Rows
+pub use Rattle.tagged_tlb.specs.Shapes
+pub use Rattle.tagged_tlb.specs.Rows
 pub use Rattle.machine_spec.specs.Made
-pub use Rattle.machine_spec.specs.Sets
+pub use Rattle.tagged_tlb.specs.Sets
 pub use Rattle.machine_spec.specs.Served
 pub use Rattle.machine_spec.specs.Machine
 pub mod Headline
@@ -20,3 +21,4 @@ pub mod NotAllowed
 pub mod NotAllowedRuns
 pub mod Rules
 pub mod Leaving
+pub mod MayServe

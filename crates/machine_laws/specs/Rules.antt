@@ -12,9 +12,10 @@ use Rattle.trails.specs.declared.outcome.Access.{Access}
 use Rattle.trace_lang.specs.declared.header.Policy.TheVariants.{Lru}
 use Rattle.tlbi_ops.specs.declared.inval.Inval.{Inval}
 use Rattle.tlbi_ops.specs.Covers.{covers}
-use Rattle.machine_spec.specs.Header.{Header, Shape}
-use Rattle.machine_spec.specs.Rows.{Row}
-use Rattle.machine_spec.specs.Sets.{Cache, victim, same_set, placed, filled}
+use Rattle.tagged_tlb.specs.Shapes.{Shape}
+use Rattle.machine_spec.specs.Header.{Header}
+use Rattle.tagged_tlb.specs.declared.row.Row.{Row}
+use Rattle.tagged_tlb.specs.Sets.{Cache, victim, same_set, placed, filled}
 use Rattle.machine_spec.specs.Served.{Place, served}
 use Rattle.machine_spec.specs.Machine.{Core, World, killed, core_numbered, moved, regs_in, world_after}
 use Rattle.machine_laws.specs.Headline.{AreOfCores}

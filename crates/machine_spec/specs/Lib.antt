@@ -17,6 +17,9 @@ pub use Rattle.walk_spec.specs.BothStages
 pub use Rattle.walk_spec.specs.Fresh
 pub use Rattle.tlbi_ops.specs.Operands
 pub use Rattle.tlbi_ops.specs.Covers
+pub use Rattle.tagged_tlb.specs.Shapes
+pub use Rattle.tagged_tlb.specs.Rows
+pub use Rattle.tagged_tlb.specs.Sets
 pub mod Header
 pub mod Moments
 pub mod Invalidations
@@ -25,9 +28,7 @@ pub mod Uses
 pub mod Kept
 pub mod Allowed
 pub mod Unchanged
-pub mod Rows
 pub mod Made
-pub mod Sets
 pub mod Served
 pub mod Machine
 pub mod Summary

@@ -25,9 +25,9 @@ use Rattle.machine_spec.specs.Moments.{zeros, stored, Bank, no_bank, banked}
 use Rattle.machine_spec.specs.Invalidations.{issued_by, completes}
 use Rattle.machine_spec.specs.Marks.{marks}
 use Rattle.machine_spec.specs.Allowed.{is_earlier, is_changed}
-use Rattle.machine_spec.specs.Rows.{Row}
+use Rattle.tagged_tlb.specs.declared.row.Row.{Row}
 use Rattle.machine_spec.specs.Made.{rows_made}
-use Rattle.machine_spec.specs.Sets.{Cache, filled}
+use Rattle.tagged_tlb.specs.Sets.{Cache, filled}
 use Rattle.machine_spec.specs.Served.{Place, Reply, Halt, came, clash, served}
 
 -- a core: its registers with their queue, the invalidations that have reached it and have not taken effect, oldest first,

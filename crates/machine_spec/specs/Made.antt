@@ -13,9 +13,10 @@ use Rattle.walk_spec.specs.Ask.{Fed, ended, lacks}
 use Rattle.walk_spec.specs.Needs.{Need}
 use Rattle.walk_spec.specs.Steps.{End, stops, reaches}
 use Rattle.walk_spec.specs.BothStages.{Landing}
-use Rattle.machine_spec.specs.Header.{Kind, leaf1, table1, leaf2, table2}
+use Rattle.tagged_tlb.specs.declared.row.Kind.{Kind}
+use Rattle.tagged_tlb.specs.declared.row.Kind.TheVariants.{Leaf1, Table1, Leaf2, Table2}
 use Rattle.machine_spec.specs.Marks.{Part, nothing, table, leaf_of_stage1, leaf_of_stage2, Mark, is_first, is_leaf1, is_global, tag_by}
-use Rattle.machine_spec.specs.Rows.{Row}
+use Rattle.tagged_tlb.specs.declared.row.Row.{Row}
 
 -- under which registers a step makes rows, and which step it is
 pub record Maker : Type 0 where
@@ -53,13 +54,13 @@ only_if b r = if b then r ∷ [] else []
 -- items of its chain up to it. Both only where the word may be cached.
 abbrev pub rows_by : (maker : Maker) (mark : Mark) (whole chain : List Item) (stage : Stage) (part : Part) → List Row
 rows_by k m whole chain S1 nothing = []
-rows_by k m whole chain S1 (table cached) = only_if cached (row_of k m table1 whole)
+rows_by k m whole chain S1 (table cached) = only_if cached (row_of k m Table1 whole)
 rows_by k m whole chain S1 (leaf_of_stage1 global) = []
 rows_by k m whole chain S1 (leaf_of_stage2 cached) = []
 rows_by k m whole chain S2 nothing = []
-rows_by k m whole chain S2 (table cached) = only_if cached (row_of k m table2 chain)
+rows_by k m whole chain S2 (table cached) = only_if cached (row_of k m Table2 chain)
 rows_by k m whole chain S2 (leaf_of_stage1 global) = []
-rows_by k m whole chain S2 (leaf_of_stage2 cached) = only_if cached (row_of k m leaf2 chain)
+rows_by k m whole chain S2 (leaf_of_stage2 cached) = only_if cached (row_of k m Leaf2 chain)
 
 -- it was read in this step
 abbrev pub is_read_now : (maker : Maker) (mark : Mark) → Bool
@@ -84,7 +85,7 @@ last_first (m ∷ marks) = option_or (last_first marks) (if is_first m then Some
 
 -- the row of a stage 1 leaf with the stage 2 of its output: it serves the piece of both leaves around the address
 abbrev pub leaf_row : (maker : Maker) (class address : ℕ) (mark : Mark) (trail : List Item) → Row
-leaf_row k class x m trail = record (row_of k m leaf1 trail) {
+leaf_row k class x m trail = record (row_of k m Leaf1 trail) {
   global = is_global m.part;
   region = record { class = class; start = x / 2 ^ class };
 }

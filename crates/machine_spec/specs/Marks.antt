@@ -14,7 +14,8 @@ use Rattle.table_reads.specs.Places.{is_too_large}
 use Rattle.tlbi_ops.specs.declared.inval.Tag.{Tag}
 use Rattle.tlbi_ops.specs.Covers.{is_stage1}
 use Rattle.walk_spec.specs.Ask.{Ask, done, ask}
-use Rattle.walk_spec.specs.Needs.{Regime, Need, stage1_base, stage2_base, word, sizes_of, Region, region_of}
+use Rattle.walk_spec.specs.declared.region.Region.{Region}
+use Rattle.walk_spec.specs.Needs.{Regime, Need, stage1_base, stage2_base, word, sizes_of, region_of}
 
 -- What a word is: invalid, a table, a block or page of stage 1, which may be global, or one of stage 2; and whether it may
 -- be cached, which a word that gives a translation, address size or access flag fault may not. Of a stage 1 leaf that

@@ -12,8 +12,9 @@ use Rattle.walk_spec.specs.Steps.{End}
 use Rattle.walk_spec.specs.Stage1.{untagged}
 use Rattle.walk_spec.specs.BothStages.{Landing, is_refused1, walk}
 use Rattle.walk_spec.specs.Fresh.{given}
-use Rattle.machine_spec.specs.Header.{leaf1, table1, leaf2, table2}
-use Rattle.machine_spec.specs.Rows.{Row, matches, matches1, matching, deepest}
+use Rattle.tagged_tlb.specs.declared.row.Kind.TheVariants.{Leaf1, Table1, Leaf2, Table2}
+use Rattle.tagged_tlb.specs.declared.row.Row.{Row}
+use Rattle.tagged_tlb.specs.Rows.{matches, matches1, matching, deepest}
 use Rattle.machine_spec.specs.Made.{key_of}
 
 -- how a service halts: as the walk came out, or with two trails of which one would have to go on
@@ -63,7 +64,7 @@ abbrev pub supply : (place : Place) (access : Access) (need : Need) → Supplied
 supply p a stage1_base = fresh_of p a stage1_base
 supply p a (stage2_base x) =
     let k = key_of p.regs in
-    chain_of (fresh_of p a (stage2_base x)) (matching (matches leaf2 k x) p.rows) (deepest (matches table2 k x) p.rows)
+    chain_of (fresh_of p a (stage2_base x)) (matching (matches Leaf2 k x) p.rows) (deepest (matches Table2 k x) p.rows)
 supply p a (word w) = fresh_of p a (word w)
 
 -- what was served: the items, how it halted, and the rows that served, in the order of the trail
@@ -118,5 +119,5 @@ served p a =
     let x = untagged a.va in
     let w = walk c true a in
     if c.m && not (is_refused1 c a)
-    then combined (matching (matches1 leaf1 k x) p.rows) (deepest (matches1 table1 k x) p.rows) (supply p a) w
+    then combined (matching (matches1 Leaf1 k x) p.rows) (deepest (matches1 Table1 k x) p.rows) (supply p a) w
     else serve (supply p a) [] w

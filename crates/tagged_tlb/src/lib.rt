@@ -3,4 +3,4 @@
 
 mod row;
 
-pub use row::{Key, Made};
+pub use row::{Key, Kind, Made, Row};

@@ -1,4 +1,17 @@
 use sysregs::Config;
+use tlbi_ops::Tag;
+use trails::Trail;
+use walk_spec::Region;
+
+/// What a row keeps: a leaf of stage 1 combined with the stage 2 of its output, a table of stage 1, a leaf of stage 2, or a
+/// table of stage 2. A core has a cache of each.
+#[derive(Clone, Copy, Debug, PartialEq, Eq)]
+pub enum Kind {
+    Leaf1,
+    Table1,
+    Leaf2,
+    Table2,
+}
 
 /// When a row was made: at the end of a step, as the one of this number among the rows of that step.
 #[derive(Clone, Copy)]
@@ -13,4 +26,17 @@ pub struct Key {
     pub config: Config,
     pub vmid: u16,
     pub asid: u16,
+}
+
+/// A row: its trail; what an invalidation looks at; the registers under which it was made, of which the ASID of a row of stage 2
+/// is 0; the addresses that it serves; when it was made; its kind; and whether it is a leaf that serves under every ASID.
+#[derive(Drop)]
+pub struct Row {
+    pub trail: Trail,
+    pub tag: Tag,
+    pub key: Key,
+    pub region: Region,
+    pub made: Made,
+    pub kind: Kind,
+    pub global: bool,
 }

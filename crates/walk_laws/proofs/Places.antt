@@ -12,7 +12,8 @@ use Rattle.fault_codes.specs.declared.fault.Stage.{Stage}
 use Rattle.trails.specs.declared.item.Item.{Item}
 use Rattle.table_reads.specs.declared.sizes.Sizes.{Sizes}
 use Rattle.table_reads.specs.Places.{place_of}
-use Rattle.walk_spec.specs.Needs.{Regime, Need, word, fits, is_word, stage_eq, level_eq, sizes_of, mapping_of, serves_run, class_by, Region}
+use Rattle.walk_spec.specs.declared.region.Region.{Region}
+use Rattle.walk_spec.specs.Needs.{Regime, Need, word, fits, is_word, stage_eq, level_eq, sizes_of, mapping_of, serves_run, class_by}
 use Rattle.walk_spec.specs.Ask.{Ask, done, ask}
 use Rattle.walk_laws.specs.Regions.{region_met}
 use Rattle.walk_laws.proofs.Stepping.{Takes, InStep, LastIs}

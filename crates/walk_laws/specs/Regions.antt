@@ -2,7 +2,8 @@
 use Rattle.std.specs.Prelude.{List, [], ◌∷◌, Option, Some, None, map}
 use Rattle.trails.specs.declared.item.Item.{Item}
 use Rattle.walk_spec.specs.Ask.{Ask, done, ask}
-use Rattle.walk_spec.specs.Needs.{Regime, Need, stage1_base, stage2_base, word, Region, region_of}
+use Rattle.walk_spec.specs.declared.region.Region.{Region}
+use Rattle.walk_spec.specs.Needs.{Regime, Need, stage1_base, stage2_base, word, region_of}
 
 -- what a walk asked for, each with the item of a list that answered it
 abbrev pub met : {N I A : Type 0} → (walk : Ask N I A) (items : List I) → List (N × I)

@@ -18,7 +18,8 @@ use Rattle.trails.specs.declared.outcome.Access.{Access}
 use Rattle.table_reads.specs.Numbers.{sizes1, sizes2}
 use Rattle.walk_spec.specs.declared.leaf.Leaf2.{Leaf2}
 use Rattle.walk_spec.specs.Ask.{Stands, needs, bad, ends, on}
-use Rattle.walk_spec.specs.Needs.{Need, stage1_base, stage2_base, word, fits, regime_of, Region}
+use Rattle.walk_spec.specs.declared.region.Region.{Region}
+use Rattle.walk_spec.specs.Needs.{Need, stage1_base, stage2_base, word, fits, regime_of}
 use Rattle.walk_spec.specs.Steps.{End, stops, reaches}
 use Rattle.walk_spec.specs.Stage2.{walk2}
 use Rattle.walk_spec.specs.Stage1.{asked2, stands2}

@@ -17,6 +17,7 @@ use Rattle.trails.specs.declared.item.What.TheVariants.{Base, Word}
 use Rattle.table_reads.specs.declared.sizes.Sizes.{Sizes}
 use Rattle.table_reads.specs.Numbers.{sizes1, sizes2}
 use Rattle.table_reads.specs.Items.{word_item}
+use Rattle.walk_spec.specs.declared.region.Region.{Region}
 
 -- what steers the walk of an access: the register fields, the side of its address, and the numbers of both stages
 pub record Regime : Type 0 where
@@ -123,11 +124,6 @@ fits r (word w) i = fits_word r w i
 -- the item of a word that is needed, read at a moment
 abbrev pub needed_item : (moment : ℕ) (need : WordNeed) (value : ℕ) → Item
 needed_item k w value = word_item k w.stage (level_of w.left) w.place value
-
--- 2 ^ class bytes of addresses, the start-th of this size
-pub record Region : Type 0 where
-  pub class : ℕ
-  pub start : ℕ
 
 -- the class of what a word covers: that of its entry, or of its run where it is a block or page that counts as one
 abbrev pub class_by : (mapping : Option (ℕ × Bool)) (sizes : Sizes) (left pa : ℕ) → ℕ

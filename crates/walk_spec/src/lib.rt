@@ -3,6 +3,8 @@
 
 mod entry;
 mod leaf;
+mod region;
 
 pub use entry::{Entry1, Table1};
 pub use leaf::{Fields1, Fields2, Leaf1, Leaf2};
+pub use region::Region;

@@ -2,41 +2,30 @@
 use Rattle.std.specs.Prelude.{ℕ, ◌/◌, ◌^◌, Bool, true, false, ◌==◌, ◌&&◌, ◌||◌, nat_lt, if◌then◌else◌, List, []}
 use Rattle.std.specs.Prelude.{◌∷◌, filter, Option, Some, None}
 use Rattle.sysregs.specs.Equality.{same_fields}
-use Rattle.trails.specs.declared.item.Item.{Item}
-use Rattle.tlbi_ops.specs.declared.inval.Tag.{Tag}
 use Rattle.tagged_tlb.specs.declared.row.Key.{Key}
 use Rattle.tagged_tlb.specs.declared.row.Made.{Made}
-use Rattle.walk_spec.specs.Needs.{Region}
-use Rattle.machine_spec.specs.Header.{Kind, leaf1, table1, leaf2, table2}
-
--- A row: its kind, the registers' fields under which it was made (stage 2 has ASID 0), whether its leaf is global, the
--- addresses that it serves, when it was made, what an invalidation looks at, and its trail.
-pub record Row : Type 0 where
-  pub kind : Kind
-  pub key : Key
-  pub global : Bool
-  pub region : Region
-  pub made : Made
-  pub tag : Tag
-  pub trail : List Item
+use Rattle.tagged_tlb.specs.declared.row.Row.{Row}
+use Rattle.walk_spec.specs.declared.region.Region.{Region}
+use Rattle.tagged_tlb.specs.declared.row.Kind.{Kind}
+use Rattle.tagged_tlb.specs.declared.row.Kind.TheVariants.{Leaf1, Table1, Leaf2, Table2}
 
 abbrev pub same_kind : (a b : Kind) → Bool
-same_kind leaf1 leaf1 = true
-same_kind leaf1 table1 = false
-same_kind leaf1 leaf2 = false
-same_kind leaf1 table2 = false
-same_kind table1 leaf1 = false
-same_kind table1 table1 = true
-same_kind table1 leaf2 = false
-same_kind table1 table2 = false
-same_kind leaf2 leaf1 = false
-same_kind leaf2 table1 = false
-same_kind leaf2 leaf2 = true
-same_kind leaf2 table2 = false
-same_kind table2 leaf1 = false
-same_kind table2 table1 = false
-same_kind table2 leaf2 = false
-same_kind table2 table2 = true
+same_kind Leaf1 Leaf1 = true
+same_kind Leaf1 Table1 = false
+same_kind Leaf1 Leaf2 = false
+same_kind Leaf1 Table2 = false
+same_kind Table1 Leaf1 = false
+same_kind Table1 Table1 = true
+same_kind Table1 Leaf2 = false
+same_kind Table1 Table2 = false
+same_kind Leaf2 Leaf1 = false
+same_kind Leaf2 Table1 = false
+same_kind Leaf2 Leaf2 = true
+same_kind Leaf2 Table2 = false
+same_kind Table2 Leaf1 = false
+same_kind Table2 Table1 = false
+same_kind Table2 Leaf2 = false
+same_kind Table2 Table2 = true
 
 abbrev pub same_region : (a b : Region) → Bool
 same_region a b = (a.class == b.class) && (a.start == b.start)

@@ -6,8 +6,10 @@ use Rattle.std.specs.List.{list_any}
 use Rattle.sysregs.specs.Equality.{same_bool, same_fields}
 use Rattle.trace_lang.specs.declared.header.Policy.{Policy}
 use Rattle.trace_lang.specs.declared.header.Policy.TheVariants.{Lru, Fifo, Random}
-use Rattle.machine_spec.specs.Header.{Header, Shape, shape_of, keeps_rows}
-use Rattle.machine_spec.specs.Rows.{Row, same_kind, same_region}
+use Rattle.trace_lang.specs.Traces.{Header}
+use Rattle.tagged_tlb.specs.declared.row.Row.{Row}
+use Rattle.tagged_tlb.specs.Shapes.{Shape, shape_of, keeps_rows}
+use Rattle.tagged_tlb.specs.Rows.{same_kind, same_region}
 
 -- the rows of a core, in the order of rank, and how many were evicted so far
 pub record Cache : Type 0 where
