@@ -1,5 +1,5 @@
 -- A core with its inbox, tied to a core of the definitions before and behind what it does.
-use Rattle.std.proofs.Common.{◌≡◌, ◌⊎◌, inl, inr, ℕ, ◌+◌, ◌<◌, ◌≤◌, Bool, true, false, cond, List, [], ◌∷◌, ◌++◌, length, get_or, set, take, refl, sym, ap, ◌∙◌, subst, arith}
+use Rattle.std.proofs.Common.{◌≡◌, ◌⊎◌, inl, inr, ℕ, ◌+◌, ◌<◌, ◌≤◌, Bool, true, false, cond, List, [], ◌∷◌, length, get_or, set, take, refl, sym, ap, ◌∙◌, subst, arith}
 use Rattle.std.specs.Prelude.{fold, filter, if◌then◌else◌}
 use Rattle.std.proofs.Math.Nat.{eq-or-lt_of_le}
 use Rattle.std.proofs.lemmas.List.{get_or-set_same, get_or-set_other, get_or_default, take_more}
@@ -10,7 +10,7 @@ use Rattle.table_reads.specs.Memory.{Memory}
 use Rattle.machine_spec.specs.Header.{Header}
 use Rattle.machine_spec.specs.Moments.{Bank}
 use Rattle.machine_spec.specs.Sets.{Cache}
-use Rattle.machine_spec.specs.Machine.{Core, with_bank, killed, Visit, visit_of}
+use Rattle.machine_spec.specs.Machine.{Core, killed, visit_of}
 use Rattle.cpu_model.specs.Cores.{CoreState, HasOtherRows, Suits, AreCaches, visit_at}
 use Rattle.machine.specs.Seats.{SeatState, no_seat, IsSeatOf, world_with}
 

@@ -18,7 +18,7 @@ use Rattle.phys_mem.specs.Words.{Held, memory_of}
 use Rattle.machine_spec.specs.Header.{Header}
 use Rattle.machine_spec.specs.Moments.{zeros, stored}
 use Rattle.machine_spec.specs.Allowed.{IsAllowed}
-use Rattle.machine_spec.specs.Machine.{Core, World, no_core, moved, at_each, opened, after_event, world_after, answer_to, step_of, run_of}
+use Rattle.machine_spec.specs.Machine.{Core, World, no_core, moved, opened, after_event, world_after, answer_to, step_of, run_of}
 use Rattle.machine_laws.specs.Headline.{AreOfCores, RunsAreAllowed}
 use Rattle.machine_laws.proofs.Events.{each_at, each_length}
 use Rattle.machine_laws.proofs.Logs.{get-last}

@@ -1,10 +1,10 @@
-use Rattle.std.proofs.Common.{◌≡◌, ◌<◌, length, get_or, set, ap, subst, Some, true}
+use Rattle.std.proofs.Common.{◌≡◌, get_or, set, ap, subst, Some, true}
 use Rattle.trails.specs.declared.event.Event.{Event}
 use Rattle.trails.specs.declared.event.Event.TheVariants.{Access as AccessOf, Prefetch}
 use Rattle.trails.specs.Printed.{printed}
 use Rattle.phys_mem.specs.Words.{memory_of}
 use Rattle.machine_spec.specs.Machine.{World, Core, no_core, moved, answer_to}
-use Rattle.machine.specs.Seats.{no_seat, IsSeatOf, world_with, AreMoved}
+use Rattle.machine.specs.Seats.{IsSeatOf, world_with, AreMoved}
 use Rattle.machine.proofs.Acts.{seat_at, one_at, access_own, access_other, prefetch_own, prefetch_other, by_asked, line_text}
 use Rattle.machine.proofs.act.answer.Goals as goal
 

@@ -1,4 +1,4 @@
-use Rattle.std.proofs.Common.{◌≡◌, Bool, get_or, ap, ◌∙◌, subst, Some}
+use Rattle.std.proofs.Common.{Bool, get_or, ap, ◌∙◌, subst, Some}
 use Rattle.std.proofs.lemmas.List.{get_or_default}
 use Rattle.sysregs.specs.declared.regs.Regs.{Regs}
 use Rattle.tlbi_ops.specs.declared.inval.Inval.{Inval}

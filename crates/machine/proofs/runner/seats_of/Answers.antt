@@ -1,4 +1,4 @@
-use Rattle.std.proofs.Common.{arith, ◌≡◌, ◌≤◌, ◌+◌, ◌∙◌, ℕ, length, get_or, sym, subst}
+use Rattle.std.proofs.Common.{arith, ◌≡◌, ◌≤◌, ◌∙◌, ℕ, get_or, sym, subst}
 use Rattle.std.proofs.lemmas.List.{length-replicate, get_or-replicate}
 use Rattle.machine_spec.specs.Machine.{Core, no_core}
 use Rattle.machine.specs.Seats.{no_seat, IsSeatOf}
@@ -15,8 +15,8 @@ loop-number-preserved c =
       longer _ _ c.in_ok-seat.seat c.loop-number.number i.0 e.items,
       rw e.capacity i.1,
       (λ h size policy.
-      each_more (λ d seat. IsSeatOf h d no_core seat) no_seat _ _ c.in_ok-seat.seat c.loop-number.number i.0 (i.2 h size policy)
-      (c.in_ok-seat.ensures h size policy) e.items),
+          each_more (λ d seat. IsSeatOf h d no_core seat) no_seat _ _ c.in_ok-seat.seat c.loop-number.number i.0 (i.2 h size policy)
+          (c.in_ok-seat.ensures h size policy) e.items),
     )
 
 pub returns-clause-each : goal.returns-clause-each

@@ -1,8 +1,7 @@
-use Rattle.std.proofs.Common.{refl, ap, ◌∙◌, subst}
+use Rattle.std.proofs.Common.{ap, ◌∙◌, subst}
 use Rattle.phys_mem.specs.Words.{memory_of}
-use Rattle.machine_spec.specs.Sets.{Cache}
 use Rattle.machine_spec.specs.Machine.{Visit, visited}
-use Rattle.cpu_model.specs.Cores.{AreCaches, visit_at}
+use Rattle.cpu_model.specs.Cores.{AreCaches}
 use Rattle.machine.specs.Seats.{SeatState}
 use Rattle.machine.proofs.Seated.{other_rows, visit_is}
 use Rattle.machine.proofs.seat.Seat.access.Goals as goal

@@ -1,4 +1,4 @@
-use Rattle.std.proofs.Common.{rules, not, sym, ap, ◌∙◌, subst}
+use Rattle.std.proofs.Common.{rules, not, ap, ◌∙◌, subst}
 use Rattle.std.specs.Prelude.{List, fold, filter}
 use Rattle.std.proofs.lemmas.Fn.{filter_same}
 use Rattle.trails.specs.declared.event.Event.TheVariants.{Dsb}
