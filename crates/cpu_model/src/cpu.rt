@@ -7,8 +7,9 @@ ghost use Rattle.phys_mem.specs.Words.{memory_of};
 ghost use Rattle.trace_lang.specs.declared.header.Size.TheVariants.{NoRows};
 ghost use Rattle.machine_spec.specs.Header.{Header};
 ghost use Rattle.machine_spec.specs.Moments.{written, settled, drained, queued};
+ghost use Rattle.machine_spec.specs.Sets.{Cache};
 ghost use Rattle.machine_spec.specs.Machine.{killed, visited};
-ghost use Rattle.cpu_model.specs.Cores.{new_core, cpu_with_bank, cpu_with_cache, Suits, visit_at};
+ghost use Rattle.cpu_model.specs.Cores.{no_rows, new_core, cpu_with_bank, HasOtherRows, Suits, AreCaches, visit_at};
 
 use crate::words::Words;
 use bitwords::NoMemory;
@@ -38,7 +39,7 @@ pub struct Cpu {
 impl Model for Cpu {
     ghost use Rattle.std.specs.Prelude.{◌≡◌, ◌≤◌, vec_capacity};
     ghost use Rattle.trace_lang.specs.declared.header.Size.TheVariants.{NoRows};
-    ghost use Rattle.cpu_model.specs.Cores.{CoreState, no_rows, IsBank};
+    ghost use Rattle.cpu_model.specs.Cores.{CoreState, IsBank};
 
     ghost Value = { CoreState };
 
@@ -47,7 +48,6 @@ impl Model for Cpu {
       size = s.size;
       policy = s.policy;
       bank = record { regs = s.force; queue = s.queue.items };
-      cache = no_rows;
     } };
 
     ghost invariant = { λ s. IsBank (record { regs = s.force; queue = s.queue.items }) × (64 ≤ vec_capacity s.queue) × (s.size ≡ NoRows) };
@@ -75,7 +75,8 @@ impl Cpu {
     /// A core of a number whose registers are all 0. It keeps no rows.
     pub fn opened(alloc: Global, number: u8, size: Size, policy: Policy) -> Result<Cpu, NoMemory>
         requires { size ≡ NoRows }
-        ensures { IfOk result (λ c. c ≡ new_core number size policy) }
+        ensures core { IfOk result (λ c. c ≡ new_core number size policy) }
+        ensures rows { IfOk result (λ c. (h : Header) → Suits h c → AreCaches h number no_rows c) }
     {
         let Ok(queue) = Vec::with_capacity(alloc, MOST_QUEUED) else {
             return Err(NoMemory);
@@ -128,7 +129,9 @@ impl Cpu {
 
     /// An invalidation takes effect: the rows that it covers go. There are none.
     pub fn take(&mut self, _inval: &Inval)
-        ensures { self.new ≡ cpu_with_cache self.old (killed self.old.cache _inval.now) }
+        ensures rest { HasOtherRows self.old self.new }
+        ensures rows { (h : Header) → (l : Cache) → Suits h self.old → AreCaches h self.old.number l self.old →
+            AreCaches h self.old.number (killed l _inval.now) self.new }
     {
         let _no_rows = self.size;
     }
@@ -136,9 +139,11 @@ impl Cpu {
     /// Writes the answer of an access at a moment, which is the number of the step, where an earlier one stood. Without rows
     /// it is the walk of that moment.
     pub fn access(&mut self, phys: &Phys, moment: u32, access: &Access, answer: &mut Answer)
-        ensures answer { (h : Header) → Suits h self.old → answer.new ≡ (visited (visit_at h self.old (memory_of phys.now) moment) access.now).answer }
-        ensures after { (h : Header) → Suits h self.old →
-            self.new ≡ cpu_with_cache self.old (visited (visit_at h self.old (memory_of phys.now) moment) access.now).cache }
+        ensures answer { (h : Header) → (l : Cache) → Suits h self.old → AreCaches h self.old.number l self.old →
+            answer.new ≡ (visited (visit_at h self.old l (memory_of phys.now) moment) access.now).answer }
+        ensures rest { HasOtherRows self.old self.new }
+        ensures rows { (h : Header) → (l : Cache) → Suits h self.old → AreCaches h self.old.number l self.old →
+            AreCaches h self.old.number (visited (visit_at h self.old l (memory_of phys.now) moment) access.now).cache self.new }
         ensures line { HasLine (printed true answer.new.outcome) }
     {
         let mut words = Words { phys };

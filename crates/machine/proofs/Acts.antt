@@ -1,9 +1,9 @@
 -- What an event does to one core, and to each.
-use Rattle.std.proofs.Common.{◌≡◌, ℕ, ◌<◌, Bool, true, false, cond, List, [], ◌∷◌, length, get_or, set, refl, sym, ap, ◌∙◌, subst, inl, inr, Option, Some, None}
+use Rattle.std.proofs.Common.{◌≡◌, ℕ, ◌<◌, Bool, true, false, cond, List, [], ◌∷◌, length, get_or, set, refl, sym, ap, subst, inl, inr, Option, Some, None}
 use Rattle.std.specs.Prelude.{nat_lt}
 use Rattle.std.proofs.lemmas.Bool.{cases_eq, eq-eqb, ne_eqb}
 use Rattle.std.proofs.lemmas.Option.{none-some}
-use Rattle.std.proofs.lemmas.List.{get_or-set_same, get_or-set_other, get_or_default, get_or-map}
+use Rattle.std.proofs.lemmas.List.{get_or-set_same, get_or-set_other, get_or_default, length-set}
 use Rattle.sysregs.specs.declared.regs.Reg.{Reg}
 use Rattle.sysregs.specs.declared.regs.Op.{Op}
 use Rattle.tlbi_ops.specs.declared.inval.Inval.{Inval}
@@ -21,28 +21,30 @@ use Rattle.table_reads.specs.Memory.{Memory}
 use Rattle.machine_spec.specs.Header.{Header}
 use Rattle.machine_spec.specs.Moments.{settled, drained, queued, banked, stored}
 use Rattle.machine_spec.specs.Invalidations.{is_at_el1, issued_by}
-use Rattle.machine_spec.specs.Machine.{Core, World, no_core, with_bank, most_held, delivered_by, delivered, posted, mailed, mailed_by, finished, visit_of, core_numbered, regs_in, accessed, acted, moved, answer_to}
-use Rattle.cpu_model.specs.Cores.{Suits, visit_at}
+use Rattle.machine_spec.specs.Machine.{Core, World, no_core, with_bank, most_held, delivered_by, delivered, posted, mailed, mailed_by, finished, regs_in, accessed, acted, moved, answer_to}
 use Rattle.machine.specs.Events.{asked_of}
-use Rattle.machine.specs.Seats.{SeatState, core_at, build_of, no_seat, AreSeats, world_of}
+use Rattle.machine.specs.Seats.{SeatState, no_seat, IsSeatOf, AreSeatsOf}
 
 -- ONE CORE AMONG THE OTHERS
 
--- what is told of the core that changes, and of each other one, is told of each
-pub one_at : {Y : Type 0} (g : SeatState → Y) (f : ℕ → Y → Y) (xs : List SeatState) (j : ℕ) (x new : SeatState) → j < length xs
-    → g new ≡ f j (g (get_or xs j x)) → ((c : ℕ) (v : Y) → (j ≡ c → ⊥) → f c v ≡ v)
-    → (c : ℕ) → g (get_or (set xs j new) c no_seat) ≡ f c (g (get_or xs c no_seat))
-one_at g f xs j x new lt own other c =
-    elim (cases_eq j c) as (λ _. g (get_or (set xs j new) c no_seat) ≡ f c (g (get_or xs c no_seat))) [
-      | inl e ↦ subst (λ n. g (get_or (set xs j new) n no_seat) ≡ f n (g (get_or xs n no_seat))) e
-          (ap g (get_or-set_same xs j new no_seat lt) ∙ own ∙ ap (λ s. f j (g s)) (get_or_default xs j x no_seat lt))
-      | inr ne ↦ ap g (get_or-set_other xs j c new no_seat (λ e. ne (sym e))) ∙ sym (other c (g (get_or xs c no_seat)) ne)
-    ]
+-- the seat that a body reads is the core of its number
+pub seat_at : (h : Header) (cores : List Core) (xs : List SeatState) (j : ℕ) (x : SeatState) → j < length xs → AreSeatsOf h cores xs
+    → IsSeatOf h j (get_or cores j no_core) (get_or xs j x)
+seat_at h cores xs j x lt are = subst (IsSeatOf h j (get_or cores j no_core)) (sym (get_or_default xs j x no_seat lt)) (are.each j lt)
 
--- the builds of all stay where the one's does
-pub builds_at : (xs : List SeatState) (j : ℕ) (x new : SeatState) → j < length xs → build_of new ≡ build_of (get_or xs j x)
-    → (c : ℕ) → build_of (get_or (set xs j new) c no_seat) ≡ build_of (get_or xs c no_seat)
-builds_at xs j x new lt e = one_at build_of (λ c b. b) xs j x new lt e (λ c b ne. refl)
+-- one seat is what a change makes of its core, which leaves each other core
+pub one_at : (h : Header) (cores : List Core) (f : ℕ → Core → Core) (xs : List SeatState) (j : ℕ) (x new : SeatState) → j < length xs → AreSeatsOf h cores xs
+    → ((v : Core) → IsSeatOf h j v (get_or xs j x) → IsSeatOf h j (f j v) new) → ((c : ℕ) (v : Core) → (j ≡ c → ⊥) → f c v ≡ v)
+    → (c : ℕ) → c < length (set xs j new) → IsSeatOf h c (f c (get_or cores c no_core)) (get_or (set xs j new) c no_seat)
+one_at h cores f xs j x new lt are own other c in_set =
+    let within : c < length xs = subst (λ n. c < n) (length-set xs j new) in_set in
+    elim (cases_eq j c) as (λ _. IsSeatOf h c (f c (get_or cores c no_core)) (get_or (set xs j new) c no_seat)) [
+      | inl e ↦ subst (λ n. IsSeatOf h n (f n (get_or cores n no_core)) (get_or (set xs j new) n no_seat)) e
+          (subst (IsSeatOf h j (f j (get_or cores j no_core))) (sym (get_or-set_same xs j new no_seat lt))
+          (own (get_or cores j no_core) (seat_at h cores xs j x lt are)))
+      | inr ne ↦ subst (λ (v : Core). IsSeatOf h c v (get_or (set xs j new) c no_seat)) (sym (other c (get_or cores c no_core) ne))
+          (subst (IsSeatOf h c (get_or cores c no_core)) (sym (get_or-set_other xs j c new no_seat (λ e. ne (sym e)))) (are.each c within))
+    ]
 
 -- REGISTERS
 
@@ -107,22 +109,7 @@ module _ (h : Header) (w : World) (j : ℕ) where
   unfolding acted banked issued_by
   tlbi_each from op shared operand i e c v = rw (← e) (reached_same v i (reaches_core i c))
 
--- the core of a number
-pub core_in : (k : ℕ) (m : Memory) (seats : List SeatState) (j : ℕ) (x : SeatState) → j < length seats
-    → core_numbered (world_of k m seats) j ≡ core_at (get_or seats j x)
-core_in k m seats j x lt = get_or-map core_at seats j x no_core lt
-
 -- ACCESSES
-
-module _ (h : Header) (k : ℕ) (m : Memory) (seats : List SeatState) (are : AreSeats h seats) (j : ℕ) (x : SeatState) (lt : j < length seats) where
-  build_is : build_of (get_or seats j x) ≡ (j, h.size, h.policy)
-  build_is = ap build_of (get_or_default seats j x no_seat lt) ∙ are j lt
-
-  pub suits : Suits h (get_or seats j x).core
-  suits = (sym (ap (λ b. b.1) build_is), sym (ap (λ b. b.2) build_is))
-
-  pub visit_is : visit_at h (get_or seats j x).core m k ≡ visit_of h (world_of k m seats) j (core_at (get_or seats j x))
-  visit_is = ap (λ (n : ℕ). record (visit_at h (get_or seats j x).core m k) { number = n }) (ap (λ b. b.0) build_is)
 
 module _ (h : Header) (w : World) (j : ℕ) (a : Access) where
   pub access_own : (v : Core) → accessed h w j v a ≡ moved h w (AccessOf j a) j v

@@ -1,4 +1,5 @@
 pub mod Acts
 pub mod Ranges
+pub mod Seated
 pub mod Seating
 pub mod Steps

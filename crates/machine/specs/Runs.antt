@@ -5,7 +5,7 @@ use Rattle.trails.specs.Printed.{HaveTexts}
 use Rattle.trace_lang.specs.Traces.{Parts}
 use Rattle.machine_spec.specs.Machine.{World, world_after, run_of}
 use Rattle.phys_mem.specs.Words.{Held, memory_of}
-use Rattle.machine.specs.Seats.{SeatState, world_of}
+use Rattle.machine.specs.Seats.{SeatState, AreSeatsOf}
 
 -- the trace, the log of the steps that were done, memory, and the cores with their inboxes
 pub record MachineState : Type 0 where
@@ -14,17 +14,19 @@ pub record MachineState : Type 0 where
   pub phys : Held
   pub seats : List SeatState
 
--- the machine of the definitions that it is
-abbrev pub machine_of : (state : MachineState) → World
-machine_of s = world_of (length s.log) (memory_of s.phys) s.seats
+-- it is a machine of the definitions
+pub record IsMachineOf (state : MachineState) (w : World) : Type 0 where
+  pub step : w.step ≡ length state.log
+  pub memory : w.memory ≡ memory_of state.phys
+  pub seats : AreSeatsOf state.trace.header w.cores state.seats
 
 -- the log of so many first events of a trace
 abbrev pub log_at : (trace : Parts) (done : ℕ) → List Step
 log_at t k = run_of t.header (take k t.events)
 
 -- log and machine are those of the first events of the trace
-pub record IsRun (t : Parts) (log : List Step) (w : World) : Type 0 where
-  pub within : length log ≤ length t.events
-  pub log_is : log ≡ run_of t.header (take (length log) t.events)
-  pub world_is : w ≡ world_after t.header (take (length log) t.events)
-  pub texts : HaveTexts log
+pub record IsRun (state : MachineState) : Type 0 where
+  pub within : length state.log ≤ length state.trace.events
+  pub log_is : state.log ≡ run_of state.trace.header (take (length state.log) state.trace.events)
+  pub machine : IsMachineOf state (world_after state.trace.header (take (length state.log) state.trace.events))
+  pub texts : HaveTexts state.log

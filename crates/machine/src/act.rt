@@ -1,15 +1,15 @@
 //! One event on memory and on the cores.
-ghost use Rattle.std.specs.Prelude.{◌≡◌, ◌<◌, ℕ, length, slice_index_or, Some, None};
+ghost use Rattle.std.specs.Prelude.{◌≡◌, ◌<◌, ℕ, List, length, slice_index_or, Some, None};
 ghost use Rattle.trails.specs.declared.event.Event.{Event as TheEvent};
 ghost use Rattle.trails.specs.declared.event.Event.TheVariants.{Dsb};
-ghost use Rattle.tlbi_ops.specs.Operands.{inval_of};
+ghost use Rattle.tlbi_ops.specs.Operands.{inval_of, reaches_core};
 ghost use Rattle.phys_mem.specs.Words.{memory_of};
 ghost use Rattle.machine_spec.specs.Header.{Header};
 ghost use Rattle.machine_spec.specs.Moments.{stored};
 ghost use Rattle.machine_spec.specs.Invalidations.{is_at_el1};
-ghost use Rattle.machine_spec.specs.Machine.{mailed_by, finished, moved, answer_to};
+ghost use Rattle.machine_spec.specs.Machine.{Core, mailed_by, finished, answer_to};
 ghost use Rattle.trace_lang.specs.Traces.{core_of};
-ghost use Rattle.machine.specs.Seats.{core_at, build_of, no_seat, AreSeats, world_of};
+ghost use Rattle.machine.specs.Seats.{no_seat, IsSeatOf, AreSeatsOf, world_with, AreMoved};
 ghost use Rattle.trails.specs.Printed.{HasTextInRun};
 ghost use Rattle.machine.specs.Events.{asked_of, IsDoable};
 
@@ -29,16 +29,29 @@ fn is_at_el1(from: Origin) -> bool
     }
 }
 
+/// Whether an invalidation reaches the core of a number.
+fn reaches_core(inval: &Inval, number: usize) -> bool
+    ensures { result ≡ reaches_core inval.now number }
+{
+    inval.broadcast || inval.issuer as usize == number
+}
+
+/// An invalidation comes in at a core, where it reaches that core.
+fn post_at(seat: &mut Seat, number: usize, inval: &Inval)
+    ensures { (h : Header) → (v : Core) → IsSeatOf h number v seat.old → IsSeatOf h number (mailed_by number v (Some inval.now)) seat.new }
+{
+    if reaches_core(inval, number) {
+        seat.post(*inval);
+    }
+}
+
 /// An invalidation comes in at the cores that it reaches.
 fn post_all(seats: &mut [Seat], inval: &Inval)
-    ensures cores { (c : ℕ) → c < length seats.old →
-        core_at (slice_index_or seats.new c no_seat) ≡ mailed_by c (core_at (slice_index_or seats.old c no_seat)) (Some inval.now) }
-    ensures builds { (c : ℕ) → c < length seats.old → build_of (slice_index_or seats.new c no_seat) ≡ build_of (slice_index_or seats.old c no_seat) }
+    ensures { (h : Header) → (c : ℕ) → (v : Core) → c < length seats.old → IsSeatOf h c v (slice_index_or seats.old c no_seat) →
+        IsSeatOf h c (mailed_by c v (Some inval.now)) (slice_index_or seats.new c no_seat) }
 {
     for c in 0..seats.len() {
-        if inval.broadcast || inval.issuer as usize == c {
-            seats[c].post(*inval);
-        }
+        post_at(&mut seats[c], c, inval);
     }
 }
 
@@ -53,10 +66,10 @@ fn issue(
     moment: u32,
 )
     requires { core < length seats.old }
-    ensures cores { (c : ℕ) → c < length seats.old → core_at (slice_index_or seats.new c no_seat)
-        ≡ mailed_by c (core_at (slice_index_or seats.old c no_seat))
-        (Some (inval_of op shared (is_at_el1 from) operand (core_at (slice_index_or seats.old core no_seat)).bank.regs core moment)) }
-    ensures builds { (c : ℕ) → c < length seats.old → build_of (slice_index_or seats.new c no_seat) ≡ build_of (slice_index_or seats.old c no_seat) }
+    ensures { (h : Header) → (c : ℕ) → (v : Core) → c < length seats.old → IsSeatOf h c v (slice_index_or seats.old c no_seat) →
+        IsSeatOf h c (mailed_by c v
+        (Some (inval_of op shared (is_at_el1 from) operand (slice_index_or seats.old core no_seat).core.bank.regs core moment)))
+        (slice_index_or seats.new c no_seat) }
 {
     let regs = seats[core as usize].regs();
     let inval = decode(op, shared, is_at_el1(from), operand, regs, core, moment);
@@ -65,9 +78,8 @@ fn issue(
 
 /// The invalidations that a DSB of a core completes take effect at all cores.
 fn finish_all(seats: &mut [Seat], core: u8, kind: Barrier)
-    ensures cores { (c : ℕ) → c < length seats.old →
-        core_at (slice_index_or seats.new c no_seat) ≡ finished (core_at (slice_index_or seats.old c no_seat)) (Dsb core kind) }
-    ensures builds { (c : ℕ) → c < length seats.old → build_of (slice_index_or seats.new c no_seat) ≡ build_of (slice_index_or seats.old c no_seat) }
+    ensures { (h : Header) → (c : ℕ) → (v : Core) → c < length seats.old → IsSeatOf h c v (slice_index_or seats.old c no_seat) →
+        IsSeatOf h c (finished v (Dsb core kind)) (slice_index_or seats.new c no_seat) }
 {
     for seat in seats.iter_mut() {
         seat.finish(core, kind);
@@ -101,12 +113,10 @@ fn answer(
     answer: &mut Answer,
 )
     requires { core < length seats.old }
-    ensures answer { (h : Header) → (e : TheEvent) → asked_of e ≡ Some (core, access.now) → AreSeats h seats.old →
-        Some answer.new ≡ answer_to h (world_of moment (memory_of phys.now) seats.old) e }
-    ensures cores { (h : Header) → (e : TheEvent) → asked_of e ≡ Some (core, access.now) → AreSeats h seats.old → (c : ℕ) →
-        c < length seats.old → core_at (slice_index_or seats.new c no_seat)
-        ≡ moved h (world_of moment (memory_of phys.now) seats.old) e c (core_at (slice_index_or seats.old c no_seat)) }
-    ensures builds { (c : ℕ) → c < length seats.old → build_of (slice_index_or seats.new c no_seat) ≡ build_of (slice_index_or seats.old c no_seat) }
+    ensures answer { (h : Header) → (cores : List Core) → (e : TheEvent) → asked_of e ≡ Some (core, access.now) → AreSeatsOf h cores seats.old →
+        Some answer.new ≡ answer_to h (world_with moment (memory_of phys.now) cores) e }
+    ensures cores { (h : Header) → (cores : List Core) → (e : TheEvent) → asked_of e ≡ Some (core, access.now) → AreSeatsOf h cores seats.old →
+        AreMoved h (world_with moment (memory_of phys.now) cores) e seats.new }
     ensures text { HasTextInRun (Some answer.new) }
 {
     seats[core as usize].access(phys, moment, access, answer);
@@ -120,9 +130,8 @@ fn act(phys: &mut Phys, seats: &mut [Seat], moment: u32, event: &Event)
     requires quiet { asked_of event.now ≡ None }
     ensures memory { memory_of phys.new ≡ stored (memory_of phys.old) event.now }
     ensures ranges { phys.new.ranges ≡ phys.old.ranges }
-    ensures cores { (h : Header) → AreSeats h seats.old → (c : ℕ) → c < length seats.old → core_at (slice_index_or seats.new c no_seat)
-        ≡ moved h (world_of moment (memory_of phys.old) seats.old) event.now c (core_at (slice_index_or seats.old c no_seat)) }
-    ensures builds { (c : ℕ) → c < length seats.old → build_of (slice_index_or seats.new c no_seat) ≡ build_of (slice_index_or seats.old c no_seat) }
+    ensures cores { (h : Header) → (cores : List Core) → AreSeatsOf h cores seats.old →
+        AreMoved h (world_with moment (memory_of phys.old) cores) event.now seats.new }
 {
     match *event {
         Event::Store { pa, value, .. } => {
@@ -156,10 +165,10 @@ pub fn act_and_answer(
     requires doable { IsDoable (memory_of phys.old) event.now }
     ensures memory { memory_of phys.new ≡ stored (memory_of phys.old) event.now }
     ensures ranges { phys.new.ranges ≡ phys.old.ranges }
-    ensures answer { (h : Header) → AreSeats h seats.old → slot.new.answer ≡ answer_to h (world_of moment (memory_of phys.old) seats.old) event.now }
-    ensures cores { (h : Header) → AreSeats h seats.old → (c : ℕ) → c < length seats.old → core_at (slice_index_or seats.new c no_seat)
-        ≡ moved h (world_of moment (memory_of phys.old) seats.old) event.now c (core_at (slice_index_or seats.old c no_seat)) }
-    ensures builds { (c : ℕ) → c < length seats.old → build_of (slice_index_or seats.new c no_seat) ≡ build_of (slice_index_or seats.old c no_seat) }
+    ensures answer { (h : Header) → (cores : List Core) → AreSeatsOf h cores seats.old →
+        slot.new.answer ≡ answer_to h (world_with moment (memory_of phys.old) cores) event.now }
+    ensures cores { (h : Header) → (cores : List Core) → AreSeatsOf h cores seats.old →
+        AreMoved h (world_with moment (memory_of phys.old) cores) event.now seats.new }
     ensures event { slot.new.event ≡ event.now }
     ensures text { HasTextInRun slot.new.answer }
 {

@@ -6,7 +6,7 @@ ghost use Rattle.trace_lang.specs.Traces.{IsTrace};
 ghost use Rattle.machine_spec.specs.Allowed.{IsAllowed};
 ghost use Rattle.machine_spec.specs.Machine.{run_of, world_after};
 ghost use Rattle.trails.specs.Printed.{HaveTexts};
-ghost use Rattle.machine.specs.Runs.{machine_of};
+ghost use Rattle.machine.specs.Runs.{IsMachineOf};
 
 use crate::runner::Runner;
 use bitwords::NoMemory;
@@ -40,7 +40,7 @@ impl Machine {
         ensures limits { IsTrace trace }
         ensures trace { IfOk result (λ m. m.trace ≡ trace) }
         ensures log { IfOk result (λ m. m.log ≡ []) }
-        ensures machine { IfOk result (λ m. machine_of m ≡ world_after trace.header []) }
+        ensures machine { IfOk result (λ m. IsMachineOf m (world_after trace.header [])) }
     {
         let Ok(log) = Vec::with_capacity(alloc, trace.events().len()) else {
             return Err(NoMemory);
@@ -70,7 +70,7 @@ impl Machine {
         ensures log { (s : TheStep) × (self.new.log ≡ self.old.log ++ s ∷ []) × (slice_get self.old.trace.events (length self.old.log) ≡ Some s.event)
             × IsAllowed self.old.trace.header self.old.log s }
         ensures run { self.new.log ≡ run_of self.old.trace.header (take (length self.new.log) self.old.trace.events) }
-        ensures machine { machine_of self.new ≡ world_after self.old.trace.header (take (length self.new.log) self.old.trace.events) }
+        ensures machine { IsMachineOf self.new (world_after self.old.trace.header (take (length self.new.log) self.old.trace.events)) }
         ensures texts { HaveTexts self.new.log }
     {
         let mut slot = StepSlot::new();

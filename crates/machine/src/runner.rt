@@ -1,16 +1,17 @@
 //! The machine in the middle of a trace. It keeps no step.
-ghost use Rattle.std.specs.Prelude.{◌≡◌, ◌<◌, ◌≤◌, ◌+◌, ℕ, [], ◌∷◌, ◌++◌, length, take};
-ghost use Rattle.std.specs.Prelude.{slice_get, slice_index_or, Some, None, IfOk};
+ghost use Rattle.std.specs.Prelude.{◌≡◌, ◌<◌, ◌≤◌, ◌+◌, [], ◌∷◌, ◌++◌, length, take, replicate};
+ghost use Rattle.std.specs.Prelude.{slice_get, Some, None, IfOk};
 ghost use Rattle.phys_mem.specs.Words.{memory_of};
 ghost use Rattle.phys_mem.specs.Memory.{zeros};
 ghost use Rattle.phys_mem.specs.Ranges.{refusal_in};
 ghost use Rattle.trace_lang.specs.declared.header.Size.TheVariants.{NoRows};
 ghost use Rattle.trace_lang.specs.Traces.{RangesFitBehind, IsTrace};
 ghost use Rattle.machine_spec.specs.Allowed.{IsAllowed};
-ghost use Rattle.machine_spec.specs.Machine.{run_of, world_after};
-ghost use Rattle.machine.specs.Seats.{no_seat, new_seat};
+ghost use Rattle.machine_spec.specs.Header.{Header};
+ghost use Rattle.machine_spec.specs.Machine.{no_core, run_of, world_after};
+ghost use Rattle.machine.specs.Seats.{AreSeatsOf};
 ghost use Rattle.trails.specs.Printed.{HaveTexts};
-ghost use Rattle.machine.specs.Runs.{machine_of};
+ghost use Rattle.machine.specs.Runs.{IsMachineOf};
 
 use crate::act::act_and_answer;
 use crate::seat::Seat;
@@ -34,17 +35,14 @@ pub struct Runner {
 
 impl Model for Runner {
     ghost use Rattle.std.specs.Prelude.{◌≡◌, length};
-    ghost use Rattle.phys_mem.specs.Words.{memory_of};
-    ghost use Rattle.machine.specs.Seats.{AreSeats, world_of};
     ghost use Rattle.machine.specs.Runs.{MachineState, IsRun, log_at};
 
     ghost Value = { MachineState };
 
     ghost view = { λ s. record { trace = s.trace; log = log_at s.trace s.done; phys = s.phys; seats = s.seats.items } };
 
-    ghost invariant = { λ s. IsRun s.trace (log_at s.trace s.done) (world_of (length (log_at s.trace s.done)) (memory_of s.phys) s.seats.items)
-        × AreSeats s.trace.header s.seats.items × (length s.seats.items ≡ s.trace.header.cores) × (s.phys.ranges ≡ s.trace.header.ranges)
-        × (s.done ≡ length (log_at s.trace s.done)) };
+    ghost invariant = { λ s. IsRun (record { trace = s.trace; log = log_at s.trace s.done; phys = s.phys; seats = s.seats.items })
+        × (length s.seats.items ≡ s.trace.header.cores) × (s.phys.ranges ≡ s.trace.header.ranges) × (s.done ≡ length (log_at s.trace s.done)) };
 }
 
 /// Want of memory, where nothing else is refused.
@@ -76,7 +74,7 @@ fn memory(alloc: Global, ranges: &[(u64, u64)]) -> Result<Phys, NoMemory>
 fn seats_of(alloc: Global, cores: u8, size: Size, policy: Policy) -> Result<Vec<Seat>, NoMemory>
     requires { size ≡ NoRows }
     ensures count { IfOk result (λ v. length v.items ≡ cores) }
-    ensures each { IfOk result (λ v. (c : ℕ) → c < cores → slice_index_or v.items c no_seat ≡ new_seat c size policy) }
+    ensures each { IfOk result (λ v. (h : Header) → h.size ≡ size → h.policy ≡ policy → AreSeatsOf h (replicate cores no_core) v.items) }
 {
     let Ok(mut seats) = Vec::with_capacity(alloc, cores as usize) else {
         return Err(NoMemory);
@@ -95,7 +93,7 @@ impl Runner {
         ensures limits { IsTrace trace }
         ensures trace { IfOk result (λ m. m.trace ≡ trace) }
         ensures log { IfOk result (λ m. m.log ≡ []) }
-        ensures machine { IfOk result (λ m. machine_of m ≡ world_after trace.header []) }
+        ensures machine { IfOk result (λ m. IsMachineOf m (world_after trace.header [])) }
     {
         let phys = memory(alloc, trace.ranges())?;
         let seats = seats_of(alloc, trace.cores(), trace.size(), trace.policy())?;
@@ -122,7 +120,7 @@ impl Runner {
         ensures event { slice_get self.old.trace.events (length self.old.log) ≡ Some slot.new.event }
         ensures allowed { IsAllowed self.old.trace.header self.old.log slot.new }
         ensures run { self.new.log ≡ run_of self.old.trace.header (take (length self.new.log) self.old.trace.events) }
-        ensures machine { machine_of self.new ≡ world_after self.old.trace.header (take (length self.new.log) self.old.trace.events) }
+        ensures machine { IsMachineOf self.new (world_after self.old.trace.header (take (length self.new.log) self.old.trace.events)) }
         ensures texts { HaveTexts self.new.log }
     {
         runs_are_allowed();

@@ -1,5 +1,5 @@
 //! A core with its inbox.
-ghost use Rattle.std.specs.Prelude.{◌≡◌, fold, filter, IfOk, None, true};
+ghost use Rattle.std.specs.Prelude.{◌≡◌, ℕ, List, fold, filter, if◌then◌else◌, IfOk, None, true};
 ghost use Rattle.sysregs.specs.Refused.{refused_field};
 ghost use Rattle.trails.specs.declared.event.Event.TheVariants.{Dsb};
 ghost use Rattle.trails.specs.Printed.{printed};
@@ -9,9 +9,10 @@ ghost use Rattle.trace_lang.specs.declared.header.Size.TheVariants.{NoRows};
 ghost use Rattle.machine_spec.specs.Header.{Header};
 ghost use Rattle.machine_spec.specs.Moments.{settled, drained, queued};
 ghost use Rattle.machine_spec.specs.Invalidations.{is_wide, completes};
-ghost use Rattle.machine_spec.specs.Machine.{with_bank, with_cache, killed, delivered, mailed, finished, visited};
-ghost use Rattle.cpu_model.specs.Cores.{Suits, visit_at, cpu_with_cache};
-ghost use Rattle.machine.specs.Seats.{core_at, build_of, new_seat};
+ghost use Rattle.machine_spec.specs.Sets.{Cache};
+ghost use Rattle.machine_spec.specs.Machine.{Core, no_core, with_bank, killed, delivered, mailed, finished, visit_of, visited, accessed};
+ghost use Rattle.cpu_model.specs.Cores.{HasOtherRows, Suits, AreCaches};
+ghost use Rattle.machine.specs.Seats.{IsSeatOf, world_with};
 
 use bitwords::NoMemory;
 use cpu_model::Cpu;
@@ -62,14 +63,25 @@ fn completes(core: u8, kind: Barrier, inval: &Inval) -> bool
     core == inval.issuer && (is_wide(kind) || !inval.broadcast)
 }
 
+/// An invalidation takes effect, where a DSB of a core completes it.
+fn take_completed(cpu: &mut Cpu, inval: &Inval, core: u8, kind: Barrier)
+    ensures rest { HasOtherRows cpu.old cpu.new }
+    ensures rows { (h : Header) → (l : Cache) → Suits h cpu.old → AreCaches h cpu.old.number l cpu.old →
+        AreCaches h cpu.old.number (if completes (Dsb core kind) inval.now then killed l inval.now else l) cpu.new }
+{
+    if completes(core, kind, inval) {
+        cpu.take(inval);
+    }
+}
+
 /// The invalidations that a DSB completes take effect, oldest first.
 fn take_all(cpu: &mut Cpu, inbox: &[Inval], core: u8, kind: Barrier)
-    ensures { cpu.new ≡ cpu_with_cache cpu.old (fold killed cpu.old.cache (filter (completes (Dsb core kind)) inbox.now)) }
+    ensures rest { HasOtherRows cpu.old cpu.new }
+    ensures rows { (h : Header) → (l : Cache) → Suits h cpu.old → AreCaches h cpu.old.number l cpu.old →
+        AreCaches h cpu.old.number (fold killed l (filter (completes (Dsb core kind)) inbox.now)) cpu.new }
 {
     for inval in inbox {
-        if completes(core, kind, inval) {
-            cpu.take(inval);
-        }
+        take_completed(cpu, inval, core, kind);
     }
 }
 
@@ -77,7 +89,7 @@ impl Seat {
     /// A core of a number whose registers are all 0, and which no invalidation has reached.
     pub fn opened(alloc: Global, number: u8, size: Size, policy: Policy) -> Result<Seat, NoMemory>
         requires { size ≡ NoRows }
-        ensures { IfOk result (λ s. s ≡ new_seat number size policy) }
+        ensures { IfOk result (λ s. (h : Header) → h.size ≡ size → h.policy ≡ policy → IsSeatOf h number no_core s) }
     {
         let Ok(inbox) = Vec::with_capacity(alloc, MOST_HELD) else {
             return Err(NoMemory);
@@ -88,7 +100,7 @@ impl Seat {
 
     /// The registers in force.
     pub fn regs(&self) -> &Regs
-        ensures { result.now ≡ (core_at self.now).bank.regs }
+        ensures { result.now ≡ self.now.core.bank.regs }
     {
         self.cpu.regs()
     }
@@ -96,32 +108,28 @@ impl Seat {
     /// A register write waits behind the others.
     pub fn msr(&mut self, reg: Reg, value: u64)
         requires { refused_field reg value ≡ None }
-        ensures core { core_at self.new ≡ with_bank (core_at self.old) (queued (core_at self.old).bank (reg, value)) }
-        ensures build { build_of self.new ≡ build_of self.old }
+        ensures { (h : Header) → (c : ℕ) → (v : Core) → IsSeatOf h c v self.old → IsSeatOf h c (with_bank v (queued v.bank (reg, value))) self.new }
     {
         self.cpu.msr(reg, value);
     }
 
     /// The oldest register write takes effect.
     pub fn settle(&mut self)
-        ensures core { core_at self.new ≡ with_bank (core_at self.old) (settled (core_at self.old).bank) }
-        ensures build { build_of self.new ≡ build_of self.old }
+        ensures { (h : Header) → (c : ℕ) → (v : Core) → IsSeatOf h c v self.old → IsSeatOf h c (with_bank v (settled v.bank)) self.new }
     {
         self.cpu.settle();
     }
 
     /// All register writes take effect, oldest first.
     pub fn isb(&mut self)
-        ensures core { core_at self.new ≡ with_bank (core_at self.old) (drained (core_at self.old).bank) }
-        ensures build { build_of self.new ≡ build_of self.old }
+        ensures { (h : Header) → (c : ℕ) → (v : Core) → IsSeatOf h c v self.old → IsSeatOf h c (with_bank v (drained v.bank)) self.new }
     {
         self.cpu.isb();
     }
 
     /// The oldest invalidation takes effect, where there is one.
     pub fn deliver(&mut self)
-        ensures core { core_at self.new ≡ delivered (core_at self.old) }
-        ensures build { build_of self.new ≡ build_of self.old }
+        ensures { (h : Header) → (c : ℕ) → (v : Core) → IsSeatOf h c v self.old → IsSeatOf h c (delivered v) self.new }
     {
         if self.inbox.len() > 0 {
             let inval = self.inbox.remove(0);
@@ -131,8 +139,7 @@ impl Seat {
 
     /// An invalidation comes in. Where the inbox is full, its oldest takes effect first.
     pub fn post(&mut self, inval: Inval)
-        ensures core { core_at self.new ≡ mailed (core_at self.old) inval }
-        ensures build { build_of self.new ≡ build_of self.old }
+        ensures { (h : Header) → (c : ℕ) → (v : Core) → IsSeatOf h c v self.old → IsSeatOf h c (mailed v inval) self.new }
     {
         if self.inbox.len() == MOST_HELD {
             let oldest = self.inbox.remove(0);
@@ -143,8 +150,7 @@ impl Seat {
 
     /// The invalidations that a DSB of a core completes take effect, oldest first, and leave.
     pub fn finish(&mut self, core: u8, kind: Barrier)
-        ensures core { core_at self.new ≡ finished (core_at self.old) (Dsb core kind) }
-        ensures build { build_of self.new ≡ build_of self.old }
+        ensures { (h : Header) → (c : ℕ) → (v : Core) → IsSeatOf h c v self.old → IsSeatOf h c (finished v (Dsb core kind)) self.new }
     {
         take_all(&mut self.cpu, self.inbox.as_slice(), core, kind);
         self.inbox.retain(|inval| !completes(core, kind, inval));
@@ -152,11 +158,10 @@ impl Seat {
 
     /// Writes the answer of an access at a moment, which is the number of the step, where an earlier one stood.
     pub fn access(&mut self, phys: &Phys, moment: u32, access: &Access, answer: &mut Answer)
-        ensures answer { (h : Header) → Suits h self.old.core →
-            answer.new ≡ (visited (visit_at h self.old.core (memory_of phys.now) moment) access.now).answer }
-        ensures core { (h : Header) → Suits h self.old.core →
-            core_at self.new ≡ with_cache (core_at self.old) (visited (visit_at h self.old.core (memory_of phys.now) moment) access.now).cache }
-        ensures build { build_of self.new ≡ build_of self.old }
+        ensures answer { (h : Header) → (cores : List Core) → (c : ℕ) → (v : Core) → IsSeatOf h c v self.old →
+            answer.new ≡ (visited (visit_of h (world_with moment (memory_of phys.now) cores) c v) access.now).answer }
+        ensures core { (h : Header) → (cores : List Core) → (c : ℕ) → (v : Core) → IsSeatOf h c v self.old →
+            IsSeatOf h c (accessed h (world_with moment (memory_of phys.now) cores) c v access.now) self.new }
         ensures line { HasLine (printed true answer.new.outcome) }
     {
         self.cpu.access(phys, moment, access, answer);

@@ -6,9 +6,8 @@ pub invariant_of-result : goal.invariant_of-result
 invariant_of-result c =
     let o = opens c.args.trace c.in_ok-phys.phys c.in_ok-seats.seats.items [] c.ranges-2.result.now c.cores.result c.size.result c.policy.result
     refl c.ranges-2.ensures.value c.cores.ensures.value c.size.ensures.value c.policy.ensures.value
-    c.in_ok-phys.ensures.memory c.in_ok-seats.ensures.count c.in_ok-seats.ensures.each in (
-      o.0,
-      o.1,
+    c.in_ok-phys.ensures.memory c.in_ok-seats.ensures.each in (
+      o,
       c.in_ok-seats.ensures.count ∙ c.cores.ensures.value,
       c.in_ok-phys.ensures.ranges ∙ c.ranges-2.ensures.value,
       refl,
@@ -18,5 +17,5 @@ pub returns-clause-machine : goal.returns-clause-machine
 returns-clause-machine c =
     let o = opens c.args.trace c.in_ok-phys.phys c.in_ok-seats.seats.items [] c.ranges-2.result.now c.cores.result c.size.result c.policy.result
     refl c.ranges-2.ensures.value c.cores.ensures.value c.size.ensures.value c.policy.ensures.value
-    c.in_ok-phys.ensures.memory c.in_ok-seats.ensures.count c.in_ok-seats.ensures.each in
-    o.0.world_is
+    c.in_ok-phys.ensures.memory c.in_ok-seats.ensures.each in
+    o.machine
