@@ -7,7 +7,7 @@ ghost use Rattle.phys_mem.specs.Words.{memory_of};
 ghost use Rattle.trace_lang.specs.declared.header.Size.TheVariants.{NoRows};
 ghost use Rattle.machine_spec.specs.Header.{Header};
 ghost use Rattle.machine_spec.specs.Moments.{written, settled, drained, queued};
-ghost use Rattle.machine_spec.specs.Sets.{Cache};
+ghost use Rattle.tagged_tlb.specs.Sets.{Cache};
 ghost use Rattle.machine_spec.specs.Machine.{killed, visited};
 ghost use Rattle.cpu_model.specs.Cores.{no_rows, new_core, cpu_with_bank, HasOtherRows, Suits, AreCaches, visit_at};
 

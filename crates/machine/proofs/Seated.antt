@@ -9,7 +9,7 @@ use Rattle.tlbi_ops.specs.declared.inval.Inval.{Inval}
 use Rattle.table_reads.specs.Memory.{Memory}
 use Rattle.machine_spec.specs.Header.{Header}
 use Rattle.machine_spec.specs.Moments.{Bank}
-use Rattle.machine_spec.specs.Sets.{Cache}
+use Rattle.tagged_tlb.specs.Sets.{Cache}
 use Rattle.machine_spec.specs.Machine.{Core, killed, visit_of}
 use Rattle.cpu_model.specs.Cores.{CoreState, HasOtherRows, Suits, AreCaches, visit_at}
 use Rattle.machine.specs.Seats.{SeatState, no_seat, IsSeatOf, world_with}

@@ -9,7 +9,7 @@ ghost use Rattle.trace_lang.specs.declared.header.Size.TheVariants.{NoRows};
 ghost use Rattle.machine_spec.specs.Header.{Header};
 ghost use Rattle.machine_spec.specs.Moments.{settled, drained, queued};
 ghost use Rattle.machine_spec.specs.Invalidations.{is_wide, completes};
-ghost use Rattle.machine_spec.specs.Sets.{Cache};
+ghost use Rattle.tagged_tlb.specs.Sets.{Cache};
 ghost use Rattle.machine_spec.specs.Machine.{Core, no_core, with_bank, killed, delivered, mailed, finished, visit_of, visited, accessed};
 ghost use Rattle.cpu_model.specs.Cores.{HasOtherRows, Suits, AreCaches};
 ghost use Rattle.machine.specs.Seats.{IsSeatOf, world_with};

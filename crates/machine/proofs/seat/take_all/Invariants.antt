@@ -3,7 +3,7 @@ use Rattle.std.specs.Prelude.{fold, filter}
 use Rattle.trails.specs.declared.event.Event.TheVariants.{Dsb}
 use Rattle.machine_spec.specs.Header.{Header}
 use Rattle.machine_spec.specs.Invalidations.{completes}
-use Rattle.machine_spec.specs.Sets.{Cache}
+use Rattle.tagged_tlb.specs.Sets.{Cache}
 use Rattle.machine_spec.specs.Machine.{killed}
 use Rattle.cpu_model.specs.Cores.{HasOtherRows, Suits, AreCaches}
 use Rattle.machine.proofs.seat.take_all.Given as goal
