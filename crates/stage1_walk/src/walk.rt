@@ -67,7 +67,8 @@ fn level_at<const G: u32, const LEFT: u32, S: Supply1>(
     requires room { length trail.old + most_per_word ≤ most_items }
     ensures text { IfErr result HasTextStop }
     ensures sound { IfOk result (IsSoundStep LEFT) }
-    ensures stepped { HasStepped S.gives (asked_under under.now) (Stage1.entry1 (asked_under under.now) LEFT table) supply.old trail.old trail.new result supply.new }
+    ensures stepped { HasStepped S.gives (asked_under under.now) (Stage1.entry1 (asked_under under.now) LEFT table)
+        supply.old trail.old trail.new result supply.new }
 {
     let entry = Entry1 {
         table,
@@ -95,7 +96,8 @@ fn level_by<const G: u32, S: Supply1>(
     requires room { length trail.old + most_per_word ≤ most_items }
     ensures text { IfErr result HasTextStop }
     ensures sound { IfOk result (IsSoundStep left) }
-    ensures stepped { HasStepped S.gives (asked_under under.now) (Stage1.entry1 (asked_under under.now) left table) supply.old trail.old trail.new result supply.new }
+    ensures stepped { HasStepped S.gives (asked_under under.now) (Stage1.entry1 (asked_under under.now) left table)
+        supply.old trail.old trail.new result supply.new }
 {
     case_table!(level left; level_at::<G, _, S>(under, table, supply, trail))
 }

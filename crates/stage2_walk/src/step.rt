@@ -90,7 +90,8 @@ fn down(under: &Under2, left: u32, next: u64) -> Lead<Leaf2, u64>
     requires under { IsUnder under.now }
     requires left { 0 < left × left ≤ most_left }
     requires table { next < 2 ^ 52 × next % 8 ≡ 0 }
-    ensures value { result ≡ (if Places.is_too_large under.now.sizes next then Lead.Stopped (fault2 (asked_under under.now) AddressSize left) else Lead.Down next) }
+    ensures value { result ≡ (if Places.is_too_large under.now.sizes next then Lead.Stopped (fault2 (asked_under under.now) AddressSize left)
+        else Lead.Down next) }
     ensures sound { IsSoundStep left under.now.ipa result }
 {
     if is_too_large(&under.sizes, next) {
