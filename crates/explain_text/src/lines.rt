@@ -96,7 +96,10 @@ pub fn put_items(line: &mut Line, items: &[Item], in_run: bool)
     ensures text { line.new ≡ flat_map (item_text in_run) items.now ++ line.old }
     ensures room { length line.new ≤ 160 * length items.now + length line.old }
 {
-    let mut ending = MomentTail::new(in_run, 0);
+    let Some(last) = items.last() else {
+        return;
+    };
+    let mut ending = MomentTail::new(in_run, last.moment);
     let mut left = items.len();
     while left > 0 {
         left -= 1;

@@ -16,7 +16,7 @@ fn put_second(line: &mut Line, second: &Option<Trail>)
 {
     if let Some(trail) = second {
         put_items(line, trail.items(), true);
-        line.text(b"or\n");
+        line.literal(b"or\n");
     }
 }
 
@@ -33,23 +33,25 @@ fn put_answer(line: &mut Line, answer: &Answer)
 }
 
 /// Puts the line of an event before what stands.
+#[inline]
 fn put_event(line: &mut Line, number: u64, core: u8, word: &str, access: &Access, answer: &Answer)
     requires word { length word.now ≤ 8 }
     requires room { 160 + length line.old ≤ LINE }
     ensures text { line.new ≡ event_text number core word.now access.now answer.now.asid answer.now.vmid ++ line.old }
     ensures room { length line.new ≤ 160 + length line.old }
 {
-    line.text(b"\n");
+    line.literal(b"\n");
     put_access(line, access, answer.asid, answer.vmid);
     line.text(word.as_bytes());
-    line.text(b" ");
+    line.literal(b" ");
     line.decimal(core as u64);
-    line.text(b" core ");
+    line.literal(b" core ");
     line.decimal(number);
-    line.text(b"event ");
+    line.literal(b"event ");
 }
 
 /// Puts the lines of an event that is answered before what stands.
+#[inline]
 fn put_answered(
     line: &mut Line,
     number: u64,
@@ -100,15 +102,15 @@ fn put_outcome_counts(line: &mut Line, counts: &Counts)
     ensures { line.new ≡ outcomes_text counts.now ++ line.old }
 {
     line.decimal(counts.conflicts);
-    line.text(b" conflicts ");
+    line.literal(b" conflicts ");
     line.decimal(counts.faulted);
-    line.text(b" faulted ");
+    line.literal(b" faulted ");
     line.decimal(counts.mapped);
-    line.text(b" mapped ");
+    line.literal(b" mapped ");
     line.decimal(counts.prefetches);
-    line.text(b" prefetches ");
+    line.literal(b" prefetches ");
     line.decimal(counts.accesses);
-    line.text(b"summary accesses ");
+    line.literal(b"summary accesses ");
 }
 
 /// Puts the end of the summary line before what stands.
@@ -117,13 +119,13 @@ fn put_mark_counts(line: &mut Line, counts: &Counts)
     ensures text { line.new ≡ marks_text counts.now ++ line.old }
     ensures room { length line.new ≤ 90 + length line.old }
 {
-    line.text(b"\n");
+    line.literal(b"\n");
     line.decimal(counts.evicted);
-    line.text(b" evicted ");
+    line.literal(b" evicted ");
     line.decimal(counts.stale_answers);
-    line.text(b" stale ");
+    line.literal(b" stale ");
     line.decimal(counts.old_answers);
-    line.text(b" old ");
+    line.literal(b" old ");
 }
 
 /// Puts the summary line before what stands.

@@ -36,8 +36,9 @@ split m zero n acc =
     ap (λ (j : ℕ). last_digits j 16 n acc) none ∙ ap (λ (j : ℕ). last_digits m 16 j acc) (sym (ap (λ (j : ℕ). n / j) one ∙ whole))
 split m (suc k) n acc =
     let next : m + suc k ≡ suc (m + k) = omega arith in
-    let rest : n / 16 / 16 ^ k ≡ n / 16 ^ suc k = div-div-eq-div-mul n 16 (16 ^ k)
-        ∙ ap (λ (j : ℕ). n / j) (let e : 16 * 16 ^ k ≡ 16 ^ k * 16 = omega arith in e ∙ sym (pow-suc 16 k)) in
+    let turned : 16 * 16 ^ k ≡ 16 ^ k * 16 = omega arith in
+    let rest : n / 16 / 16 ^ k ≡ n / 16 ^ suc k =
+    div-div-eq-div-mul n 16 (16 ^ k) ∙ ap (λ (j : ℕ). n / j) (turned ∙ sym (pow-suc 16 k)) in
     ap (λ (j : ℕ). last_digits j 16 n acc) next
     ∙ split m k (n / 16) (digit_glyph false (n % 16) ∷ acc)
     ∙ ap (λ (j : ℕ). last_digits m 16 j (last_digits k 16 (n / 16) (digit_glyph false (n % 16) ∷ acc))) rest

@@ -5,15 +5,15 @@ use Rattle.report_text.proofs.lines.put_outcome_counts.Goals as goal
 pub returns : goal.returns
 returns c =
     rw (
-      c.text-5.ensures.text,
+      c.literal-5.ensures.text,
       c.decimal-5.ensures.text,
-      c.text-4.ensures.text,
+      c.literal-4.ensures.text,
       c.decimal-4.ensures.text,
-      c.text-3.ensures.text,
+      c.literal-3.ensures.text,
       c.decimal-3.ensures.text,
-      c.text-2.ensures.text,
+      c.literal-2.ensures.text,
       c.decimal-2.ensures.text,
-      c.text.ensures.text,
+      c.literal.ensures.text,
       c.decimal.ensures.text,
       ← c.counts.view_is,
     )
