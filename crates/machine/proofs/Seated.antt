@@ -54,7 +54,8 @@ killed_one l i f true e = rw e refl
 killed_one l i f false e = rw e refl
 
 -- one more, where a test says so
-pub took_more : (f : Inval → Bool) (xs : List Inval) (k : ℕ) (d : Inval) (first old new : CoreState) → k < length xs → Took (filter f (take k xs)) first old → HasOtherRows old new
+pub took_more : (f : Inval → Bool) (xs : List Inval) (k : ℕ) (d : Inval) (first old new : CoreState) → k < length xs
+    → Took (filter f (take k xs)) first old → HasOtherRows old new
     → ((h : Header) → (l : Cache) → Suits h old → AreCaches h old.number l old
     → AreCaches h old.number (if f (get_or xs k d) then killed l (get_or xs k d) else l) new)
     → Took (filter f (take (k + 1) xs)) first new

@@ -29,6 +29,7 @@ returns-clause-each c h size policy =
     let n = i.0 in record {
       count = n ∙ nat_same number cores most all ∙ sym (length-replicate cores no_core);
       each = λ d lt.
-          subst (λ (v : Core). IsSeatOf h d v (get_or c.loop-number.seats.items d no_seat)) (sym (get_or-replicate cores d no_core no_core (omega (arith, lt, n, most))))
+          subst (λ (v : Core). IsSeatOf h d v (get_or c.loop-number.seats.items d no_seat))
+          (sym (get_or-replicate cores d no_core no_core (omega (arith, lt, n, most))))
           (i.2 h size policy d (omega (arith, lt, n)));
     }
