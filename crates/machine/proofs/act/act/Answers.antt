@@ -24,7 +24,7 @@ returns-in-Msr-clause-cores c h cores are =
     let new = c.msr.new.self in
     rw c.in-Msr.is (λ d lt.
     one_at h cores (moved h w (Msr c.in-Msr.core c.in-Msr.reg c.in-Msr.value)) c.args.seats.now c.in-Msr.core c.index-seats-core.result new
-        (rw c.in-Msr.is at c.requires.here) are
+    (rw c.in-Msr.is at c.requires.here) are
     (λ v t. subst (λ (u : Core). IsSeatOf h c.in-Msr.core u new) (msr_own h w c.in-Msr.core c.in-Msr.reg c.in-Msr.value v) (c.msr.ensures h c.in-Msr.core v t))
     (λ k v ne. msr_other h w c.in-Msr.core c.in-Msr.reg c.in-Msr.value k v ne) d lt)
 
@@ -34,7 +34,7 @@ returns-in-Settle-clause-cores c h cores are =
     let new = c.settle.new.self in
     rw c.in-Settle.is (λ d lt.
     one_at h cores (moved h w (Settle c.in-Settle.core)) c.args.seats.now c.in-Settle.core c.index-seats-core-in-Settle.result new
-        (rw c.in-Settle.is at c.requires.here) are
+    (rw c.in-Settle.is at c.requires.here) are
     (λ v t. subst (λ (u : Core). IsSeatOf h c.in-Settle.core u new) (settle_own h w c.in-Settle.core v) (c.settle.ensures h c.in-Settle.core v t))
     (λ k v ne. settle_other h w c.in-Settle.core k v ne) d lt)
 
@@ -78,6 +78,6 @@ returns-in-Deliver-clause-cores c h cores are =
     let new = c.deliver.new.self in
     rw c.in-Deliver.is (λ d lt.
     one_at h cores (moved h w (Deliver c.in-Deliver.core)) c.args.seats.now c.in-Deliver.core c.index-seats-core-in-Deliver.result new
-        (rw c.in-Deliver.is at c.requires.here) are
+    (rw c.in-Deliver.is at c.requires.here) are
     (λ v t. subst (λ (u : Core). IsSeatOf h c.in-Deliver.core u new) (deliver_own h w c.in-Deliver.core v) (c.deliver.ensures h c.in-Deliver.core v t))
     (λ k v ne. deliver_other h w c.in-Deliver.core k v ne) d lt)

@@ -30,6 +30,6 @@ returns-clause-each c h size policy =
       count = n ∙ nat_same number cores most all ∙ sym (length-replicate cores no_core);
       each = λ d lt.
           subst (λ (v : Core). IsSeatOf h d v (get_or c.loop-number.seats.items d no_seat))
-              (sym (get_or-replicate cores d no_core no_core (omega (arith, lt, n, most))))
+          (sym (get_or-replicate cores d no_core no_core (omega (arith, lt, n, most))))
           (i.2 h size policy d (omega (arith, lt, n)));
     }

@@ -17,7 +17,7 @@ returns c =
     let taken = c.take_all.ensures.rows h v.cache s.suits s.caches in
     other_rows h n v (fold killed v.cache (filter (completes (Dsb c.args.core c.args.kind)) v.inbox)) (filter stays v.inbox) c.self.inside.cpu
     c.take_all.new.cpu c.self.inside.inbox.items _ c.take_all.ensures.rest
-    (subst (λ (l : List Inval). AreCaches h c.self.inside.cpu.number
-        (fold killed v.cache (filter (completes (Dsb c.args.core c.args.kind)) l)) c.take_all.new.cpu)
+    (subst (λ (l : List Inval).
+    AreCaches h c.self.inside.cpu.number (fold killed v.cache (filter (completes (Dsb c.args.core c.args.kind)) l)) c.take_all.new.cpu)
     (c.as_slice.ensures.value ∙ s.inbox) taken)
     (e ∙ ap (filter stays) s.inbox) s)
