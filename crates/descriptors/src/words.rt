@@ -3,7 +3,7 @@ ghost use Rattle.bitwords.specs.Fields.{bits_of};
 ghost use Rattle.geometry.specs.Tables.{IsGranule, most_left};
 ghost use Rattle.sysregs.specs.Registers.{granule_of};
 ghost use Rattle.sysregs.specs.Sides.{tg_of};
-ghost use Rattle.descriptors.specs.Meaning.{address_in, shape_of, table_bits, leaf_bits, means1_of, means2_of};
+ghost use Rattle.descriptors.specs.Meaning.{address_in, shape_of, table_bits, leaf_bits, means1_of, means2_of, IsTableOf2};
 
 use crate::kinds::{Kind1, Kind2};
 use bitwords::{align_down, field, flag};
@@ -63,6 +63,21 @@ fn shape_at<const G: u32, const LEFT: u32>(w: u64) -> Shape
         Shape::Mapping
     } else {
         Shape::Nothing
+    }
+}
+
+/// The table that a stage 2 word points to with so many levels left; None where it is no word of a table.
+#[tactic(auto, unfolding(crate::specs::Meaning::means2_of))]
+#[inline(always)]
+pub fn table2<const G: u32>(w: u64, left: u32, config: &Config) -> Option<u64>
+    requires granule { G ≡ granule_of config.now.tg2 }
+    requires left { left ≤ most_left }
+    ensures { IsTableOf2 (means2_of config.now left w) result }
+{
+    if left > 0 && flag::<0>(w) && flag::<1>(w) {
+        Some(address::<G>(w, G))
+    } else {
+        None
     }
 }
 

@@ -29,16 +29,6 @@ pub record IsTableOf (c : Config) (from : From2) : Type 0 where
 abbrev pub WalkedLeft : (told : Told) (failed : Type 0) (under : Under2) (left table : ℕ) (old new : List Item) (result : Result Leaf2 Stop) → Type 0
 WalkedLeft told failed u left table old new r = Walked (ReadsWord u.moment told) told failed (walk2_from (asked_under u) left table) old new r
 
--- The word that an IPA selects in a table with so many levels left was read and appended, and this is where it leads.
--- (Parameters as above.)
-abbrev pub HasStepped : (told : Told) (failed : Type 0) (under : Under2) (left table : ℕ) (old new : List Item)
-    (result : Result (Lead Leaf2 ℕ) Stop) → Type 0
-HasStepped told failed u left table old new (Ok lead) =
-    let place = place_of u.sizes left table u.ipa in
-    (v : ℕ) × HasRead told failed (walker_under u) (level_of left) place old new (Ok v) × (lead ≡ step2 (asked_under u) left place v)
-HasStepped told failed u left table old new (Err stop) =
-    HasRead told failed (walker_under u) (level_of left) (place_of u.sizes left table u.ipa) old new (Err stop)
-
 -- what a walk from a given table is asked: where an IPA goes under register fields, with which mark, at which moment
 pub record AskedFrom : Type 0 where
   pub config : Config
