@@ -1,5 +1,5 @@
 -- What a descriptor word means (DDI 0487, the VMSAv8-64 descriptor formats).
-use Rattle.std.specs.Prelude.{ℕ, ◌+◌, ◌*◌, ◌^◌, Bool, not, ◌==◌, ◌&&◌, if◌then◌else◌}
+use Rattle.std.specs.Prelude.{ℕ, ◌≡◌, ◌+◌, ◌*◌, ◌^◌, Bool, not, ◌==◌, ◌&&◌, if◌then◌else◌, Option, Some, None}
 use Rattle.bitwords.specs.Fields.{bits_of, bit}
 use Rattle.geometry.specs.Tables.{class_of, has_block}
 use Rattle.sysregs.specs.declared.regs.Config.{Config}
@@ -52,3 +52,13 @@ kind2_of g left w Mapping =
 -- a stage 2 word with so many levels left
 unfoldable pub means2_of : (config : Config) (left word : ℕ) → Kind2
 means2_of c left w = let g = granule_of c.tg2 in kind2_of g left w (shape_of g left w)
+
+-- what a stage 1 word means is this table with its bits, or it is no table's
+abbrev pub IsTableOf1 : (kind : Kind1) (table : Option (ℕ × TableBits)) → Type 0
+IsTableOf1 k (Some table) = k ≡ Table table.0 table.1
+IsTableOf1 k None = (table : ℕ) (bits : TableBits) → k ≡ Table table bits → ⊥
+
+-- what a stage 2 word means is this table, or it is no table's
+abbrev pub IsTableOf2 : (kind : Kind2) (table : Option ℕ) → Type 0
+IsTableOf2 k (Some table) = k ≡ Table2 table
+IsTableOf2 k None = (table : ℕ) → k ≡ Table2 table → ⊥

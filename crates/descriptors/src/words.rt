@@ -3,7 +3,7 @@ ghost use Rattle.bitwords.specs.Fields.{bits_of};
 ghost use Rattle.geometry.specs.Tables.{IsGranule, most_left};
 ghost use Rattle.sysregs.specs.Registers.{granule_of};
 ghost use Rattle.sysregs.specs.Sides.{tg_of};
-ghost use Rattle.descriptors.specs.Meaning.{address_in, shape_of, table_bits, leaf_bits, means1_of, means2_of};
+ghost use Rattle.descriptors.specs.Meaning.{address_in, shape_of, table_bits, leaf_bits, means1_of, means2_of, IsTableOf1, IsTableOf2};
 
 use crate::kinds::{Kind1, Kind2};
 use bitwords::{align_down, field, flag};
@@ -66,6 +66,21 @@ fn shape_at<const G: u32, const LEFT: u32>(w: u64) -> Shape
     }
 }
 
+/// The table that a stage 2 word points to with so many levels left; None where it is no word of a table.
+#[tactic(auto, unfolding(crate::specs::Meaning::means2_of))]
+#[inline(always)]
+pub fn table2<const G: u32>(w: u64, left: u32, config: &Config) -> Option<u64>
+    requires granule { G ≡ granule_of config.now.tg2 }
+    requires left { left ≤ most_left }
+    ensures { IsTableOf2 (means2_of config.now left w) result }
+{
+    if left > 0 && flag::<0>(w) && flag::<1>(w) {
+        Some(address::<G>(w, G))
+    } else {
+        None
+    }
+}
+
 /// APTable, PXNTable and UXNTable, all read as 0 with HPD.
 fn table_bits(w: u64, hpd: bool) -> TableBits
     ensures { result ≡ table_bits hpd w }
@@ -75,6 +90,27 @@ fn table_bits(w: u64, hpd: bool) -> TableBits
         read_only: flag::<62>(w) & !hpd,
         pxn: flag::<59>(w) & !hpd,
         uxn: flag::<60>(w) & !hpd,
+    }
+}
+
+/// The table that a stage 1 word points to with so many levels left, and its bits, in the tables of a side; None where it is no
+/// word of a table.
+#[tactic(auto, unfolding(crate::specs::Meaning::means1_of))]
+#[inline(always)]
+pub fn table1<const G: u32>(
+    w: u64,
+    left: u32,
+    config: &Config,
+    side: Side,
+) -> Option<(u64, TableBits)>
+    requires granule { G ≡ granule_of (tg_of config.now side) }
+    requires left { left ≤ most_left }
+    ensures { IsTableOf1 (means1_of config.now side left w) result }
+{
+    if left > 0 && flag::<0>(w) && flag::<1>(w) {
+        Some((address::<G>(w, G), table_bits(w, config.hpd(side))))
+    } else {
+        None
     }
 }
 

@@ -18,7 +18,8 @@ use Rattle.walk_spec.specs.Steps.{End, stops, reaches, step_then}
 use Rattle.walk_spec.specs.Stage1.{Asked, untagged, fault1, step1, entry1, walk1_from}
 use Rattle.stage1_walk.specs.declared.under.Under1.{Under1}
 use Rattle.stage1_walk.specs.Under.{IsUnder, asked_under}
-use Rattle.stage1_walk.specs.Gave.{Gave, IsLastPlace, by_entry, Walked1, answer_of}
+use Rattle.stage1_walk.specs.SoundSteps.{EndsIn}
+use Rattle.stage1_walk.specs.Gave.{Gave, IsLastPlace, by_entry, Walked1, answer_of, EndsInWord}
 
 -- the walk from the next table, if there is a level below
 abbrev pub walk1_below : (q : Asked) (left : ℕ) (table : Table1) → Ask Entry1 Item (End Leaf1)
@@ -58,6 +59,10 @@ last_same [] [] i j e = cc
 last_same [] (y ∷ ys) i j e = let f : [] ≡ ys ++ j ∷ [] = cc in none_behind ys j (i ≡ j) f
 last_same (x ∷ xs) [] i j e = let f : [] ≡ xs ++ i ∷ [] = cc in none_behind xs i (i ≡ j) f
 last_same (x ∷ xs) (y ∷ ys) i j e = let f : xs ++ i ∷ [] ≡ ys ++ j ∷ [] = cc in last_same xs ys i j f
+
+-- a word's own item is the last of the trail
+pub last_given : (old new more : List Item) (v : ℕ) → new ≡ old ++ more → EndsInWord more (Ok v) → (p : ℕ) × IsLastPlace new p
+last_given old new more v g w = (w.1.pa, (old ++ w.0, w.1, g ∙ ap (λ m. old ++ m) w.2 ∙ sym (append_assoc old w.0 (w.1 ∷ [])), refl))
 
 module _ {S : Type 0} (gives : S → ℤ → ℕ → List Item → Result ℕ Stop → S → Type 0) (q : Asked) (left : ℕ) (t : Table1) (e : Entry1)
     (here : e ≡ entry1 q left t) where
@@ -104,14 +109,21 @@ module _ {S : Type 0} (gives : S → ℤ → ℕ → List Item → Result ℕ St
     }
 
     -- the word is that of a leaf
-    pub word_reaches : (l : Leaf1) (result : Result Leaf1 Stop) → Reached l ≡ step1 q e p v → result ≡ Ok l
+    word_reaches : (l : Leaf1) (result : Result Leaf1 Stop) → Reached l ≡ step1 q e p v → result ≡ Ok l
         → Walked1 gives q left t before old middle result mid
     word_reaches l result step a = ends (reaches l) result (ap (walk1_then q left) (sym step)) a
 
     -- the word is a fault
-    pub word_stops : (f : Fault) (result : Result Leaf1 Stop) → Stopped f ≡ step1 q e p v → result ≡ Err (FaultStop f)
+    word_stops : (f : Fault) (result : Result Leaf1 Stop) → Stopped f ≡ step1 q e p v → result ≡ Err (FaultStop f)
         → Walked1 gives q left t before old middle result mid
     word_stops f result step a = ends (stops f) result (ap (walk1_then q left) (sym step)) a
+
+    -- the word is that of no table
+    pub word_last : (lead : Lead Leaf1 Table1) (result : Result Leaf1 Stop) → lead ≡ step1 q e p v → EndsIn lead result
+        → Walked1 gives q left t before old middle result mid
+    word_last (Down next) result step h = absurd h
+    word_last (Reached l) result step h = word_reaches l result step h
+    word_last (Stopped f) result step h = word_stops f result step h
 
     -- the word is that of a table
     pub word_goes : (after : S) (next : Table1) (new : List Item) (result : Result Leaf1 Stop) → Down next ≡ step1 q e p v → 0 < left

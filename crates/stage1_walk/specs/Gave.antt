@@ -10,8 +10,7 @@ use Rattle.walk_spec.specs.declared.entry.Table1.{Table1}
 use Rattle.walk_spec.specs.declared.leaf.Leaf1.{Leaf1}
 use Rattle.walk_spec.specs.Ask.{Ran, Gives}
 use Rattle.walk_spec.specs.Steps.{End, stops, reaches}
-use Rattle.walk_spec.specs.Stage1.{Asked, entry1, step1, walk1_from}
-use Rattle.table_reads.specs.declared.lead.Lead.{Lead}
+use Rattle.walk_spec.specs.Stage1.{Asked, walk1_from}
 
 -- the last of the items is the word that is answered
 abbrev pub EndsInWord : (items : List Item) (result : Result ℕ Stop) → Type 0
@@ -30,13 +29,6 @@ pub record Gave {S : Type 0} (gives : List Item → Result ℕ Stop → S → Ty
 -- a place is that of the last item
 abbrev pub IsLastPlace : (items : List Item) (place : ℕ) → Type 0
 IsLastPlace items p = (front : List Item) × (i : Item) × (items ≡ front ++ i ∷ []) × (p ≡ i.pa)
-
--- A supply gave the word of an entry, and this is where it leads from the place of its own item.
-abbrev pub HasStepped : {S : Type 0} → (gives : S → ℤ → ℕ → List Item → Result ℕ Stop → S → Type 0) → (asked : Asked) (entry : Entry1)
-    → (before : S) (old new : List Item) (result : Result (Lead Leaf1 Table1) Stop) (after : S) → Type 0
-HasStepped gives q e before old new (Ok lead) after =
-    (v p : ℕ) × Gave (gives before (level_of e.left) e.place) old new (Ok v) after × IsLastPlace new p × (lead ≡ step1 q e p v)
-HasStepped gives q e before old new (Err stop) after = Gave (gives before (level_of e.left) e.place) old new (Err stop) after
 
 -- what a supply does for an entry: it is asked for the level and the place
 abbrev pub by_entry : {S : Type 0} → (gives : S → ℤ → ℕ → List Item → Result ℕ Stop → S → Type 0) → Gives S Entry1 Item ℕ Stop

@@ -1,6 +1,8 @@
 -- What a step keeps to.
-use Rattle.std.specs.Prelude.{ℕ, ◌<◌, ◌^◌, ◌%◌, ◌≡◌, Bool}
+use Rattle.std.specs.Prelude.{ℕ, ◌<◌, ◌^◌, ◌%◌, ◌≡◌, Bool, Option, Some, None, Result, Ok, Err}
 use Rattle.fault_codes.specs.Status.{HasStatus}
+use Rattle.trails.specs.declared.outcome.Stop.{Stop}
+use Rattle.trails.specs.declared.outcome.Stop.TheVariants.{Fault}
 use Rattle.table_reads.specs.declared.lead.Lead.{Lead}
 use Rattle.table_reads.specs.declared.lead.Lead.TheVariants.{Down, Reached, Stopped}
 use Rattle.descriptors.specs.declared.kinds.Kind1.{Kind1}
@@ -18,3 +20,14 @@ IsSoundStep left (Stopped f) = HasStatus f
 -- what a word means that has these fields and this access flag
 abbrev pub kind_of : (af : Bool) (fields : Fields1) → Kind1
 kind_of af f = Leaf f.out f.attr_index f.bits f.sh af f.global f.contiguous
+
+-- a word leads down to this table, wherever it stands, or it doesn't
+abbrev pub GoesDown : (step : ℕ → Lead Leaf1 Table1) (left : ℕ) (table : Option Table1) → Type 0
+GoesDown step left (Some t) = ((place : ℕ) → Down t ≡ step place) × (0 < left) × (t.address < 2 ^ 52) × (t.address % 8 ≡ 0)
+GoesDown step left None = (place : ℕ) (t : Table1) → Down t ≡ step place → ⊥
+
+-- the answer where a word leads to a leaf or a fault
+abbrev pub EndsIn : (lead : Lead Leaf1 Table1) (result : Result Leaf1 Stop) → Type 0
+EndsIn (Down table) r = ⊥
+EndsIn (Reached l) r = r ≡ Ok l
+EndsIn (Stopped f) r = r ≡ Err (Fault f)

@@ -1,4 +1,4 @@
-ghost use Rattle.std.specs.Prelude.{◌≡◌, ◌≤◌, ◌<◌, ◌^◌, ◌%◌, true, if◌then◌else◌};
+ghost use Rattle.std.specs.Prelude.{◌≡◌, ◌≤◌, ◌<◌, ◌^◌, ◌%◌, true, if◌then◌else◌, None, IfErr};
 ghost use Rattle.geometry.specs.Tables.{most_left};
 ghost use Rattle.sysregs.specs.Registers.{granule_of};
 ghost use Rattle.sysregs.specs.Sides.{tg_of};
@@ -11,18 +11,19 @@ ghost use Rattle.descriptors.specs.Meaning.{means1_of};
 ghost use Rattle.descriptors.specs.Bounds.{IsBounded1};
 ghost use Rattle.walk_spec.specs.Stage1.{fault1, leaf1_of, judged1, step1, step1_by};
 ghost use Rattle.stage1_walk.specs.Under.{IsUnder, regime_under, asked_under};
-ghost use Rattle.stage1_walk.specs.SoundSteps.{IsSoundStep, kind_of};
+ghost use Rattle.stage1_walk.specs.SoundSteps.{IsSoundStep, kind_of, GoesDown, EndsIn};
+ghost use Rattle.trails.specs.Printed.{HasTextStop};
 
 use crate::under::Under1;
 use attributes::types::{mair, share};
 use bitwords::power;
-use descriptors::{Kind1, decode1};
+use descriptors::{Kind1, decode1, table1};
 use fault_codes::{Class, Fault, Stage};
 use geometry::{case_table, goes_to, leaf_class};
 use permissions::{TableBits, allows1, perms1};
 use sysregs::{Config, Side};
 use table_reads::{Lead, Walker, is_too_large, level};
-use trails::Access;
+use trails::{Access, Stop};
 use walk_spec::{Entry1, Fields1, Leaf1, Table1};
 
 /// A fault with so many levels left.
@@ -255,4 +256,43 @@ pub(crate) fn step_by<const G: u32>(
     ensures sound { IsSoundStep entry.now.left result }
 {
     case_table!(level entry.left; step_at::<G>(under, entry, place, word))
+}
+
+/// The table that the word of an entry leads down to; None where it leads to a leaf or a fault.
+#[tactic(auto, unfolding(walk_spec::specs::Stage1::step1), using(descriptors::proofs::Bounds::bounded1))]
+#[inline(always)]
+pub(crate) fn table_below<const G: u32>(under: &Under1, entry: &Entry1, word: u64) -> Option<Table1>
+    requires granule { G ≡ granule_of (tg_of under.now.config.now under.now.side) }
+    requires under { IsUnder under.now }
+    requires left { entry.now.left ≤ most_left }
+    ensures { GoesDown (λ place. step1 (asked_under under.now) entry.now place word) entry.now.left result }
+{
+    match table1::<G>(word, entry.left, under.config, under.side) {
+        Some((address, bits)) if !is_too_large(&under.sizes, address) => Some(Table1 {
+            address,
+            bits: joined(entry.table.bits, bits),
+        }),
+        _ => None,
+    }
+}
+
+/// What the word of an entry gives that leads down to no table.
+pub(crate) fn end_by<const G: u32>(
+    under: &Under1,
+    entry: &Entry1,
+    place: u64,
+    word: u64,
+) -> Result<Leaf1, Stop>
+    requires granule { G ≡ granule_of (tg_of under.now.config.now under.now.side) }
+    requires under { IsUnder under.now }
+    requires left { entry.now.left ≤ most_left }
+    requires end { GoesDown (λ p. step1 (asked_under under.now) entry.now p word) entry.now.left None }
+    ensures value { EndsIn (step1 (asked_under under.now) entry.now place word) result }
+    ensures text { IfErr result HasTextStop }
+{
+    match step_by::<G>(under, entry, place, word) {
+        Lead::Down { .. } => unreachable!(),
+        Lead::Reached { leaf } => Ok(leaf),
+        Lead::Stopped { fault } => Err(Stop::Fault { fault }),
+    }
 }

@@ -1,4 +1,4 @@
-ghost use Rattle.std.specs.Prelude.{◌≡◌, ◌+◌, ◌-◌, ◌*◌, ◌≤◌, ◌<◌, ◌^◌, ◌%◌, length, true, IsFalse, IfOk, IfErr};
+ghost use Rattle.std.specs.Prelude.{◌≡◌, ◌+◌, ◌-◌, ◌*◌, ◌≤◌, ◌<◌, ◌^◌, ◌%◌, length, true, IsFalse, IfErr};
 ghost use Rattle.geometry.specs.Tables.{most_left, left_below, level_of};
 ghost use Rattle.sysregs.specs.Registers.{InRange, granule_of};
 ghost use Rattle.sysregs.specs.Sides.{side_of, tg_of};
@@ -6,18 +6,15 @@ ghost use Rattle.trails.specs.Lengths.{most_items, most_per_word};
 ghost use Rattle.trails.specs.Printed.{HasTextStop};
 ghost use Rattle.walk_spec.specs.BothStages.{asked, is_refused1};
 ghost use Rattle.stage1_walk.specs.Under.{IsUnder, asked_under};
-ghost use Rattle.walk_spec.specs.Stage1;
-ghost use Rattle.stage1_walk.specs.SoundSteps.{IsSoundStep};
 ghost use Rattle.stage1_walk.specs.Clauses.{IsTableOf, table_from};
-ghost use Rattle.stage1_walk.specs.Gave.{Gave, IsLastPlace, HasStepped, Walked1};
+ghost use Rattle.stage1_walk.specs.Gave.{Gave, IsLastPlace, Walked1};
 
-use crate::step::step_at;
+use crate::step::{end_by, table_below};
 use crate::supply::Supply1;
 use crate::under::Under1;
-use geometry::case_table;
 use permissions::TableBits;
 use sysregs::Config;
-use table_reads::{Lead, left_below, level, place};
+use table_reads::{left_below, level, place};
 use trails::{Access, Stop, Trail};
 use walk_spec::{Entry1, Leaf1, Table1};
 
@@ -52,56 +49,6 @@ fn word_of<S: Supply1>(entry: &Entry1, supply: &mut S, trail: &mut Trail) -> Res
     supply.word_at(level(entry.left), entry.place, trail)
 }
 
-/// The word of the entry that the address selects in a table with `LEFT` levels left, and where it leads.
-#[inline(always)]
-fn level_at<const G: u32, const LEFT: u32, S: Supply1>(
-    under: &Under1,
-    table: Table1,
-    supply: &mut S,
-    trail: &mut Trail,
-) -> Result<Lead<Leaf1, Table1>, Stop>
-    requires granule { G ≡ granule_of (tg_of under.now.config.now under.now.side) }
-    requires under { IsUnder under.now }
-    requires left { LEFT ≤ under.now.sizes.start }
-    requires table { table.address < 2 ^ 52 × table.address % 8 ≡ 0 }
-    requires room { length trail.old + most_per_word ≤ most_items }
-    ensures text { IfErr result HasTextStop }
-    ensures sound { IfOk result (IsSoundStep LEFT) }
-    ensures stepped { HasStepped S.gives (asked_under under.now) (Stage1.entry1 (asked_under under.now) LEFT table)
-        supply.old trail.old trail.new result supply.new }
-{
-    let entry = Entry1 {
-        table,
-        place: place::<G>(&under.sizes, LEFT, table.address, under.address),
-        address: under.address,
-        left: LEFT,
-    };
-    let word = word_of(&entry, supply, trail)?;
-    Ok(step_at::<G, LEFT>(under, &entry, last_place(trail), word))
-}
-
-/// The same with so many levels left, by an instance for each number: its shifts and masks are constants.
-#[inline(always)]
-fn level_by<const G: u32, S: Supply1>(
-    under: &Under1,
-    left: u32,
-    table: Table1,
-    supply: &mut S,
-    trail: &mut Trail,
-) -> Result<Lead<Leaf1, Table1>, Stop>
-    requires granule { G ≡ granule_of (tg_of under.now.config.now under.now.side) }
-    requires under { IsUnder under.now }
-    requires left { left ≤ under.now.sizes.start }
-    requires table { table.address < 2 ^ 52 × table.address % 8 ≡ 0 }
-    requires room { length trail.old + most_per_word ≤ most_items }
-    ensures text { IfErr result HasTextStop }
-    ensures sound { IfOk result (IsSoundStep left) }
-    ensures stepped { HasStepped S.gives (asked_under under.now) (Stage1.entry1 (asked_under under.now) left table)
-        supply.old trail.old trail.new result supply.new }
-{
-    case_table!(level left; level_at::<G, _, S>(under, table, supply, trail))
-}
-
 /// The walk from a table with so many levels left down to a leaf, under numbers that are at hand, over any supply of its
 /// words.
 pub fn walk1_under<const G: u32, S: Supply1>(
@@ -121,13 +68,19 @@ pub fn walk1_under<const G: u32, S: Supply1>(
     ensures walked { Walked1 S.gives (asked_under under.now) left table supply.old trail.old trail.new result supply.new }
 {
     loop {
-        match level_by::<G, S>(under, left, table, supply, trail)? {
-            Lead::Down { table: next } => {
+        let entry = Entry1 {
+            table,
+            place: place::<G>(&under.sizes, left, table.address, under.address),
+            address: under.address,
+            left,
+        };
+        let word = word_of(&entry, supply, trail)?;
+        match table_below::<G>(under, &entry, word) {
+            Some(next) => {
                 table = next;
                 left -= 1;
             }
-            Lead::Reached { leaf } => return Ok(leaf),
-            Lead::Stopped { fault } => return Err(Stop::Fault { fault }),
+            None => return end_by::<G>(under, &entry, last_place(trail), word),
         }
     }
 }

@@ -1,19 +1,17 @@
 -- What the clauses of a walk through stage 2 say.
-use Rattle.std.specs.Prelude.{ℕ, ◌≡◌, ◌≤◌, ◌<◌, ◌%◌, ◌^◌, Bool, List, Result, Ok, Err, pos, ◌≤ℤ◌}
-use Rattle.geometry.specs.Tables.{left_below, level_of}
+use Rattle.std.specs.Prelude.{ℕ, ◌≡◌, ◌≤◌, ◌<◌, ◌%◌, ◌^◌, Bool, List, Result, pos, ◌≤ℤ◌}
+use Rattle.geometry.specs.Tables.{left_below}
 use Rattle.sysregs.specs.declared.regs.Config.{Config}
 use Rattle.trails.specs.declared.item.Item.{Item}
 use Rattle.trails.specs.declared.outcome.Stop.{Stop}
 use Rattle.table_reads.specs.Numbers.{sizes2}
-use Rattle.table_reads.specs.declared.lead.Lead.{Lead}
-use Rattle.table_reads.specs.Places.{place_of}
-use Rattle.table_reads.specs.Memory.{Told, HasRead}
+use Rattle.table_reads.specs.Memory.{Told}
 use Rattle.walk_spec.specs.declared.leaf.Leaf2.{Leaf2}
-use Rattle.walk_spec.specs.Stage2.{Asked2, step2, walk2_from}
+use Rattle.walk_spec.specs.Stage2.{Asked2, walk2_from}
 use Rattle.walk_spec.specs.Walked.{Walked, ReadsWord}
 use Rattle.stage2_walk.specs.declared.under.Under2.{Under2}
 use Rattle.stage2_walk.specs.declared.walk.From2.{From2}
-use Rattle.stage2_walk.specs.Under.{asked_under, walker_under}
+use Rattle.stage2_walk.specs.Under.{asked_under}
 
 -- The table is one of stage 2, from the start level down, and its words can be read.
 pub record IsTableOf (c : Config) (from : From2) : Type 0 where
@@ -28,16 +26,6 @@ pub record IsTableOf (c : Config) (from : From2) : Type 0 where
 -- before and after.)
 abbrev pub WalkedLeft : (told : Told) (failed : Type 0) (under : Under2) (left table : ℕ) (old new : List Item) (result : Result Leaf2 Stop) → Type 0
 WalkedLeft told failed u left table old new r = Walked (ReadsWord u.moment told) told failed (walk2_from (asked_under u) left table) old new r
-
--- The word that an IPA selects in a table with so many levels left was read and appended, and this is where it leads.
--- (Parameters as above.)
-abbrev pub HasStepped : (told : Told) (failed : Type 0) (under : Under2) (left table : ℕ) (old new : List Item)
-    (result : Result (Lead Leaf2 ℕ) Stop) → Type 0
-HasStepped told failed u left table old new (Ok lead) =
-    let place = place_of u.sizes left table u.ipa in
-    (v : ℕ) × HasRead told failed (walker_under u) (level_of left) place old new (Ok v) × (lead ≡ step2 (asked_under u) left place v)
-HasStepped told failed u left table old new (Err stop) =
-    HasRead told failed (walker_under u) (level_of left) (place_of u.sizes left table u.ipa) old new (Err stop)
 
 -- what a walk from a given table is asked: where an IPA goes under register fields, with which mark, at which moment
 pub record AskedFrom : Type 0 where

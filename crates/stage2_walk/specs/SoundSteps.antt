@@ -1,6 +1,8 @@
 -- What a step keeps to.
-use Rattle.std.specs.Prelude.{ℕ, ◌<◌, ◌^◌, ◌%◌, ◌≡◌, Bool}
+use Rattle.std.specs.Prelude.{ℕ, ◌<◌, ◌^◌, ◌%◌, ◌≡◌, Bool, Option, Some, None, Result, Ok, Err}
 use Rattle.fault_codes.specs.Status.{HasStatus, HasLevel}
+use Rattle.trails.specs.declared.outcome.Stop.{Stop}
+use Rattle.trails.specs.declared.outcome.Stop.TheVariants.{Fault}
 use Rattle.fault_codes.specs.declared.fault.Class.TheVariants.{Permission}
 use Rattle.table_reads.specs.declared.lead.Lead.{Lead}
 use Rattle.table_reads.specs.declared.lead.Lead.TheVariants.{Down, Reached, Stopped}
@@ -22,3 +24,14 @@ IsSoundStep left ipa (Stopped f) = HasStatus f
 -- what a word means that has these fields and this access flag
 abbrev pub kind_of : (af : Bool) (fields : Fields2) → Kind2
 kind_of af f = Leaf f.out f.mem_attr f.read f.write f.xn f.sh af f.dbm f.contiguous
+
+-- a word leads down to this table, wherever it stands, or it doesn't
+abbrev pub GoesDown : (step : ℕ → Lead Leaf2 ℕ) (left : ℕ) (table : Option ℕ) → Type 0
+GoesDown step left (Some t) = ((place : ℕ) → Down t ≡ step place) × (0 < left) × (t < 2 ^ 52) × (t % 8 ≡ 0)
+GoesDown step left None = (place t : ℕ) → Down t ≡ step place → ⊥
+
+-- the answer where a word leads to a leaf or a fault
+abbrev pub EndsIn : (lead : Lead Leaf2 ℕ) (result : Result Leaf2 Stop) → Type 0
+EndsIn (Down table) r = ⊥
+EndsIn (Reached l) r = r ≡ Ok l
+EndsIn (Stopped f) r = r ≡ Err (Fault f)

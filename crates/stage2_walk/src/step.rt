@@ -1,4 +1,5 @@
-ghost use Rattle.std.specs.Prelude.{◌≡◌, ◌≤◌, ◌<◌, ◌^◌, ◌%◌, if◌then◌else◌};
+ghost use Rattle.std.specs.Prelude.{◌≡◌, ◌≤◌, ◌<◌, ◌^◌, ◌%◌, if◌then◌else◌, None, IfOk, IfErr};
+ghost use Rattle.walk_spec.specs.Walked.{HasLineStop};
 ghost use Rattle.geometry.specs.Tables.{most_left};
 ghost use Rattle.sysregs.specs.Registers.{granule_of};
 ghost use Rattle.fault_codes.specs.Status.{HasLevel};
@@ -8,16 +9,17 @@ ghost use Rattle.descriptors.specs.Bounds.{IsBounded2};
 ghost use Rattle.table_reads.specs.Places;
 ghost use Rattle.walk_spec.specs.Stage2.{fault2, leaf2_of, step2, step2_by};
 ghost use Rattle.stage2_walk.specs.Under.{IsUnder, asked_under};
-ghost use Rattle.stage2_walk.specs.SoundSteps.{IsSoundStep, kind_of};
+ghost use Rattle.stage2_walk.specs.SoundSteps.{IsSoundStep, IsSoundLeaf, GoesDown, EndsIn, kind_of};
 
 use crate::under::Under2;
 use attributes::types::{s2_attr, share};
-use descriptors::{Kind2, decode2};
+use descriptors::{Kind2, decode2, table2};
 use fault_codes::Class;
 use geometry::{case_table, goes_to, leaf_class};
 use permissions::perms2;
 use sysregs::Config;
 use table_reads::{Lead, fault, is_too_large, level};
+use trails::Stop;
 use walk_spec::{Fields2, Leaf2};
 
 /// What a word means with `LEFT` levels left, and that it keeps to its bounds.
@@ -185,4 +187,41 @@ pub(crate) fn step_by<const G: u32>(
     ensures sound { IsSoundStep left under.now.ipa result }
 {
     case_table!(level left; step_at::<G>(under, place, word))
+}
+
+/// The table that a word leads down to, with so many levels left; None where it leads to a leaf or a fault.
+#[tactic(auto, unfolding(walk_spec::specs::Stage2::step2), using(descriptors::proofs::Bounds::bounded2))]
+#[inline(always)]
+pub(crate) fn table_below<const G: u32>(under: &Under2, left: u32, word: u64) -> Option<u64>
+    requires granule { G ≡ granule_of under.now.config.now.tg2 }
+    requires under { IsUnder under.now }
+    requires left { left ≤ most_left }
+    ensures { GoesDown (λ place. step2 (asked_under under.now) left place word) left result }
+{
+    match table2::<G>(word, left, under.config) {
+        Some(table) if !is_too_large(&under.sizes, table) => Some(table),
+        _ => None,
+    }
+}
+
+/// What a word gives that leads down to no table.
+pub(crate) fn end_by<const G: u32>(
+    under: &Under2,
+    left: u32,
+    place: u64,
+    word: u64,
+) -> Result<Leaf2, Stop>
+    requires granule { G ≡ granule_of under.now.config.now.tg2 }
+    requires under { IsUnder under.now }
+    requires left { left ≤ most_left }
+    requires end { GoesDown (λ p. step2 (asked_under under.now) left p word) left None }
+    ensures value { EndsIn (step2 (asked_under under.now) left place word) result }
+    ensures line { IfErr result HasLineStop }
+    ensures sound { IfOk result (IsSoundLeaf under.now.ipa) }
+{
+    match step_by::<G>(under, left, place, word) {
+        Lead::Down { .. } => unreachable!(),
+        Lead::Reached { leaf } => Ok(leaf),
+        Lead::Stopped { fault } => Err(Stop::Fault { fault }),
+    }
 }

@@ -7,15 +7,14 @@ ghost use Rattle.table_reads.specs.Memory.{HasRead};
 ghost use Rattle.walk_spec.specs.Stage2.{is_refused2};
 ghost use Rattle.walk_spec.specs.Walked.{HasLineStop};
 ghost use Rattle.stage2_walk.specs.Under.{IsUnder, asked_under, walker_under};
-ghost use Rattle.stage2_walk.specs.SoundSteps.{IsSoundLeaf, IsSoundStep};
-ghost use Rattle.stage2_walk.specs.Clauses.{IsTableOf, HasStepped, WalkedLeft, WalkedFrom};
+ghost use Rattle.stage2_walk.specs.SoundSteps.{IsSoundLeaf};
+ghost use Rattle.stage2_walk.specs.Clauses.{IsTableOf, WalkedLeft, WalkedFrom};
 
 use crate::sizes::sizes2;
-use crate::step::step_at;
+use crate::step::{end_by, table_below};
 use crate::under::Under2;
-use geometry::case_table;
 use sysregs::Config;
-use table_reads::{Lead, Supply, left_below, level, place, read};
+use table_reads::{Supply, left_below, level, place, read};
 use trails::{Stop, Trail};
 use walk_spec::Leaf2;
 
@@ -47,53 +46,6 @@ fn read_word<S: Supply>(
     read(&under.walker(), level(left), place, supply, trail)
 }
 
-/// Reads the word that the IPA selects in a table with `LEFT` levels left, appends its item, and answers where it leads.
-#[inline(always)]
-fn level_at<const G: u32, const LEFT: u32, S: Supply>(
-    under: &Under2,
-    table: u64,
-    supply: &mut S,
-    trail: &mut Trail,
-) -> Result<Lead<Leaf2, u64>, Stop>
-    requires granule { G ≡ granule_of under.now.config.now.tg2 }
-    requires under { IsUnder under.now }
-    requires left { LEFT ≤ under.now.sizes.start }
-    requires table { table < 2 ^ 52 × table % 8 ≡ 0 }
-    requires room { length trail.old < most_items }
-    ensures same { S.memory supply.new ≡ S.memory supply.old }
-    ensures later { S.faults supply.old ≤ S.faults supply.new }
-    ensures kept { S.keeps supply.old supply.new }
-    ensures sound { IfOk result (IsSoundStep LEFT under.now.ipa) }
-    ensures stepped { HasStepped (S.memory supply.old) (Rose (S.faults supply.old) (S.faults supply.new)) under.now LEFT table trail.old trail.new result }
-{
-    let place = place::<G>(&under.sizes, LEFT, table, under.ipa);
-    let word = read_word(under, LEFT, place, supply, trail)?;
-    Ok(step_at::<G, LEFT>(under, place, word))
-}
-
-/// The same with so many levels left, by an instance for each number: its shifts and masks are constants.
-#[inline(always)]
-fn level_by<const G: u32, S: Supply>(
-    under: &Under2,
-    left: u32,
-    table: u64,
-    supply: &mut S,
-    trail: &mut Trail,
-) -> Result<Lead<Leaf2, u64>, Stop>
-    requires granule { G ≡ granule_of under.now.config.now.tg2 }
-    requires under { IsUnder under.now }
-    requires left { left ≤ under.now.sizes.start }
-    requires table { table < 2 ^ 52 × table % 8 ≡ 0 }
-    requires room { length trail.old < most_items }
-    ensures same { S.memory supply.new ≡ S.memory supply.old }
-    ensures later { S.faults supply.old ≤ S.faults supply.new }
-    ensures kept { S.keeps supply.old supply.new }
-    ensures sound { IfOk result (IsSoundStep left under.now.ipa) }
-    ensures stepped { HasStepped (S.memory supply.old) (Rose (S.faults supply.old) (S.faults supply.new)) under.now left table trail.old trail.new result }
-{
-    case_table!(level left; level_at::<G, _, S>(under, table, supply, trail))
-}
-
 /// The walk from a table with so many levels left down to a leaf, under numbers that are at hand. The items of its words
 /// are appended.
 #[inline(always)]
@@ -118,13 +70,14 @@ pub fn walk2_under<const G: u32, S: Supply>(
     ensures walked { WalkedLeft (S.memory supply.old) (Rose (S.faults supply.old) (S.faults supply.new)) under.now left table trail.old trail.new result }
 {
     loop {
-        match level_by::<G, S>(under, left, table, supply, trail)? {
-            Lead::Down { table: next } => {
+        let place = place::<G>(&under.sizes, left, table, under.ipa);
+        let word = read_word(under, left, place, supply, trail)?;
+        match table_below::<G>(under, left, word) {
+            Some(next) => {
                 table = next;
                 left -= 1;
             }
-            Lead::Reached { leaf } => return Ok(leaf),
-            Lead::Stopped { fault } => return Err(Stop::Fault { fault }),
+            None => return end_by::<G>(under, left, place, word),
         }
     }
 }

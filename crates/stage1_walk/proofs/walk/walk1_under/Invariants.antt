@@ -8,8 +8,8 @@ use Rattle.stage1_walk.specs.Gave.{Walked1}
 use Rattle.stage1_walk.proofs.walk.walk1_under.Given as goal
 
 -- a walk from the table that is reached is the rest of the walk from the first one
-abbrev pub invariant-loop-next : goal.invariant-loop-next
-invariant-loop-next g l = record {
+abbrev pub invariant-loop-word : goal.invariant-loop-word
+invariant-loop-word g l = record {
   left : l.left ≤ l.fn.left;
   table : (l.table.address < 2 ^ 52) × (l.table.address % 8 ≡ 0);
   most : length l.trail + most_per_word * (l.left + 1) ≤ length l.fn.trail + most_per_word * (l.fn.left + 1);
@@ -18,5 +18,5 @@ invariant-loop-next g l = record {
       → Walked1 g.S.Supply1.gives (asked_under l.fn.under) l.fn.left l.fn.table l.fn.supply l.fn.trail new r after;
 }
 
-abbrev pub decreases-loop-next : goal.decreases-loop-next
-decreases-loop-next g l = l.left
+abbrev pub decreases-loop-word : goal.decreases-loop-word
+decreases-loop-word g l = l.left

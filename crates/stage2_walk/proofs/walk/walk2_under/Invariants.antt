@@ -7,8 +7,8 @@ use Rattle.stage2_walk.specs.Clauses.{WalkedLeft}
 use Rattle.stage2_walk.proofs.walk.walk2_under.Given as goal
 
 -- a walk from the table that is reached is the rest of the walk from the first one
-abbrev pub invariant-loop-next : goal.invariant-loop-next
-invariant-loop-next g l = record {
+abbrev pub invariant-loop-word : goal.invariant-loop-word
+invariant-loop-word g l = record {
   same : g.S.Supply.memory l.supply ≡ g.S.Supply.memory l.fn.supply;
   later : g.S.Supply.faults l.fn.supply ≤ g.S.Supply.faults l.supply;
   kept : g.S.Supply.keeps l.fn.supply l.supply;
@@ -20,5 +20,5 @@ invariant-loop-next g l = record {
       → WalkedLeft (g.S.Supply.memory l.fn.supply) (Rose (g.S.Supply.faults l.fn.supply) n) l.fn.under l.fn.left l.fn.table l.fn.trail new r;
 }
 
-abbrev pub decreases-loop-next : goal.decreases-loop-next
-decreases-loop-next g l = l.left
+abbrev pub decreases-loop-word : goal.decreases-loop-word
+decreases-loop-word g l = l.left
