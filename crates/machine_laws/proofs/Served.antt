@@ -328,7 +328,7 @@ module _ (laws : Laws) (plans : PlansAreFine) (v : View) (w : Core) (a : Access)
         kept = λ items h. (
           subst (AllUsed (Good v) None) (sym (eq items))
               (table_append (Good v) (now v) (opened v) None t.front t.last (marks rg (flat rg t.plan) items) t.first
-                  (table_no_leaf t.last.part t.to_table) h.next t.stored h.used),
+              (table_no_leaf t.last.part t.to_table) h.next t.stored h.used),
           subst (LastIs (IsNowBase (now v))) (sym (eq items)) (table_base (now v) t.front t.last (marks rg (flat rg t.plan) items) t.word h.last_base),
         );
         last = λ g q. subst (LastOk (now v) g) (sym t.is) (table_last trail t g (flat_fin rg t.plan g q));
