@@ -1,5 +1,5 @@
 -- One chain of stage 2: by a leaf's row, behind a table's row, from the register, or refused.
-use Rattle.std.proofs.Common.{◌≡◌, ℕ, zero, suc, ◌≤◌, Bool, true, false, cond, List, [], ◌∷◌, refl, sym, ap, ◌∙◌, subst, append-nil, arith}
+use Rattle.std.proofs.Common.{◌≡◌, ℕ, zero, suc, ◌≤◌, Bool, true, false, cond, List, [], ◌∷◌, refl, sym, ap, ◌∙◌, subst, append-nil, arith, ◌+◌, length}
 use Rattle.std.proofs.lemmas.Bool.{both_ways}
 use Rattle.geometry.specs.Tables.{most_left, left_below}
 use Rattle.sysregs.specs.declared.regs.Config.{Config}
@@ -8,6 +8,7 @@ use Rattle.fault_codes.specs.declared.fault.Fault.{Fault}
 use Rattle.fault_codes.specs.declared.fault.Class.TheVariants.{Translation, AddressSize}
 use Rattle.fault_codes.specs.declared.fault.Stage.TheVariants.{S2}
 use Rattle.trails.specs.declared.item.Item.{Item}
+use Rattle.trails.specs.Lengths.{most_items2}
 use Rattle.table_reads.specs.Places.{place_of, is_too_large}
 use Rattle.walk_spec.specs.declared.leaf.Leaf2.{Leaf2}
 use Rattle.walk_spec.specs.Ask.{Ask, done, ask, needs, ends, on}
@@ -112,9 +113,9 @@ module _ (c : Config) (s : Side) (p : Bool) (x : ℕ) (sup : Need → Supplied) 
   abbrev From : Bool → ℕ → ℕ → Ask Need Item (End Leaf2)
   From b left t = walk2_from (asked2 r b x) left t
 
-  -- the walk needs a word, and it is the walk from the word's table
+  -- the walk needs a word, and it is the walk from the word's table, one level down for each item
   AtWord : ℕ → ℕ → List Item → WordNeed → Type 0
-  AtWord left t items w = IsOn r (From p left t) items (From p w.left w.table) × (w.left ≤ left)
+  AtWord left t items w = IsOn r (From p left t) items (From p w.left w.table) × (length items + w.left ≡ left)
 
   done_ask : (e : End Leaf2) (items : List Item) (n : Need) (k : Item → Ask Need Item (End Leaf2)) → IsOn r (done e) items (ask n k) → ⊥
   done_ask e [] n k h = absurd cc
@@ -139,8 +140,8 @@ module _ (c : Config) (s : Side) (p : Bool) (x : ℕ) (sup : Need → Supplied) 
 
   turn_word : (left : ℕ) (i : Item) (rest : List Item) (w : WordNeed) (k : Item → Ask Need Item (End Leaf2)) (below : ℕ
       → Ask Need Item (End Leaf2)) (below' : ℕ → Ask Need Item (End Leaf2)) (m : ℕ) →
-      ((next : ℕ) → IsOn r (below next) rest (ask (word w) k) → IsOn r (below' next) rest (From p w.left w.table) × (w.left ≤ m)) → Turn2 r left i →
-      IsOn r (One false below left i) rest (ask (word w) k) → IsOn r (One p below' left i) rest (From p w.left w.table) × (w.left ≤ m)
+      ((next : ℕ) → IsOn r (below next) rest (ask (word w) k) → IsOn r (below' next) rest (From p w.left w.table) × (length rest + 1 + w.left ≡ m)) → Turn2 r left i →
+      IsOn r (One false below left i) rest (ask (word w) k) → IsOn r (One p below' left i) rest (From p w.left w.table) × (length rest + 1 + w.left ≡ m)
   turn_word left i rest w k below below' m rec (table next a d) h = rw (d p x) (rec next (rw (d false x) at h))
   turn_word left i rest w k below below' m rec (leaf f n d) h = absurd
       (done_ask (reaches (Rattle.walk_spec.specs.Stage2.leaf2_of (asked2 r false x) left i.pa f)) rest (word w) k (rw (d false x) at h))
@@ -154,17 +155,18 @@ module _ (c : Config) (s : Side) (p : Bool) (x : ℕ) (sup : Need → Supplied) 
   at_word zero t (i ∷ rest) w k h =
       let d = turn_word 0 i rest w k (λ _. done (stops (fault2 (asked2 r false x) Translation 0))) (λ _. done (stops (fault2 q2 Translation 0))) 0
       (λ next o. absurd (done_ask _ rest (word w) k o)) (turn2 r 0 i) h.1 in
-      ((fits_marked 0 (place_of r.stage2 0 t x) t i ∙ h.0, d.0), d.1)
+      ((fits_marked 0 (place_of r.stage2 0 t x) t i ∙ h.0, d.0), omega (arith, d.1))
   at_word (suc left) t (i ∷ rest) w k h =
       let d = turn_word (suc left) i rest w k (From false left) (From p left) (suc left)
       (λ next o. let z = at_word left next rest w k o in (z.0, omega (arith, z.1))) (turn2 r (suc left) i) h.1 in
-      ((fits_marked (suc left) (place_of r.stage2 (suc left) t x) t i ∙ h.0, d.0), d.1)
+      ((fits_marked (suc left) (place_of r.stage2 (suc left) t x) t i ∙ h.0, d.0), omega (arith, d.1))
 
   abbrev Behind : Bool → Bool → ℕ → Ask Need Item (End Leaf2)
   Behind big b base = cond big (done (stops (fault2 (asked2 r b x) AddressSize most_left))) (From b r.stage2.start base)
 
   behind_word : (big : Bool) (base : ℕ) (items : List Item) (w : WordNeed) (k : Item → Ask Need Item (End Leaf2))
-      → IsOn r (Behind big false base) items (ask (word w) k) → IsOn r (Behind big p base) items (From p w.left w.table) × (w.left ≤ r.stage2.start)
+      → IsOn r (Behind big false base) items (ask (word w) k) → IsOn r (Behind big p base) items (From p w.left w.table)
+          × (length items + w.left ≡ r.stage2.start)
   unfolding AtWord
   behind_word true base items w k h = absurd (done_ask _ items (word w) k h)
   behind_word false base items w k h = at_word r.stage2.start base items w k h
@@ -174,24 +176,35 @@ module _ (c : Config) (s : Side) (p : Bool) (x : ℕ) (sup : Need → Supplied) 
 
   -- a chain that needs a word has taken items, and is the walk from the word's table
   chain_word : (items : List Item) (w : WordNeed) (k : Item → Ask Need Item (End Leaf2)) → IsOn r (chain r false x) items (ask (word w) k)
-      → IsOn r (chain r p x) items (From p w.left w.table) × (w.left ≤ r.stage2.start)
+      → IsOn r (chain r p x) items (From p w.left w.table) × (length items + w.left ≡ r.stage2.start + 1)
   chain_word [] w k h = absurd cc
   chain_word (i ∷ rest) w k h =
       let d = behind_word (is_too_large r.stage2 i.value) i.value rest w k h.1 in
-      ((h.0, d.0), d.1)
+      ((h.0, d.0), omega (arith, d.1))
+
+  some_items : (items : List Item) (w : WordNeed) (k : Item → Ask Need Item (End Leaf2)) → IsOn r (chain r false x) items (ask (word w) k)
+      → 1 ≤ length items
+  some_items [] w k h = absurd cc
+  some_items (i ∷ rest) w k h = omega arith
 
   chain_table : (items : List Item) (from : From2) → NeedsOf from (stands2 c s false x items)
       → (is_refused2 c x ≡ false) × IsOn r (chain r p x) items (From p (left_below from.level) from.base)
+          × (length items + left_below from.level + 1 ≤ most_items2)
   chain_table items from n =
       let w : WordNeed = n.0 in
       let d = refused_needs r (is_refused2 c x) early (chain r false x) items (word w) n.1 in
       let o = needs_on r (chain r false x) items (word w) d.1 in
       let a = chain_word items w o.0 o.1 in
       let most : r.stage2.start ≤ most_left = (sound2 r x (of_fields c s) d.0).0.start in
-      let few : w.left ≤ most_left = omega (arith, a.1, most) in
+      let few : w.left ≤ most_left = omega (arith, a.1, most, some_items items w o.0 o.1) in
       let level : left_below from.level ≡ w.left = ap (λ f. left_below f.level) n.2 ∙ left_below_of w.left few in
       let base : from.base ≡ w.table = ap (λ f. f.base) n.2 in
-      (d.0, subst (λ l. IsOn r (chain r p x) items (From p l from.base)) (sym level) (subst (λ b. IsOn r (chain r p x) items (From p w.left b)) (sym base) a.0))
+      (
+        d.0,
+        subst (λ l. IsOn r (chain r p x) items (From p l from.base)) (sym level)
+            (subst (λ b. IsOn r (chain r p x) items (From p w.left b)) (sym base) a.0),
+        omega (arith, a.1, most, level),
+      )
 
   -- it isn't empty, since a chain needs the base first
   table_by : (row : Row) (other : Supplied) (items : List Item) (left t : ℕ) (n : WordNeed) → stands2 c s false x items ≡ needs (word n)
@@ -207,6 +220,11 @@ module _ (c : Config) (s : Side) (p : Bool) (x : ℕ) (sup : Need → Supplied) 
   table2_served row other from e h =
       let d = chain_table row.trail from h in
       ap (serve_at sup []) (chain_is d.0) ∙ table_by row other row.trail (left_below from.level) from.base h.0 h.1 e d.1 d.0
+
+  -- there is room behind its chain for the words below
+  pub table2_room : (items : List Item) (from : From2) → IsReplayed2 (More from) (stands2 c s false x items)
+      → length items + left_below from.level + 1 ≤ most_items2
+  table2_room items from h = (chain_table items from h).2
 
   -- where two leaves match, they are what is served
   pub both_served : (one two : List Item) → is_refused2 c x ≡ false → sup (stage2_base x) ≡ halts (clash one two)
