@@ -1,10 +1,13 @@
 -- Classes that are marked.
-use Rattle.std.proofs.Common.{◌≡◌, ℕ, zero, suc, ◌<◌, ◌+◌, Bool, true, false, cond, ◌&&◌, List, [], ◌∷◌, ◌++◌, take, length, get_or, set, map, replicate, refl, ap, sym, ◌∙◌, subst, arith, inl, inr}
+use Rattle.std.proofs.Common.{◌-◌, ◌≤◌, ◌≡◌, ℕ, zero, suc, ◌<◌, ◌+◌, Bool, true, false, cond, ◌&&◌, List, [], ◌∷◌, ◌++◌, take, length, get_or, set, map, replicate, refl, ap, sym, ◌∙◌, subst, arith, inl, inr}
 use Rattle.std.specs.Prelude.{◌==◌, ◌*◌, ◌%◌, ◌^◌, filter, bit_or}
 use Rattle.std.specs.List.{remove}
 use Rattle.std.specs.Int.{bit_at}
 use Rattle.std.proofs.lemmas.Bool.{cases_eq, eq-eqb, eqb-true, and_parts, both_ways}
-use Rattle.std.proofs.lemmas.Nat.Bits.{bit_at_set_same, bit_at_set_other, bit_at-zero}
+use Rattle.std.specs.Int.Count.{count_leading_zeros}
+use Rattle.std.proofs.Math.Pow.{pow-lt}
+use Rattle.std.proofs.lemmas.Nat.{leading_length}
+use Rattle.std.proofs.lemmas.Nat.Bits.{bit_at_set_same, bit_at_set_other, bit_at-zero, bit_at_above}
 use Rattle.std.proofs.Common.{w64}
 use Rattle.std.proofs.lemmas.List.{get_or-set_same, get_or-set_other}
 use Rattle.tagged_tlb.specs.declared.row.Row.{Row}
@@ -150,3 +153,16 @@ emptied sets i new lt e rest s h = elim (cases_eq i s) as (λ _. get_or (set set
   | inl q ↦ subst (λ v. get_or (set sets i new) v [] ≡ []) q (get_or-set_same sets i new [] lt ∙ e)
   | inr ne ↦ get_or-set_other sets i s new [] (λ q. ne (sym q)) ∙ rest s (omega (arith, h, ne))
 ]
+
+-- no class from one on is marked
+pub none_from : (m c d : ℕ) → m < 2 ^ c → c ≤ d → is_marked m d ≡ false
+none_from m c d small le = let z = bit_at_above m c d small le in ap (λ v. v == 1) z
+
+pub wider : (m c : ℕ) → m < 2 ^ c → m < 2 ^ (c + 1)
+wider m c h = let k : 2 ^ c < 2 ^ (c + 1) = pow-lt (omega arith) in omega (arith, h, k)
+
+pub end_above : (m : ℕ) → m < 2 ^ 64 → m < 2 ^ (64 - count_leading_zeros 64 m)
+end_above m h =
+    let l = leading_length 64 m h in
+    let e : l.0 ≡ 64 - count_leading_zeros 64 m = let a = l.1 in omega (arith, a) in
+    subst (λ v. m < 2 ^ v) e l.2

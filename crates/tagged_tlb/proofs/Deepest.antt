@@ -1,7 +1,8 @@
 -- The row of the smallest region that matches.
-use Rattle.std.proofs.Common.{◌≡◌, ℕ, suc, ◌<◌, ◌≤◌, ◌+◌, Bool, true, false, cond, ◌&&◌, List, [], ◌∷◌, length, get_or, refl, ap, sym, ◌∙◌, subst, arith, Option, Some, None, inl, inr}
+use Rattle.std.proofs.Common.{zero, ◌≡◌, ℕ, suc, ◌<◌, ◌≤◌, ◌+◌, Bool, true, false, cond, ◌&&◌, List, [], ◌∷◌, length, get_or, refl, ap, sym, ◌∙◌, subst, arith, Option, Some, None, inl, inr}
 use Rattle.std.specs.Prelude.{filter, ◌==◌, ◌%◌, ◌/◌, ◌^◌, nat_lt}
 use Rattle.std.proofs.lemmas.Bool.{cases_Bool, cases_eq, eq-eqb, eqb-true, ltb-true, and_from, and_parts, both_ways}
+use Rattle.std.proofs.lemmas.Option.{same_Some}
 use Rattle.std.proofs.lemmas.List.{get_or_default}
 use Rattle.tagged_tlb.specs.declared.row.Kind.{Kind}
 use Rattle.fault_codes.specs.declared.fault.Stage.TheVariants.{S1}
@@ -13,7 +14,7 @@ use Rattle.tagged_tlb.specs.Tied.{IsTied, AreTold, AreSmall, row_at, is_sought}
 use Rattle.tagged_tlb.specs.Slots.{hit}
 use Rattle.tagged_tlb.specs.Found.{first_hit}
 use Rattle.tagged_tlb.specs.Classes.{is_marked, AreMarked}
-use Rattle.tagged_tlb.proofs.Classes.{none_marked, marked_at}
+use Rattle.tagged_tlb.proofs.Classes.{none_marked, none_from, wider, marked_at}
 use Rattle.tagged_tlb.proofs.Order.{lt_yes}
 use Rattle.tagged_tlb.proofs.Finds.{class_rows}
 
@@ -203,3 +204,30 @@ none_of_class d sets k n q live told f c some marks marked no_mark h =
     let empty : filter (hit q c (q.at / 2 ^ c)) (get_or sets (q.at / 2 ^ c % n) []) ≡ [] =
     none_marked marks c no_mark q (q.at / 2 ^ c) (get_or sets (q.at / 2 ^ c % n) []) (marked_at marks sets (q.at / 2 ^ c % n) [] (subst (λ v. q.at / 2 ^ c % n < v) (sym f.count) lt) marked) in
     one_up (is_sought k q) c live h (sym (class_rows d sets k n q live told f c lt) ∙ empty)
+
+-- no row has a class from one on
+pub none_of_classes : (d : Row) (sets : List (List Row)) (k : Kind) (n : ℕ) (q : Sought) (live : List Row) (told : AreTold live) (f : IsTied k n live sets) → 0 < n
+    → (marks : ℕ) → AreMarked marks sets → (gap c : ℕ) → c + gap ≡ 64 → marks < 2 ^ c → NoneBelow (is_sought k q) c live → NoneBelow (is_sought k q) 64 live
+none_of_classes d sets k n q live told f some marks marked zero c e small h = let e : c ≡ 64 = omega (arith, e) in subst (λ v. NoneBelow (is_sought k q) v live) e h
+none_of_classes d sets k n q live told f some marks marked (suc gap) c e small h =
+    none_of_classes d sets k n q live told f some marks marked gap (c + 1) (omega (arith, e)) (wider marks c small)
+    (none_of_class d sets k n q live told f c some marks marked (none_from marks c c small (omega arith)) h)
+
+-- WHERE IT STANDS
+
+within_by : (test : Row → Bool) (way w : ℕ) (rows : List Row) (b : Bool) → cond b (Some way) (first_hit test (way + 1) rows) ≡ Some w
+    → (first_hit test (way + 1) rows ≡ Some w → w < way + 1 + length rows) → w < way + suc (length rows)
+within_by test way w rows true e rest = let k : way ≡ w = same_Some way w e in omega (arith, k)
+within_by test way w rows false e rest = let k = rest e in omega (arith, k)
+
+first_within : (test : Row → Bool) (way w : ℕ) (rows : List Row) → first_hit test way rows ≡ Some w → w < way + length rows
+first_within test way w [] e = none_some w e
+first_within test way w (r ∷ rows) e = within_by test way w rows (test r) e (first_within test (way + 1) w rows)
+
+-- the first of a set stands where it was found
+pub place_within : (sets : List (List Row)) (test : Row → Bool) (set w : ℕ) (one : List Row) → set < length sets → one ≡ get_or sets set one
+    → first_hit test 0 one ≡ Some w → w < length (get_or sets set [])
+place_within sets test set w one lt value e =
+    let one_is : one ≡ get_or sets set [] = value ∙ get_or_default sets set one [] lt in
+    let k = first_within test 0 w one e in
+    let l = ap length one_is in omega (arith, k, l)

@@ -1,5 +1,5 @@
 -- What a search by class and set finds.
-use Rattle.std.proofs.Common.{◌≡◌, ℕ, suc, ◌<◌, ◌+◌, Bool, true, false, cond, ◌&&◌, ◌||◌, List, [], ◌∷◌, length, get_or, take, inl, inr, refl, ap, sym, ◌∙◌, subst, arith}
+use Rattle.std.proofs.Common.{◌≤◌, zero, ◌≡◌, ℕ, suc, ◌<◌, ◌+◌, Bool, true, false, cond, ◌&&◌, ◌||◌, List, [], ◌∷◌, length, get_or, take, inl, inr, refl, ap, sym, ◌∙◌, subst, arith}
 use Rattle.std.specs.Prelude.{filter, ◌==◌, ◌%◌, ◌/◌, ◌^◌, nat_lt}
 use Rattle.std.proofs.lemmas.Bool.{cases_Bool, cases_eq, eq-eqb, eqb-true, ltb-true, and_from, and_parts, or_left, or_right}
 use Rattle.std.proofs.lemmas.List.{get_or_default}
@@ -8,6 +8,7 @@ use Rattle.sysregs.specs.Equality.{same_fields}
 use Rattle.fault_codes.specs.declared.fault.Stage.{Stage}
 use Rattle.fault_codes.specs.declared.fault.Stage.TheVariants.{S1, S2}
 use Rattle.tagged_tlb.specs.declared.row.Sought.{Sought}
+use Rattle.tagged_tlb.specs.declared.row.Made.{Made}
 use Rattle.tagged_tlb.specs.declared.row.Row.{Row}
 use Rattle.tagged_tlb.specs.declared.found.Seen.{Seen}
 use Rattle.tagged_tlb.specs.declared.found.Found.{Found}
@@ -15,9 +16,9 @@ use Rattle.tagged_tlb.specs.declared.found.Found.TheVariants.{Nothing, One, Two}
 use Rattle.tagged_tlb.specs.Rows.{same_kind, holds, is_older, inserted, by_making, matching}
 use Rattle.tagged_tlb.specs.Tied.{in_set, IsTied, AreTold, AreSmall, row_at, matches_by, is_sought}
 use Rattle.tagged_tlb.specs.Slots.{hit, suits_asid, is_keyed_row, made_of_row}
-use Rattle.tagged_tlb.specs.Found.{met, looked, seen_at, seen_row, found_rows, IsSeen, AreSeen}
+use Rattle.tagged_tlb.specs.Found.{met, looked, seen_at, seen_row, found_rows, IsSeen, AllSeen, IsWithin, AreWithin}
 use Rattle.tagged_tlb.specs.Classes.{is_marked, AreMarked}
-use Rattle.tagged_tlb.proofs.Classes.{none_marked, marked_at}
+use Rattle.tagged_tlb.proofs.Classes.{none_marked, none_from, wider, marked_at}
 use Rattle.tagged_tlb.proofs.Ties.{kind_itself, kind_is}
 use Rattle.tagged_tlb.proofs.Order.{lt_yes, runs, runs_adds, split, told_filter, two_with}
 
@@ -62,6 +63,43 @@ regroup2 false b c d = refl
 
 -- ONE MORE ROW THAT MATCHES
 
+module _ (P : Seen → Type 0) (s : Seen) (here : P s) where
+  one_each : (a : Seen) (b : Bool) → P a → AllSeen P (cond b (Two s a) (Two a s))
+  one_each a true h = (here, h)
+  one_each a false h = (h, here)
+
+  two_each : (a b : Seen) (x y : Bool) → P a → P b → AllSeen P (cond x (Two s a) (cond y (Two a s) (Two a b)))
+  two_each a b true y h k = (here, h)
+  two_each a b false true h k = (h, here)
+  two_each a b false false h k = (h, k)
+
+  met_each : (found : Found) → AllSeen P found → AllSeen P (met found s)
+  met_each Nothing h = here
+  met_each (One a) h = one_each a (is_older s.made a.made) h
+  met_each (Two a b) h = two_each a b (is_older s.made a.made) (is_older s.made b.made) h.0 h.1
+
+-- WHERE ROWS WERE FOUND
+
+module _ (sets : List (List Row)) (test : Row → Bool) (set : ℕ) (lt : set < length sets) where
+  found_by : (way : ℕ) (made : Made) (found : Found) (b : Bool) → way < length (get_or sets set []) → AreWithin sets found
+      → AreWithin sets (cond b (met found (seen_at set way made)) found)
+  found_by way made found true within h = met_each (λ s. IsWithin sets s.slot) (seen_at set way made) (lt, within) found h
+  found_by way made found false within h = h
+
+  looked_from : (way : ℕ) (found : Found) (rows : List Row) → way + length rows ≤ length (get_or sets set []) → AreWithin sets found
+      → AreWithin sets (looked test made_of_row set way found rows)
+  looked_from way found [] le h = h
+  looked_from way found (r ∷ rows) le h =
+      looked_from (way + 1) (cond (test r) (met found (seen_at set way r.made)) found) rows (omega (arith, le))
+      (found_by way r.made found (test r) (omega (arith, le)) h)
+
+-- the rows of a set are found where they stand
+pub looked_within : (sets : List (List Row)) (test : Row → Bool) (set : ℕ) (one : List Row) (found : Found) → set < length sets → one ≡ get_or sets set one
+    → AreWithin sets found → AreWithin sets (looked test made_of_row set 0 found one)
+looked_within sets test set one found lt value h =
+    let one_is : one ≡ get_or sets set [] = value ∙ get_or_default sets set one [] lt in
+    looked_from sets test set lt 0 found one (let e = ap length one_is in omega (arith, e)) h
+
 module _ (d : Row) (sets : List (List Row)) where
   abbrev at : Seen → Row
   at s = seen_row d sets s
@@ -81,30 +119,16 @@ module _ (d : Row) (sets : List (List Row)) where
     two_met a b false true e f = rw (e, f) refl
     two_met a b false false e f = rw (e, f) refl
 
-    pub met_rows : (found : Found) → AreSeen d sets found → found_rows d sets (met found s) ≡ take 2 (inserted (at s) (found_rows d sets found))
+    pub met_rows : (found : Found) → AllSeen (IsSeen d sets) found → found_rows d sets (met found s) ≡ take 2 (inserted (at s) (found_rows d sets found))
     met_rows Nothing h = refl
     met_rows (One a) h = one_met a (is_older s.made a.made) (older_is a h)
     met_rows (Two a b) h = two_met a b (is_older s.made a.made) (is_older s.made b.made) (older_is a h.0) (older_is b h.1)
-
-    one_seen : (a : Seen) (b : Bool) → IsSeen d sets a → AreSeen d sets (cond b (Two s a) (Two a s))
-    one_seen a true h = (here, h)
-    one_seen a false h = (h, here)
-
-    two_seen : (a b : Seen) (x y : Bool) → IsSeen d sets a → IsSeen d sets b → AreSeen d sets (cond x (Two s a) (cond y (Two a s) (Two a b)))
-    two_seen a b true y h k = (here, h)
-    two_seen a b false true h k = (h, here)
-    two_seen a b false false h k = (h, k)
-
-    pub met_seen : (found : Found) → AreSeen d sets found → AreSeen d sets (met found s)
-    met_seen Nothing h = here
-    met_seen (One a) h = one_seen a (is_older s.made a.made) h
-    met_seen (Two a b) h = two_seen a b (is_older s.made a.made) (is_older s.made b.made) h.0 h.1
 
   -- ONE SET
 
   -- what was found are the first two of some rows
   pub record IsBest (found : Found) (rows : List Row) : Type 0 where
-    pub seen : AreSeen d sets found
+    pub seen : AllSeen (IsSeen d sets) found
     pub are : found_rows d sets found ≡ take 2 rows
 
   -- the rows stand in a set from a place on
@@ -117,7 +141,7 @@ module _ (d : Row) (sets : List (List Row)) where
     next_best way r found xs e h =
         let here : IsSeen d sets (seen_at set way r.made) = ap (λ (v : Row). v.made) e in
         record {
-          seen = met_seen (seen_at set way r.made) here found h.seen;
+          seen = met_each (IsSeen d sets) (seen_at set way r.made) here found h.seen;
           are = met_rows (seen_at set way r.made) here found h.seen ∙ ap (λ (v : Row). take 2 (inserted v (found_rows d sets found))) e
               ∙ ap (λ v. take 2 (inserted r v)) h.are ∙ two_with r xs;
         }
@@ -250,6 +274,14 @@ module _ (d : Row) (sets : List (List Row)) where
         let none_here : filter (hit q c (q.at / 2 ^ c)) (get_or sets (q.at / 2 ^ c % n) []) ≡ [] =
         none_marked marks c no_mark q (q.at / 2 ^ c) (get_or sets (q.at / 2 ^ c % n) []) (marked_at marks sets (q.at / 2 ^ c % n) [] (subst (λ v. q.at / 2 ^ c % n < v) (sym f.count) lt) marked) in
         subst (IsBest found) (ap (runs (by_making (filter (below c) live))) (sym none_here) ∙ class_comes c lt) h
+
+    -- no row has a class from one on
+    pub no_classes : (gap c marks : ℕ) (found : Found) → c + gap ≡ 64 → 0 < n → AreMarked marks sets → marks < 2 ^ c
+        → IsBest found (by_making (filter (below c) live)) → IsBest found (by_making (filter (below 64) live))
+    no_classes zero c marks found e some marked small h = let e : c ≡ 64 = omega (arith, e) in subst (λ v. IsBest found (by_making (filter (below v) live))) e h
+    no_classes (suc gap) c marks found e some marked small h =
+        no_classes gap (c + 1) marks found (omega (arith, e)) some marked (wider marks c small)
+        (no_class c marks found some marked (none_from marks c c small (omega arith)) h)
 
     -- no class is below 0
     none_by : (r : Row) (b : Bool) → (b && nat_lt r.region.class 0) ≡ false

@@ -1,5 +1,5 @@
 -- What a search finds.
-use Rattle.std.specs.Prelude.{◌≡◌, ℕ, ◌+◌, Bool, if◌then◌else◌, List, [], ◌∷◌, Option, Some, None}
+use Rattle.std.specs.Prelude.{◌≡◌, ℕ, ◌+◌, ◌<◌, Bool, if◌then◌else◌, List, [], ◌∷◌, length, get_or, Option, Some, None}
 use Rattle.tagged_tlb.specs.declared.row.Made.{Made}
 use Rattle.tagged_tlb.specs.declared.row.Row.{Row}
 use Rattle.tagged_tlb.specs.declared.found.Seen.{Seen}
@@ -36,10 +36,23 @@ found_rows d sets (Two a b) = seen_row d sets a ∷ seen_row d sets b ∷ []
 abbrev pub IsSeen : (d : Row) (sets : List (List Row)) (seen : Seen) → Type 0
 IsSeen d sets s = (seen_row d sets s).made ≡ s.made
 
-abbrev pub AreSeen : (d : Row) (sets : List (List Row)) (found : Found) → Type 0
-AreSeen d sets Nothing = Unit {0}
-AreSeen d sets (One a) = IsSeen d sets a
-AreSeen d sets (Two a b) = IsSeen d sets a × IsSeen d sets b
+-- each row that was seen is so
+abbrev pub AllSeen : (holds : Seen → Type 0) (found : Found) → Type 0
+AllSeen P Nothing = Unit {0}
+AllSeen P (One a) = P a
+AllSeen P (Two a b) = P a × P b
+
+-- a row stands at the place
+abbrev pub IsWithin : (sets : List (List Row)) (slot : Slot) → Type 0
+IsWithin sets s = (s.set < length sets) × (s.way < length (get_or sets s.set []))
+
+-- rows stand where they were found
+abbrev pub AreWithin : (sets : List (List Row)) (found : Found) → Type 0
+AreWithin sets found = AllSeen (λ s. IsWithin sets s.slot) found
+
+abbrev pub MayBeWithin : (sets : List (List Row)) (slot : Option Slot) → Type 0
+MayBeWithin sets None = Unit {0}
+MayBeWithin sets (Some s) = IsWithin sets s
 
 -- the place of the first that passes, counted from a place on
 abbrev pub first_hit : {X : Type 0} → (test : X → Bool) (way : ℕ) (list : List X) → Option ℕ

@@ -1,5 +1,5 @@
 //! The sets of one kind of rows.
-ghost use Rattle.std.specs.Prelude.{◌≡◌, ℕ, ◌<◌, List, [], ◌∷◌, ◌++◌, not, length, get_or, map, filter, replicate, IfOk, take, option_map, false};
+ghost use Rattle.std.specs.Prelude.{◌≡◌, ℕ, ◌<◌, ◌≤◌, ◌^◌, List, [], ◌∷◌, ◌++◌, not, length, get_or, map, filter, replicate, IfOk, take, option_map, false};
 ghost use Rattle.trace_lang.specs.Traces.{Header};
 ghost use Rattle.tlbi_ops.specs.Covers.{covers};
 ghost use Rattle.tagged_tlb.specs.declared.row.Row as declared_row;
@@ -7,7 +7,7 @@ ghost use Rattle.tagged_tlb.specs.declared.row.Kind as declared_kind;
 ghost use Rattle.tagged_tlb.specs.Shapes.{shape, shape_of};
 ghost use Rattle.tagged_tlb.specs.Rows.{matching, deepest};
 ghost use Rattle.tagged_tlb.specs.Sets.{Cache, added, to_end};
-ghost use Rattle.tagged_tlb.specs.Found.{found_rows, slot_row};
+ghost use Rattle.tagged_tlb.specs.Found.{found_rows, slot_row, AreWithin, MayBeWithin};
 ghost use Rattle.tagged_tlb.specs.Tied.{IsTied, IsAdded, IsAt, AreTold, AreSmall, row_at, is_sought};
 ghost use Rattle.tagged_tlb.specs.Classes;
 ghost use Rattle.tagged_tlb.specs.Classes.{AreMarked, AreEmpty};
@@ -48,6 +48,14 @@ fn is_marked(classes: u64, class: u32) -> bool
     (classes >> class) & 1 == 1
 }
 
+/// Where the classes end of which a row may be there.
+fn end_of(classes: u64) -> u32
+    ensures most { result ≤ 64 }
+    ensures above { classes < 2 ^ result }
+{
+    64 - classes.leading_zeros()
+}
+
 /// The rows that an invalidation covers go. Says whether some row is left.
 fn kill_each<const WAYS: usize>(sets: &mut [Set<WAYS>], inval: &Inval) -> bool
     ensures killed { sets.new ≡ map (filter (λ r. not (covers inval.now r.tag))) sets.old }
@@ -72,11 +80,12 @@ fn search<const SETS: usize, const WAYS: usize>(
     requires some { 0 < SETS }
     requires sets { length sets.now ≡ SETS }
     requires marked { AreMarked classes sets.now }
-    ensures { (d : declared_row.Row) → (kind : declared_kind.Kind) → (live : List declared_row.Row) → AreTold live → AreSmall live →
+    ensures within { AreWithin sets.now result }
+    ensures best { (d : declared_row.Row) → (kind : declared_kind.Kind) → (live : List declared_row.Row) → AreTold live → AreSmall live →
         IsTied kind SETS live sets.now → found_rows d sets.now result ≡ take 2 (matching (is_sought kind sought) live) }
 {
     let mut found = Found::Nothing;
-    for class in 0..64u32 {
+    for class in 0..end_of(classes) {
         if is_marked(classes, class) {
             let start = sought.at >> class;
             let set = (start % SETS as u64) as usize;
@@ -95,10 +104,11 @@ fn search_deepest<const SETS: usize, const WAYS: usize>(
     requires some { 0 < SETS }
     requires sets { length sets.now ≡ SETS }
     requires marked { AreMarked classes sets.now }
-    ensures { (d : declared_row.Row) → (kind : declared_kind.Kind) → (live : List declared_row.Row) → AreTold live → AreSmall live →
+    ensures within { MayBeWithin sets.now result }
+    ensures least { (d : declared_row.Row) → (kind : declared_kind.Kind) → (live : List declared_row.Row) → AreTold live → AreSmall live →
         IsTied kind SETS live sets.now → option_map (slot_row d sets.now) result ≡ deepest (is_sought kind sought) live }
 {
-    for class in 0..64u32 {
+    for class in 0..end_of(classes) {
         if is_marked(classes, class) {
             let start = sought.at >> class;
             let set = (start % SETS as u64) as usize;
@@ -179,7 +189,8 @@ impl<const SETS: usize, const WAYS: usize> Tlb<SETS, WAYS> {
     /// The rows that match: none, one, or the two that were made first.
     pub fn find(&self, sought: &Sought) -> Found
         requires { 0 < SETS }
-        ensures { (d : declared_row.Row) → (kind : declared_kind.Kind) → (live : List declared_row.Row) → AreTold live → AreSmall live →
+        ensures within { AreWithin self.now result }
+        ensures best { (d : declared_row.Row) → (kind : declared_kind.Kind) → (live : List declared_row.Row) → AreTold live → AreSmall live →
             IsTied kind SETS live self.now → found_rows d self.now result ≡ take 2 (matching (is_sought kind sought.now) live) }
     {
         search::<SETS, WAYS>(self.sets.as_slice(), self.classes, *sought)
@@ -188,7 +199,8 @@ impl<const SETS: usize, const WAYS: usize> Tlb<SETS, WAYS> {
     /// The row of the smallest region that matches.
     pub fn deepest(&self, sought: &Sought) -> Option<Slot>
         requires { 0 < SETS }
-        ensures { (d : declared_row.Row) → (kind : declared_kind.Kind) → (live : List declared_row.Row) → AreTold live → AreSmall live →
+        ensures within { MayBeWithin self.now result }
+        ensures least { (d : declared_row.Row) → (kind : declared_kind.Kind) → (live : List declared_row.Row) → AreTold live → AreSmall live →
             IsTied kind SETS live self.now → option_map (slot_row d self.now) result ≡ deepest (is_sought kind sought.now) live }
     {
         search_deepest::<SETS, WAYS>(self.sets.as_slice(), self.classes, *sought)
