@@ -11,7 +11,8 @@ use Rattle.tagged_tlb.specs.Sets.{Cache, victim, same_key, added}
 use Rattle.tagged_tlb.specs.Tied.{IsTied, IsAdded, IsAt}
 use Rattle.tagged_tlb.proofs.Ties.{place, set_tied, room_tied, full_tied, added_none, added_room, added_full}
 
-module _ (h : Header) (core n ways : ℕ) (l : Cache) (r : Row) (fits : shape_of h.size r.kind ≡ shape n ways) (sets : List (List Row)) (by : Chooser) (same : h.policy ≡ by.policy) (some : 0 < n) (f : IsTied r.kind n l.rows sets) (at : IsAt core l.evictions by)
+module _ (h : Header) (core n ways : ℕ) (l : Cache) (r : Row) (fits : shape_of h.size r.kind ≡ shape n ways) (sets : List (List Row)) (by : Chooser)
+    (same : h.policy ≡ by.policy) (some : 0 < n) (f : IsTied r.kind n l.rows sets) (at : IsAt core l.evictions by)
     (one : List Row) (value : one ≡ get_or sets (place n r) one) where
   lt : place n r < n
   lt = omega (arith, some)
@@ -26,7 +27,12 @@ module _ (h : Header) (core n ways : ℕ) (l : Cache) (r : Row) (fits : shape_of
   pub was_there : list_any (same_key r) one ≡ true → IsAdded r.kind n core l (added h core l r) false by (set sets (place n r) one)
   was_there e =
       subst (λ m. IsAdded r.kind n core l m false by (set sets (place n r) one)) (sym (added_none h core n ways l r fits sets lt f (any_is true e)))
-      (record { tied = set_tied r.kind n (place n r) l.rows l.rows sets one lt f (one_is ∙ f.each (place n r) lt) (λ s ne. refl); at = at; count = omega arith })
+      (record {
+        tied = set_tied r.kind n (place n r) l.rows l.rows sets one lt f (one_is
+            ∙ f.each (place n r) lt) (λ s ne. refl);
+        at = at;
+        count = omega arith;
+      })
 
   module _ (new : List Row) (lost : Bool) (by2 : Chooser) (none : list_any (same_key r) one ≡ false) where
     with_room_added : length one < ways → (new ≡ one ++ r ∷ []) × (lost ≡ false) × (by2 ≡ by)
@@ -45,9 +51,11 @@ module _ (h : Header) (core n ways : ℕ) (l : Cache) (r : Row) (fits : shape_of
 
     -- none would
     pub was_filled : (length one < ways → (new ≡ one ++ r ∷ []) × (lost ≡ false) × (by2 ≡ by))
-        → (ways ≤ length one → (core n : ℕ) → IsAt core n by → (new ≡ remove one (victim by.policy core n ways) ++ r ∷ []) × (lost ≡ true) × IsAt core (n + 1) by2)
+        → (ways ≤ length one → (core n : ℕ) → IsAt core n by
+        → (new ≡ remove one (victim by.policy core n ways) ++ r ∷ []) × (lost ≡ true) × IsAt core (n + 1) by2)
         → IsAdded r.kind n core l (added h core l r) lost by2 (set sets (place n r) new)
     was_filled room full = elim (cases_lt (length one) ways) [
       | inl k ↦ with_room_added k (room k)
-      | inr k ↦ full_added k (subst (λ p. (new ≡ remove one (victim p core l.evictions ways) ++ r ∷ []) × (lost ≡ true) × IsAt core (l.evictions + 1) by2) (sym same) (full k core l.evictions at))
+      | inr k ↦ full_added k (subst (λ p. (new ≡ remove one (victim p core l.evictions ways) ++ r ∷ []) × (lost ≡ true) × IsAt core (l.evictions + 1) by2)
+          (sym same) (full k core l.evictions at))
     ]

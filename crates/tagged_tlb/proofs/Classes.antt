@@ -1,5 +1,6 @@
 -- Classes that are marked.
-use Rattle.std.proofs.Common.{◌-◌, ◌≤◌, ◌≡◌, ℕ, zero, suc, ◌<◌, ◌+◌, Bool, true, false, cond, ◌&&◌, List, [], ◌∷◌, ◌++◌, take, length, get_or, set, map, replicate, refl, ap, sym, ◌∙◌, subst, arith, inl, inr}
+use Rattle.std.proofs.Common.{◌-◌, ◌≤◌, ◌≡◌, ℕ, zero, suc, ◌<◌, ◌+◌, Bool, true, false, cond, ◌&&◌, List, [], ◌∷◌, ◌++◌, take, length, get_or, set}
+use Rattle.std.proofs.Common.{map, replicate, refl, ap, sym, ◌∙◌, subst, arith, inl, inr}
 use Rattle.std.specs.Prelude.{◌==◌, ◌*◌, ◌%◌, ◌^◌, filter, bit_or}
 use Rattle.std.specs.List.{remove}
 use Rattle.std.specs.Int.{bit_at}
@@ -87,10 +88,20 @@ module _ (m c : ℕ) (small : c < 64) where
 
   filled_by : (r : Row) → r.region.class ≡ c → (one new : List Row) → AllMarked m one → IsFilled one r new → AllMarked more new
   filled_by r e one new a (inl f) =
-      subst (AllMarked more) (sym f) (marked_append more one (r ∷ []) (still_all one a) (omega (arith, small, e), subst (λ v. is_marked more v ≡ true) (sym e) own_marked, tt))
+      subst (AllMarked more) (sym f) (marked_append more one (r ∷ []) (still_all one a) (
+        omega (arith, small, e),
+        subst (λ v. is_marked more v ≡ true)
+            (sym e) own_marked,
+        tt,
+      ))
   filled_by r e one new a (inr f) =
       subst (AllMarked more) (sym f.2)
-      (marked_append more (remove one f.0) (r ∷ []) (marked_remove more one f.0 (still_all one a)) (omega (arith, small, e), subst (λ v. is_marked more v ≡ true) (sym e) own_marked, tt))
+      (marked_append more (remove one f.0) (r ∷ []) (marked_remove more one f.0 (still_all one a)) (
+        omega (arith, small, e),
+        subst
+            (λ v. is_marked more v ≡ true) (sym e) own_marked,
+        tt,
+      ))
 
   -- a set that got a row of the class
   pub filled_marked : (r : Row) → r.region.class ≡ c → (sets : List (List Row)) (i : ℕ) (one new : List Row) → i < length sets → one ≡ get_or sets i one
@@ -105,7 +116,8 @@ touched_marked m sets i way [] new lt value within a e = absurd (omega (arith, w
 touched_marked m sets i way (x ∷ xs) new lt value within a e =
     let b : AllMarked m (x ∷ xs) = subst (AllMarked m) (sym value) (marked_at m sets i (x ∷ xs) lt a) in
     marked_set m sets i new a
-    (subst (AllMarked m) (sym (e x)) (marked_append m (remove (x ∷ xs) way) (get_or (x ∷ xs) way x ∷ []) (marked_remove m (x ∷ xs) way b) (marked_get m (x ∷ xs) way x within b)))
+    (subst (AllMarked m) (sym (e x)) (marked_append m (remove (x ∷ xs) way) (get_or (x ∷ xs) way x ∷ []) (marked_remove m (x ∷ xs) way b) (marked_get m
+    (x ∷ xs) way x within b)))
 
 -- NO ROW OF A CLASS
 
@@ -120,7 +132,8 @@ none_if q c s x xs false e ne rest = rest
 pub none_marked : (m c : ℕ) → is_marked m c ≡ false → (q : Sought) (s : ℕ) (xs : List Row) → AllMarked m xs → filter (hit q c s) xs ≡ []
 none_marked m c no_mark q s [] a = refl
 none_marked m c no_mark q s (x ∷ xs) a =
-    none_if q c s x xs (hit q c s x) refl (λ t e. both_ways (is_marked m c) no_mark (subst (λ v. is_marked m v ≡ true) e a.1)) (none_marked m c no_mark q s xs a.2)
+    none_if q c s x xs (hit q c s x) refl (λ t e. both_ways (is_marked m c) no_mark (subst (λ v. is_marked m v ≡ true) e a.1))
+    (none_marked m c no_mark q s xs a.2)
 
 no_mark_at : (c : ℕ) → is_marked 0 c ≡ true → ⊥
 no_mark_at c h = let e = eqb-true (bit_at 0 c) 1 h in let z = bit_at-zero c in omega (arith, e, z)

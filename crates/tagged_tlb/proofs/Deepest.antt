@@ -1,5 +1,6 @@
 -- The row of the smallest region that matches.
-use Rattle.std.proofs.Common.{zero, ◌≡◌, ℕ, suc, ◌<◌, ◌≤◌, ◌+◌, Bool, true, false, cond, ◌&&◌, List, [], ◌∷◌, length, get_or, refl, ap, sym, ◌∙◌, subst, arith, Option, Some, None, inl, inr}
+use Rattle.std.proofs.Common.{zero, ◌≡◌, ℕ, suc, ◌<◌, ◌≤◌, ◌+◌, Bool, true, false, cond, ◌&&◌, List, [], ◌∷◌, length, get_or, refl, ap, sym, ◌∙◌}
+use Rattle.std.proofs.Common.{subst, arith, Option, Some, None, inl, inr}
 use Rattle.std.specs.Prelude.{filter, ◌==◌, ◌%◌, ◌/◌, ◌^◌, nat_lt}
 use Rattle.std.proofs.lemmas.Bool.{cases_Bool, cases_eq, eq-eqb, eqb-true, ltb-true, and_from, and_parts, both_ways}
 use Rattle.std.proofs.lemmas.Option.{same_Some}
@@ -72,7 +73,8 @@ module _ (m : Row → Bool) where
   from_zero [] = tt
   from_zero (r ∷ rows) = ((λ _. omega arith), from_zero rows)
 
-  none_by : (c : ℕ) (r : Row) (rows : List Row) (b : Bool) → cond b (r ∷ filter (of_class c) rows) (filter (of_class c) rows) ≡ [] → (b ≡ false) × (filter (of_class c) rows ≡ [])
+  none_by : (c : ℕ) (r : Row) (rows : List Row) (b : Bool) → cond b (r ∷ filter (of_class c) rows) (filter (of_class c) rows) ≡ []
+      → (b ≡ false) × (filter (of_class c) rows ≡ [])
   none_by c r rows true h = no_head r (filter (of_class c) rows) h
   none_by c r rows false h = (refl, h)
 
@@ -87,7 +89,8 @@ module _ (m : Row → Bool) where
         one_up c rows n.1 p.1,
       )
 
-  closer_least : (c : ℕ) (r : Row) (o : Option Row) → c ≤ r.region.class → ((s : Row) → o ≡ Some s → c ≤ s.region.class) → (s : Row) → closer r o ≡ Some s → c ≤ s.region.class
+  closer_least : (c : ℕ) (r : Row) (o : Option Row) → c ≤ r.region.class → ((s : Row) → o ≡ Some s → c ≤ s.region.class) → (s : Row)
+      → closer r o ≡ Some s → c ≤ s.region.class
   closer_least c r None h k s e = let f : r ≡ s = Rattle.std.proofs.lemmas.Option.same_Some r s e in subst (λ (v : Row). c ≤ v.region.class) f h
   closer_least c r (Some x) h k s e = by_case (nat_lt x.region.class r.region.class) e
     where
@@ -114,7 +117,8 @@ module _ (m : Row → Bool) where
       ] in
       ap (λ b. cond b (Some x) (Some r)) no
 
-  deepest_by : (c : ℕ) (y r : Row) (ys rest : List Row) (a b : Bool) → m y ≡ a → (y.region.class == c) ≡ b → (a ≡ true → c ≤ y.region.class) → NoneBelow c ys → r.region.class ≡ c
+  deepest_by : (c : ℕ) (y r : Row) (ys rest : List Row) (a b : Bool) → m y ≡ a → (y.region.class == c) ≡ b → (a ≡ true → c ≤ y.region.class)
+      → NoneBelow c ys → r.region.class ≡ c
       → (filter (of_class c) ys ≡ r ∷ rest → deepest m ys ≡ Some r)
       → cond (a && b) (y ∷ filter (of_class c) ys) (filter (of_class c) ys) ≡ r ∷ rest
       → cond a (closer y (deepest m ys)) (deepest m ys) ≡ Some r
@@ -128,7 +132,8 @@ module _ (m : Row → Bool) where
       ap (closer y) (next g) ∙ ap (λ b. cond b (Some r) (Some y)) (lt_yes r.region.class y.region.class lt)
   deepest_by c y r ys rest false b e f h n k next g = next g
 
-  pub deepest_is : (c : ℕ) (r : Row) (rest rows : List Row) → NoneBelow c rows → r.region.class ≡ c → filter (of_class c) rows ≡ r ∷ rest → deepest m rows ≡ Some r
+  pub deepest_is : (c : ℕ) (r : Row) (rest rows : List Row) → NoneBelow c rows → r.region.class ≡ c → filter (of_class c) rows ≡ r ∷ rest
+      → deepest m rows ≡ Some r
   deepest_is c r rest [] n k g = no_head r rest (sym g)
   deepest_is c r rest (y ∷ ys) n k g =
       deepest_by c y r ys rest (m y) (y.region.class == c) refl refl n.0 n.1 k (deepest_is c r rest ys n.1 k) g
@@ -155,7 +160,8 @@ module _ (m : Row → Bool) where
 
 -- ONE CLASS
 
-module _ (d : Row) (sets : List (List Row)) (k : Kind) (n : ℕ) (q : Sought) (live : List Row) (told : AreTold live) (f : IsTied k n live sets) (c : ℕ) (some : 0 < n)
+module _ (d : Row) (sets : List (List Row)) (k : Kind) (n : ℕ) (q : Sought) (live : List Row) (told : AreTold live) (f : IsTied k n live sets) (c : ℕ)
+    (some : 0 < n)
     (one : List Row) (value : one ≡ get_or sets (q.at / 2 ^ c % n) one) where
   lt : q.at / 2 ^ c % n < n
   lt = omega (arith, some)
@@ -197,18 +203,22 @@ some_row k kind = record {
   global = false;
 }
 
-pub none_of_class : (d : Row) (sets : List (List Row)) (k : Kind) (n : ℕ) (q : Sought) (live : List Row) (told : AreTold live) (f : IsTied k n live sets) (c : ℕ) → 0 < n
+pub none_of_class : (d : Row) (sets : List (List Row)) (k : Kind) (n : ℕ) (q : Sought) (live : List Row) (told : AreTold live) (f : IsTied k n live sets)
+    (c : ℕ) → 0 < n
     → (marks : ℕ) → AreMarked marks sets → is_marked marks c ≡ false → NoneBelow (is_sought k q) c live → NoneBelow (is_sought k q) (c + 1) live
 none_of_class d sets k n q live told f c some marks marked no_mark h =
     let lt : q.at / 2 ^ c % n < n = omega (arith, some) in
     let empty : filter (hit q c (q.at / 2 ^ c)) (get_or sets (q.at / 2 ^ c % n) []) ≡ [] =
-    none_marked marks c no_mark q (q.at / 2 ^ c) (get_or sets (q.at / 2 ^ c % n) []) (marked_at marks sets (q.at / 2 ^ c % n) [] (subst (λ v. q.at / 2 ^ c % n < v) (sym f.count) lt) marked) in
+    none_marked marks c no_mark q (q.at / 2 ^ c) (get_or sets (q.at / 2 ^ c % n) []) (marked_at marks sets (q.at / 2 ^ c % n) [] (subst
+    (λ v. q.at / 2 ^ c % n < v) (sym f.count) lt) marked) in
     one_up (is_sought k q) c live h (sym (class_rows d sets k n q live told f c lt) ∙ empty)
 
 -- no row has a class from one on
-pub none_of_classes : (d : Row) (sets : List (List Row)) (k : Kind) (n : ℕ) (q : Sought) (live : List Row) (told : AreTold live) (f : IsTied k n live sets) → 0 < n
+pub none_of_classes : (d : Row) (sets : List (List Row)) (k : Kind) (n : ℕ) (q : Sought) (live : List Row) (told : AreTold live)
+    (f : IsTied k n live sets) → 0 < n
     → (marks : ℕ) → AreMarked marks sets → (gap c : ℕ) → c + gap ≡ 64 → marks < 2 ^ c → NoneBelow (is_sought k q) c live → NoneBelow (is_sought k q) 64 live
-none_of_classes d sets k n q live told f some marks marked zero c e small h = let e : c ≡ 64 = omega (arith, e) in subst (λ v. NoneBelow (is_sought k q) v live) e h
+none_of_classes d sets k n q live told f some marks marked zero c e small h = let e : c ≡ 64 = omega (arith, e) in subst (λ v. NoneBelow
+    (is_sought k q) v live) e h
 none_of_classes d sets k n q live told f some marks marked (suc gap) c e small h =
     none_of_classes d sets k n q live told f some marks marked gap (c + 1) (omega (arith, e)) (wider marks c small)
     (none_of_class d sets k n q live told f c some marks marked (none_from marks c c small (omega arith)) h)

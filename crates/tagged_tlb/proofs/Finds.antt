@@ -1,5 +1,6 @@
 -- What a search by class and set finds.
-use Rattle.std.proofs.Common.{◌≤◌, zero, ◌≡◌, ℕ, suc, ◌<◌, ◌+◌, Bool, true, false, cond, ◌&&◌, ◌||◌, List, [], ◌∷◌, length, get_or, take, inl, inr, refl, ap, sym, ◌∙◌, subst, arith}
+use Rattle.std.proofs.Common.{◌≤◌, zero, ◌≡◌, ℕ, suc, ◌<◌, ◌+◌, Bool, true, false, cond, ◌&&◌, ◌||◌, List, [], ◌∷◌, length, get_or, take, inl, inr}
+use Rattle.std.proofs.Common.{refl, ap, sym, ◌∙◌, subst, arith}
 use Rattle.std.specs.Prelude.{filter, ◌==◌, ◌%◌, ◌/◌, ◌^◌, nat_lt}
 use Rattle.std.proofs.lemmas.Bool.{cases_Bool, cases_eq, eq-eqb, eqb-true, ltb-true, and_from, and_parts, or_left, or_right}
 use Rattle.std.proofs.lemmas.List.{get_or_default}
@@ -148,7 +149,8 @@ module _ (d : Row) (sets : List (List Row)) where
 
     look_by : (way : ℕ) (r : Row) (rows : List Row) (found : Found) (xs : List Row) (b : Bool) → row_at sets set way d ≡ r → IsBest found xs
         → ((found : Found) (xs : List Row) → IsBest found xs → IsBest (looked test made_of_row set (way + 1) found rows) (runs xs (filter test rows)))
-        → IsBest (looked test made_of_row set (way + 1) (cond b (met found (seen_at set way r.made)) found) rows) (runs xs (cond b (r ∷ filter test rows) (filter test rows)))
+        → IsBest (looked test made_of_row set (way + 1) (cond b (met found (seen_at set way r.made)) found) rows) (runs xs (cond b (r ∷ filter test rows)
+        (filter test rows)))
     look_by way r rows found xs true e h rest = rest (met found (seen_at set way r.made)) (inserted r xs) (next_best way r found xs e h)
     look_by way r rows found xs false e h rest = rest found xs h
 
@@ -156,7 +158,8 @@ module _ (d : Row) (sets : List (List Row)) where
     later way r rows h j lt =
         let e : way + (j + 1) ≡ way + 1 + j = omega arith in
         let k : j + 1 ≡ suc j = omega arith in
-        subst (λ v. row_at sets set v d ≡ get_or rows j d) e (subst (λ v. row_at sets set (way + v) d ≡ get_or rows j d) (sym k) (h (suc j) (omega (arith, lt))))
+        subst (λ v. row_at sets set v d ≡ get_or rows j d) e (subst (λ v. row_at sets set (way + v) d ≡ get_or rows j d) (sym k) (h (suc j) (omega
+        (arith, lt))))
 
     first_is : (way : ℕ) (r : Row) (rows : List Row) → StandAt set way (r ∷ rows) → row_at sets set way d ≡ r
     first_is way r rows h = let e : way + 0 ≡ way = omega arith in subst (λ v. row_at sets set v d ≡ r) e (h 0 (omega arith))
@@ -182,9 +185,11 @@ module _ (d : Row) (sets : List (List Row)) where
 
     -- what is sought, as the kind with the region, and the key
     split_by : (st : Stage) (r : Row) → matches_by st k q.key q.at r
-        ≡ ((same_kind r.kind k && holds r.region q.at) && ((r.key.vmid == q.key.vmid) && suits_asid st q.key.asid r.global r.key.asid && same_fields r.key.config q.key.config))
+        ≡ ((same_kind r.kind k && holds r.region q.at) &&
+        ((r.key.vmid == q.key.vmid) && suits_asid st q.key.asid r.global r.key.asid && same_fields r.key.config q.key.config))
     split_by S1 r =
-        regroup1 (same_kind r.kind k) (holds r.region q.at) (r.key.vmid == q.key.vmid) (same_fields r.key.config q.key.config) (r.global || (r.key.asid == q.key.asid))
+        regroup1 (same_kind r.kind k) (holds r.region q.at) (r.key.vmid == q.key.vmid) (same_fields r.key.config q.key.config) (r.global ||
+        (r.key.asid == q.key.asid))
     split_by S2 r = regroup2 (same_kind r.kind k) (holds r.region q.at) (r.key.vmid == q.key.vmid) (same_fields r.key.config q.key.config)
 
     sought_parts : (r : Row) → m r ≡ true → ((same_kind r.kind k && holds r.region q.at) ≡ true) × (is_keyed_row q r ≡ true)
@@ -217,7 +222,8 @@ module _ (d : Row) (sets : List (List Row)) where
         let class : r.region.class ≡ c = eqb-true r.region.class c a.1 in
         let start : r.region.start ≡ q.at / 2 ^ c = sym (eqb-true (q.at / 2 ^ r.region.class) r.region.start i.1) ∙ ap (λ v. q.at / 2 ^ v) class in
         and_from (in_set k n (q.at / 2 ^ c % n) r) (hit q c (q.at / 2 ^ c) r)
-        (and_from (same_kind k r.kind) (q.at / 2 ^ c % n == r.region.start % n) (kinds_turned r.kind k i.0) (eq-eqb (q.at / 2 ^ c % n) (r.region.start % n) (ap (λ v. v % n) (sym start))))
+        (and_from (same_kind k r.kind) (q.at / 2 ^ c % n == r.region.start % n) (kinds_turned r.kind k i.0) (eq-eqb (q.at / 2 ^ c % n)
+        (r.region.start % n) (ap (λ v. v % n) (sym start))))
         (and_from ((r.region.start == q.at / 2 ^ c) && (r.region.class == c)) (is_keyed_row q r)
         (and_from (r.region.start == q.at / 2 ^ c) (r.region.class == c) (eq-eqb r.region.start (q.at / 2 ^ c) start) a.1) e.1))
 
@@ -247,11 +253,13 @@ module _ (d : Row) (sets : List (List Row)) where
         ])
         (λ h. elim (cases_eq r.region.class c) [
           | inl e ↦ or_right (nat_lt r.region.class c) (r.region.class == c) (eq-eqb r.region.class c e)
-          | inr ne ↦ or_left (nat_lt r.region.class c) (r.region.class == c) (lt_yes r.region.class c (let a = ltb-true r.region.class (c + 1) h in omega (arith, a, ne)))
+          | inr ne ↦ or_left (nat_lt r.region.class c) (r.region.class == c) (lt_yes r.region.class c (let a = ltb-true r.region.class (c + 1) h in omega
+              (arith, a, ne)))
         ])
 
     class_comes : (c : ℕ) → q.at / 2 ^ c % n < n
-        → runs (by_making (filter (below c) live)) (filter (hit q c (q.at / 2 ^ c)) (get_or sets (q.at / 2 ^ c % n) [])) ≡ by_making (filter (below (c + 1)) live)
+        → runs (by_making (filter (below c) live)) (filter (hit q c (q.at / 2 ^ c)) (get_or sets (q.at / 2 ^ c % n) [])) ≡ by_making (filter (below
+        (c + 1)) live)
     class_comes c lt =
         ap (runs (by_making (filter (below c) live))) (class_rows c lt)
         ∙ runs_adds (by_making (filter (below c) live)) (filter (of_class c) live) (told_filter (of_class c) live told)
@@ -260,7 +268,8 @@ module _ (d : Row) (sets : List (List Row)) where
 
     -- one class more
     next_class : (c : ℕ) (found : Found) → q.at / 2 ^ c % n < n → IsBest found (by_making (filter (below c) live))
-        → IsBest (looked (hit q c (q.at / 2 ^ c)) made_of_row (q.at / 2 ^ c % n) 0 found (get_or sets (q.at / 2 ^ c % n) [])) (by_making (filter (below (c + 1)) live))
+        → IsBest (looked (hit q c (q.at / 2 ^ c)) made_of_row (q.at / 2 ^ c % n) 0 found (get_or sets (q.at / 2 ^ c % n) [])) (by_making (filter (below
+        (c + 1)) live))
     next_class c found lt h =
         subst (λ v. IsBest (looked (hit q c (q.at / 2 ^ c)) made_of_row (q.at / 2 ^ c % n) 0 found (get_or sets (q.at / 2 ^ c % n) [])) v) (class_comes c lt)
         (look_best (hit q c (q.at / 2 ^ c)) (q.at / 2 ^ c % n) 0 (get_or sets (q.at / 2 ^ c % n) []) found (by_making (filter (below c) live))
@@ -272,7 +281,8 @@ module _ (d : Row) (sets : List (List Row)) where
     no_class c marks found some marked no_mark h =
         let lt : q.at / 2 ^ c % n < n = omega (arith, some) in
         let none_here : filter (hit q c (q.at / 2 ^ c)) (get_or sets (q.at / 2 ^ c % n) []) ≡ [] =
-        none_marked marks c no_mark q (q.at / 2 ^ c) (get_or sets (q.at / 2 ^ c % n) []) (marked_at marks sets (q.at / 2 ^ c % n) [] (subst (λ v. q.at / 2 ^ c % n < v) (sym f.count) lt) marked) in
+        none_marked marks c no_mark q (q.at / 2 ^ c) (get_or sets (q.at / 2 ^ c % n) []) (marked_at marks sets (q.at / 2 ^ c % n) [] (subst
+        (λ v. q.at / 2 ^ c % n < v) (sym f.count) lt) marked) in
         subst (IsBest found) (ap (runs (by_making (filter (below c) live))) (sym none_here) ∙ class_comes c lt) h
 
     -- no row has a class from one on
@@ -302,15 +312,19 @@ module _ (d : Row) (sets : List (List Row)) where
 
     all_below : (xs : List Row) → AreSmall xs → filter (below 64) xs ≡ filter m xs
     all_below [] s = refl
-    all_below (r ∷ xs) s = ap (λ b. cond b (r ∷ filter (below 64) xs) (filter (below 64) xs)) (all_by r (m r) s.0) ∙ ap (λ v. cond (m r) (r ∷ v) v) (all_below xs s.1)
+    all_below (r ∷ xs) s = ap (λ b. cond b (r ∷ filter (below 64) xs) (filter (below 64) xs)) (all_by r (m r) s.0)
+        ∙ ap (λ v. cond (m r) (r ∷ v) v) (all_below xs s.1)
 
     pub last_class : (found : Found) → AreSmall live → IsBest found (by_making (filter (below 64) live)) → found_rows d sets found ≡ take 2 (matching m live)
     last_class found s h = h.are ∙ ap (λ v. take 2 (by_making v)) (all_below live s)
 
     -- the same for the set that was read
-    pub next_here : (c : ℕ) (found : Found) (one : List Row) → 0 < n → one ≡ get_or sets (q.at / 2 ^ c % n) one → IsBest found (by_making (filter (below c) live))
+    pub next_here : (c : ℕ) (found : Found) (one : List Row) → 0 < n → one ≡ get_or sets (q.at / 2 ^ c % n) one
+        → IsBest found (by_making (filter (below c) live))
         → IsBest (looked (hit q c (q.at / 2 ^ c)) made_of_row (q.at / 2 ^ c % n) 0 found one) (by_making (filter (below (c + 1)) live))
     next_here c found one some value h =
         let lt : q.at / 2 ^ c % n < n = omega (arith, some) in
-        let one_is : one ≡ get_or sets (q.at / 2 ^ c % n) [] = value ∙ get_or_default sets (q.at / 2 ^ c % n) one [] (subst (λ v. q.at / 2 ^ c % n < v) (sym f.count) lt) in
-        subst (λ v. IsBest (looked (hit q c (q.at / 2 ^ c)) made_of_row (q.at / 2 ^ c % n) 0 found v) (by_making (filter (below (c + 1)) live))) (sym one_is) (next_class c found lt h)
+        let one_is : one ≡ get_or sets (q.at / 2 ^ c % n) [] = value
+        ∙ get_or_default sets (q.at / 2 ^ c % n) one [] (subst (λ v. q.at / 2 ^ c % n < v) (sym f.count) lt) in
+        subst (λ v. IsBest (looked (hit q c (q.at / 2 ^ c)) made_of_row (q.at / 2 ^ c % n) 0 found v) (by_making (filter (below (c + 1)) live)))
+        (sym one_is) (next_class c found lt h)

@@ -1,5 +1,6 @@
 -- Heads that move, and trails that stay.
-use Rattle.std.proofs.Common.{◌≡◌, ℕ, zero, suc, ◌<◌, ◌≤◌, ◌+◌, ◌||◌, cond, inl, inr, Some, List, [], ◌∷◌, ◌++◌, length, get_or, set, map, refl, ap, sym, ◌∙◌, subst, arith}
+use Rattle.std.proofs.Common.{◌≡◌, ℕ, zero, suc, ◌<◌, ◌≤◌, ◌+◌, ◌||◌, cond, inl, inr, Some, List, [], ◌∷◌, ◌++◌, length, get_or, set, map, refl, ap}
+use Rattle.std.proofs.Common.{sym, ◌∙◌, subst, arith}
 use Rattle.std.specs.Prelude.{◌==◌, filter, Bool, true, false, not}
 use Rattle.std.specs.List.{remove, list_any}
 use Rattle.std.proofs.lemmas.Bool.{eq-eqb, ne_eqb, cases_eq}
@@ -119,13 +120,15 @@ module _ (n : ℕ) (heads : List Head) (free : List ℕ) (f : IsSpread n heads f
         let t : ℕ = (get_or heads way d).slot in
         let lt : t < length trails = subst (λ v. t < v) (sym l) slot_below in
         map-append (row_of (set trails t r.trail)) (remove heads way) (head_with r t ∷ [])
-        ∙ ap (λ v. v ++ row_of (set trails t r.trail) (head_with r t) ∷ []) (fresh trails t r.trail (remove heads way) unused ∙ map_remove (row_of trails) heads way within)
+        ∙ ap (λ v. v ++ row_of (set trails t r.trail) (head_with r t) ∷ []) (fresh trails t r.trail (remove heads way) unused
+        ∙ map_remove (row_of trails) heads way within)
         ∙ ap (λ v. remove (map (row_of trails) heads) way ++ v ∷ []) (own trails t r lt)
 
     pub full_here : (trails : List (List Item)) (r : Row) → length trails ≡ n → d ≡ get_or heads way d
         → map (row_of (set trails d.slot r.trail)) (remove heads way ++ head_with r d.slot ∷ []) ≡ remove (map (row_of trails) heads) way ++ r ∷ []
     full_here trails r l value =
-        subst (λ (v : Head). map (row_of (set trails v.slot r.trail)) (remove heads way ++ head_with r v.slot ∷ []) ≡ remove (map (row_of trails) heads) way ++ r ∷ [])
+        subst (λ (v : Head). map (row_of (set trails v.slot r.trail)) (remove heads way ++ head_with r v.slot ∷ []) ≡ remove (map
+        (row_of trails) heads) way ++ r ∷ [])
         (sym value) (full_view trails r l)
 
   -- A FREE SLOT IS TAKEN
@@ -248,7 +251,8 @@ abbrev pub stays : Inval → Head → Bool
 stays i h = not (covers i h.tag)
 
 going : (i : Inval) (s : ℕ) (h : Head) (hs : List Head) (b : Bool) → uses s (filter (stays i) hs) + among s (spares i hs) ≡ uses s hs
-    → uses s (cond (not b) (h ∷ filter (stays i) hs) (filter (stays i) hs)) + among s (cond b (h.slot ∷ spares i hs) (spares i hs)) ≡ one (h.slot == s) + uses s hs
+    → uses s (cond (not b) (h ∷ filter (stays i) hs) (filter (stays i) hs)) + among s (cond b (h.slot ∷ spares i hs) (spares i hs)) ≡ one
+    (h.slot == s) + uses s hs
 going i s h hs true rest = omega (arith, rest)
 going i s h hs false rest = omega (arith, rest)
 
@@ -278,7 +282,8 @@ stays_below : (n : ℕ) (i : Inval) (hs : List Head) → HeadsBelow n hs → Hea
 stays_below n i [] b = tt
 stays_below n i (h ∷ hs) b = staying_below n i h hs (covers i h.tag) b.0 (stays_below n i hs b.1)
 
-sparing_below : (n : ℕ) (i : Inval) (h : Head) (hs : List Head) (b : Bool) → h.slot < n → AreBelow n (spares i hs) → AreBelow n (cond b (h.slot ∷ spares i hs) (spares i hs))
+sparing_below : (n : ℕ) (i : Inval) (h : Head) (hs : List Head) (b : Bool) → h.slot < n → AreBelow n (spares i hs)
+    → AreBelow n (cond b (h.slot ∷ spares i hs) (spares i hs))
 sparing_below n i h hs true l rest = (l, rest)
 sparing_below n i h hs false l rest = rest
 
@@ -291,14 +296,16 @@ below_append n [] us b c = c
 below_append n (t ∷ ts) us b c = (b.0, below_append n ts us b.1 c)
 
 -- the slots of those that go are free
-pub killed_spread : (n : ℕ) (i : Inval) (heads : List Head) (free : List ℕ) → IsSpread n heads free → IsSpread n (filter (stays i) heads) (free ++ spares i heads)
+pub killed_spread : (n : ℕ) (i : Inval) (heads : List Head) (free : List ℕ) → IsSpread n heads free
+    → IsSpread n (filter (stays i) heads) (free ++ spares i heads)
 killed_spread n i heads free f = record {
   once = λ s. let a = gone i s heads in let b = among_append s free (spares i heads) in let o = f.once s in omega (arith, a, b, o);
   heads_below = stays_below n i heads f.heads_below;
   free_below = below_append n free (spares i heads) f.free_below (spares_below n i heads f.heads_below);
 }
 
-all_if : (i : Inval) (h : Head) (hs : List Head) (b : Bool) → length (cond b (h.slot ∷ spares i hs) (spares i hs)) ≡ 0 → (length (spares i hs) ≡ 0 → filter (stays i) hs ≡ hs)
+all_if : (i : Inval) (h : Head) (hs : List Head) (b : Bool) → length (cond b (h.slot ∷ spares i hs) (spares i hs)) ≡ 0 → (length (spares i hs) ≡ 0
+    → filter (stays i) hs ≡ hs)
     → cond (not b) (h ∷ filter (stays i) hs) (filter (stays i) hs) ≡ h ∷ hs
 all_if i h hs true e rest = absurd (omega (arith, e))
 all_if i h hs false e rest = ap (λ v. h ∷ v) (rest e)
@@ -310,12 +317,14 @@ all_stay i (h ∷ hs) e = all_if i h hs (covers i h.tag) e (all_stay i hs)
 
 viewing : (i : Inval) (trails : List (List Item)) (h : Head) (hs : List Head) (b : Bool)
     → filter (λ (r : Row). not (covers i r.tag)) (map (row_of trails) hs) ≡ map (row_of trails) (filter (stays i) hs)
-    → cond (not b) (row_of trails h ∷ filter (λ (r : Row). not (covers i r.tag)) (map (row_of trails) hs)) (filter (λ (r : Row). not (covers i r.tag)) (map (row_of trails) hs))
+    → cond (not b) (row_of trails h ∷ filter (λ (r : Row). not (covers i r.tag)) (map (row_of trails) hs)) (filter (λ (r : Row). not (covers i r.tag))
+    (map (row_of trails) hs))
     ≡ map (row_of trails) (cond (not b) (h ∷ filter (stays i) hs) (filter (stays i) hs))
 viewing i trails h hs true rest = rest
 viewing i trails h hs false rest = ap (λ v. row_of trails h ∷ v) rest
 
-pub killed_view : (i : Inval) (trails : List (List Item)) (hs : List Head) → filter (λ (r : Row). not (covers i r.tag)) (map (row_of trails) hs) ≡ map (row_of trails) (filter (stays i) hs)
+pub killed_view : (i : Inval) (trails : List (List Item)) (hs : List Head)
+    → filter (λ (r : Row). not (covers i r.tag)) (map (row_of trails) hs) ≡ map (row_of trails) (filter (stays i) hs)
 killed_view i trails [] = refl
 killed_view i trails (h ∷ hs) = viewing i trails h hs (covers i h.tag) (killed_view i trails hs)
 
@@ -325,7 +334,8 @@ pub any_map : {X Y : Type 0} (p : Y → Bool) (f : X → Y) (xs : List X) → li
 any_map p f [] = refl
 any_map p f (x ∷ xs) = ap (λ v. p (f x) || v) (any_map p f xs)
 
-pub looked_map : {X Y : Type 0} (test : Y → Bool) (made : Y → Made) (f : X → Y) (test2 : X → Bool) (made2 : X → Made) → ((x : X) → test (f x) ≡ test2 x) → ((x : X) → made (f x) ≡ made2 x)
+pub looked_map : {X Y : Type 0} (test : Y → Bool) (made : Y → Made) (f : X → Y) (test2 : X → Bool) (made2 : X → Made) → ((x : X) → test (f x) ≡ test2 x)
+    → ((x : X) → made (f x) ≡ made2 x)
     → (set way : ℕ) (found : Found) (xs : List X) → looked test made set way found (map f xs) ≡ looked test2 made2 set way found xs
 looked_map test made f test2 made2 h k set way found [] = refl
 looked_map test made f test2 made2 h k set way found (x ∷ xs) =
@@ -340,7 +350,9 @@ first_map test f test2 h way (x ∷ xs) =
     ap (λ v. cond (test (f x)) (Some way) v) (first_map test f test2 h (way + 1) xs) ∙ ap (λ v. cond v (Some way) (first_hit test2 (way + 1) xs)) (h x)
 
 -- the trail of a row
-pub trail_at : (n : ℕ) (trails : List (List Item)) (hs : List Head) (i : ℕ) (h : Head) (e : List Item) (d : Row) → i < length hs → h ≡ get_or hs i h → h.slot < length trails
+pub trail_at : (n : ℕ) (trails : List (List Item)) (hs : List Head) (i : ℕ) (h : Head) (e : List Item) (d : Row) → i < length hs → h ≡ get_or hs i h
+    → h.slot < length trails
     → get_or trails h.slot e ≡ (get_or (map (row_of trails) hs) i d).trail
 trail_at n trails hs i h e d lt value within =
-    get_or_default trails h.slot e [] within ∙ ap (λ (v : Head). get_or trails v.slot []) value ∙ ap (λ (v : Row). v.trail) (sym (map_get (row_of trails) hs i h d lt))
+    get_or_default trails h.slot e [] within ∙ ap (λ (v : Head). get_or trails v.slot []) value
+    ∙ ap (λ (v : Row). v.trail) (sym (map_get (row_of trails) hs i h d lt))

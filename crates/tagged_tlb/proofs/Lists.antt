@@ -11,7 +11,8 @@ first : {X : Type 0} (p : X → Bool) (x : X) (xs : List X) (b : Bool) → p x �
 first p x xs true e rest = refl
 first p x xs false e rest = rw e rest
 
-later : {X : Type 0} (p : X → Bool) (x : X) (xs : List X) (n : ℕ) (b : Bool) → p x ≡ b → filter p (without p xs n) ≡ remove (filter p xs) n → filter p (without p xs (suc n)) ≡ remove (filter p xs) (suc n)
+later : {X : Type 0} (p : X → Bool) (x : X) (xs : List X) (n : ℕ) (b : Bool) → p x ≡ b → filter p (without p xs n) ≡ remove (filter p xs) n
+    → filter p (without p xs (suc n)) ≡ remove (filter p xs) (suc n)
     → filter p (cond b (x ∷ without p xs n) (x ∷ without p xs (suc n))) ≡ remove (cond b (x ∷ filter p xs) (filter p xs)) (suc n)
 later p x xs n true e here rest = rw e (ap (λ v. x ∷ v) here)
 later p x xs n false e here rest = rw e rest
@@ -23,12 +24,14 @@ filter-without p [] (suc n) = refl
 filter-without p (x ∷ xs) zero = first p x xs (p x) refl (filter-without p xs zero)
 filter-without p (x ∷ xs) (suc n) = later p x xs n (p x) refl (filter-without p xs n) (filter-without p xs (suc n))
 
-other_first : {X : Type 0} (p q : X → Bool) → ((x : X) → p x ≡ true → q x ≡ false) → (x : X) (xs : List X) (b : Bool) → p x ≡ b → filter q (without p xs zero) ≡ filter q xs
+other_first : {X : Type 0} (p q : X → Bool) → ((x : X) → p x ≡ true → q x ≡ false) → (x : X) (xs : List X) (b : Bool) → p x ≡ b
+    → filter q (without p xs zero) ≡ filter q xs
     → filter q (cond b xs (x ∷ without p xs zero)) ≡ cond (q x) (x ∷ filter q xs) (filter q xs)
 other_first p q apart x xs true e rest = rw (apart x e) refl
 other_first p q apart x xs false e rest = ap (λ v. cond (q x) (x ∷ v) v) rest
 
-other_later : {X : Type 0} (p q : X → Bool) (x : X) (xs : List X) (n : ℕ) (b : Bool) → filter q (without p xs n) ≡ filter q xs → filter q (without p xs (suc n)) ≡ filter q xs
+other_later : {X : Type 0} (p q : X → Bool) (x : X) (xs : List X) (n : ℕ) (b : Bool) → filter q (without p xs n) ≡ filter q xs
+    → filter q (without p xs (suc n)) ≡ filter q xs
     → filter q (cond b (x ∷ without p xs n) (x ∷ without p xs (suc n))) ≡ cond (q x) (x ∷ filter q xs) (filter q xs)
 other_later p q x xs n true here rest = ap (λ v. cond (q x) (x ∷ v) v) here
 other_later p q x xs n false here rest = ap (λ v. cond (q x) (x ∷ v) v) rest

@@ -55,7 +55,8 @@ older_some r s h = elim (cases_lt r.made.step s.made.step) [
             | inl q ↦ inr (inr (sym e, q))
             | inr q ↦
                 let f : r.made.order ≡ s.made.order = omega (arith, o, q) in
-                absurd (both_ways (is_row r s) h (and_from (r.made.step == s.made.step) (r.made.order == s.made.order) (eq-eqb r.made.step s.made.step e) (eq-eqb r.made.order s.made.order f)))
+                absurd (both_ways (is_row r s) h (and_from (r.made.step == s.made.step) (r.made.order == s.made.order) (eq-eqb r.made.step s.made.step e)
+                (eq-eqb r.made.order s.made.order f)))
           ]
         ]
   ]
@@ -84,11 +85,13 @@ module _ (r s x : Row) (xs : List Row) (rest : inserted r (inserted s xs) ≡ in
   both_by true true true ea ea2 eb ec = before r s (x ∷ xs) ea ∙ sym (behind s r (x ∷ xs) ea2 ∙ ap (λ v. r ∷ v) (before s x xs ec))
   both_by false true true ea ea2 eb ec = (behind r s (x ∷ xs) ea ∙ ap (λ v. s ∷ v) (before r x xs eb)) ∙ sym (before s r (x ∷ xs) ea2)
   both_by true false true ea ea2 eb ec =
-      absurd (both_ways (is_older r.made x.made) eb (older_from r.made x.made (older_then r.made s.made x.made (older_to r.made s.made ea) (older_to s.made x.made ec))))
+      absurd (both_ways (is_older r.made x.made) eb (older_from r.made x.made (older_then r.made s.made x.made (older_to r.made s.made ea)
+      (older_to s.made x.made ec))))
   both_by false false true ea ea2 eb ec = (behind r s (x ∷ xs) ea ∙ ap (λ v. s ∷ v) (behind r x xs eb)) ∙ sym (before s x (inserted r xs) ec)
   both_by true true false ea ea2 eb ec = before r x (inserted s xs) eb ∙ sym (behind s r (x ∷ xs) ea2 ∙ ap (λ v. r ∷ v) (behind s x xs ec))
   both_by false true false ea ea2 eb ec =
-      absurd (both_ways (is_older s.made x.made) ec (older_from s.made x.made (older_then s.made r.made x.made (older_to s.made r.made ea2) (older_to r.made x.made eb))))
+      absurd (both_ways (is_older s.made x.made) ec (older_from s.made x.made (older_then s.made r.made x.made (older_to s.made r.made ea2)
+      (older_to r.made x.made eb))))
   both_by true false false ea ea2 eb ec = behind r x (inserted s xs) eb ∙ ap (λ v. x ∷ v) rest ∙ sym (behind s x (inserted r xs) ec)
   both_by false false false ea ea2 eb ec = behind r x (inserted s xs) eb ∙ ap (λ v. x ∷ v) rest ∙ sym (behind s x (inserted r xs) ec)
 

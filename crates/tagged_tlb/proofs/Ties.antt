@@ -1,5 +1,6 @@
 -- The sets of a kind stay what a filter leaves of the list of all rows.
-use Rattle.std.proofs.Common.{◌≡◌, ℕ, ◌<◌, ◌≤◌, ◌+◌, Bool, true, false, cond, List, [], ◌∷◌, ◌++◌, length, get_or, set, map, refl, ap, sym, ◌∙◌, subst, arith, inl, inr}
+use Rattle.std.proofs.Common.{◌≡◌, ℕ, ◌<◌, ◌≤◌, ◌+◌, Bool, true, false, cond, List, [], ◌∷◌, ◌++◌, length, get_or, set, map, refl, ap, sym, ◌∙◌}
+use Rattle.std.proofs.Common.{subst, arith, inl, inr}
 use Rattle.std.specs.Prelude.{filter, ◌==◌, ◌&&◌, ◌%◌, nat_le}
 use Rattle.std.specs.List.{remove, list_any}
 use Rattle.std.proofs.lemmas.Bool.{cases_eq, cases_Bool, eq-eqb, ne_eqb, eqb-true, both_ways, leb-true, leb-false, and_parts, and_from}
@@ -93,7 +94,8 @@ pub set_tied : (k : Kind) (n p : ℕ) (live live2 : List Row) (sets : List (List
 set_tied k n p live live2 sets new lt f own others = record {
   count = length-set sets p new ∙ f.count;
   each = λ s h. elim (cases_eq p s) as (λ _. get_or (set sets p new) s [] ≡ filter (in_set k n s) live2) [
-    | inl e ↦ subst (λ v. get_or (set sets p new) v [] ≡ filter (in_set k n v) live2) e (get_or-set_same sets p new [] (subst (λ v. p < v) (sym f.count) lt) ∙ own)
+    | inl e ↦ subst (λ v. get_or (set sets p new) v [] ≡ filter (in_set k n v) live2) e (get_or-set_same sets p new [] (subst (λ v. p < v)
+        (sym f.count) lt) ∙ own)
     | inr ne ↦ get_or-set_other sets p s new [] (λ e. ne (sym e)) ∙ f.each s h ∙ sym (others s (λ e. ne (sym e)))
   ];
 }
@@ -131,26 +133,32 @@ module _ (h : Header) (core n ways : ℕ) (l : Cache) (r : Row) (fits : shape_of
       → IsTied r.kind n (lost ++ r ∷ []) (set sets (place n r) (remove (get_or sets (place n r) []) v ++ r ∷ []))
   full_tied sets lt f =
       set_tied r.kind n (place n r) l.rows (lost ++ r ∷ []) sets (remove (get_or sets (place n r) []) v ++ r ∷ []) lt f
-      (ap (λ xs. remove xs v ++ r ∷ []) (f.each (place n r) lt) ∙ ap (λ xs. xs ++ r ∷ []) (sym (filter-without (in_set r.kind n (place n r)) l.rows v)) ∙ sym (more_own lost))
+      (ap (λ xs. remove xs v ++ r ∷ []) (f.each (place n r) lt) ∙ ap (λ xs. xs ++ r ∷ []) (sym (filter-without (in_set r.kind n (place n r)) l.rows v))
+      ∙ sym (more_own lost))
       (λ s ne. filter-no_more (in_set r.kind n s) lost r (in_other n s r.kind r ne)
       ∙ filter-other (in_set r.kind n (place n r)) (in_set r.kind n s) (apart_set n s (place n r) r.kind ne) l.rows v)
 
   -- the other kinds keep their sets
   module _ (j : Kind) (m : ℕ) (ne : same_kind j r.kind ≡ false) where
-    others_placed : (b : Bool) (s : ℕ) → filter (in_set j m s) (cond b (record { rows = lost ++ r ∷ []; evictions = l.evictions + 1 }) (record l { rows = l.rows ++ r ∷ [] })).rows ≡ filter (in_set j m s) l.rows
+    others_placed : (b : Bool) (s : ℕ)
+        → filter (in_set j m s) (cond b (record { rows = lost ++ r ∷ []; evictions = l.evictions + 1 })
+        (record l { rows = l.rows ++ r ∷ [] })).rows ≡ filter (in_set j m s) l.rows
     others_placed true s =
         filter-no_more (in_set j m s) lost r (of_other m s j r ne)
         ∙ filter-other (in_set r.kind n (place n r)) (in_set j m s) (apart_kind n m s (place n r) j r.kind ne) l.rows v
     others_placed false s = filter-no_more (in_set j m s) l.rows r (of_other m s j r ne)
 
-    others_by : (b c : Bool) (s : ℕ) → filter (in_set j m s) (cond b l (cond c (record { rows = lost ++ r ∷ []; evictions = l.evictions + 1 }) (record l { rows = l.rows ++ r ∷ [] }))).rows ≡ filter (in_set j m s) l.rows
+    others_by : (b c : Bool) (s : ℕ)
+        → filter (in_set j m s) (cond b l (cond c (record { rows = lost ++ r ∷ []; evictions = l.evictions + 1 })
+        (record l { rows = l.rows ++ r ∷ [] }))).rows ≡ filter (in_set j m s) l.rows
     others_by true c s = refl
     others_by false c s = others_placed c s
 
     pub others_tied : (sets : List (List Row)) → IsTied j m l.rows sets → IsTied j m (added h core l r).rows sets
     others_tied sets f =
         subst (λ s. IsTied j m (cond (list_any (same_key r) l.rows) l (placed h core s l r)).rows sets) (sym fits)
-        (kept_tied j m l.rows (cond (list_any (same_key r) l.rows) l (placed h core (shape n ways) l r)).rows sets f (others_by (list_any (same_key r) l.rows) (nat_le ways (length (own l.rows)))))
+        (kept_tied j m l.rows (cond (list_any (same_key r) l.rows) l (placed h core (shape n ways) l r)).rows sets f (others_by (list_any
+        (same_key r) l.rows) (nat_le ways (length (own l.rows)))))
 
   key_in_set : (x : Row) → same_key r x ≡ true → in_set r.kind n (place n r) x ≡ true
   key_in_set x e =
@@ -164,7 +172,8 @@ module _ (h : Header) (core n ways : ℕ) (l : Cache) (r : Row) (fits : shape_of
       let k3 = and_parts (a && b && c) d k4.0 in
       let k2 = and_parts (a && b) c k3.0 in
       let k1 = and_parts a b k2.0 in
-      let start : r.region.start ≡ x.region.start = eqb-true r.region.start x.region.start (and_parts (r.region.class == x.region.class) (r.region.start == x.region.start) k1.1).1 in
+      let start : r.region.start ≡ x.region.start = eqb-true r.region.start x.region.start (and_parts (r.region.class == x.region.class)
+      (r.region.start == x.region.start) k1.1).1 in
       and_from a (place n r == place n x) k1.0 (eq-eqb (place n r) (place n x) (ap (λ y. y % n) start))
 
   -- a row of the same key is looked for in one set

@@ -1,5 +1,6 @@
 -- A row that served goes last: in its set, and in the list of all rows.
-use Rattle.std.proofs.Common.{◌≡◌, ℕ, zero, suc, ◌<◌, Bool, true, false, not, cond, List, [], ◌∷◌, ◌++◌, length, get_or, set, refl, ap, sym, ◌∙◌, subst, arith, inl, inr}
+use Rattle.std.proofs.Common.{◌≡◌, ℕ, zero, suc, ◌<◌, Bool, true, false, not, cond, List, [], ◌∷◌, ◌++◌, length, get_or, set, refl, ap, sym, ◌∙◌}
+use Rattle.std.proofs.Common.{subst, arith, inl, inr}
 use Rattle.std.specs.Prelude.{filter, ◌==◌}
 use Rattle.std.specs.List.{remove}
 use Rattle.std.proofs.lemmas.Bool.{cases_eq, eq-eqb, ne_eqb, and_from}
@@ -105,18 +106,22 @@ module _ (k : Kind) (n at way : ℕ) (d : Row) (live : List Row) (sets : List (L
   touched_tied =
       rw to_end_is
       (set_tied k n at live (rest ++ r ∷ []) sets (remove (get_or sets at []) way ++ r ∷ []) lt f
-      (ap (λ xs. remove xs way ++ r ∷ []) (f.each at lt) ∙ ap (λ xs. xs ++ r ∷ []) (sym (filter-without (in_set k n at) live way)) ∙ sym (filter-more (in_set k n at) rest r r_in))
-      (λ s ne. filter-no_more (in_set k n s) rest r (apart_set n s at k ne r r_in) ∙ filter-other (in_set k n at) (in_set k n s) (apart_set n s at k ne) live way))
+      (ap (λ xs. remove xs way ++ r ∷ []) (f.each at lt) ∙ ap (λ xs. xs ++ r ∷ []) (sym (filter-without (in_set k n at) live way))
+      ∙ sym (filter-more (in_set k n at) rest r r_in))
+      (λ s ne. filter-no_more (in_set k n s) rest r (apart_set n s at k ne r r_in)
+      ∙ filter-other (in_set k n at) (in_set k n s) (apart_set n s at k ne) live way))
 
   -- the other kinds keep their sets
   pub touched_other : (j : Kind) (m : ℕ) → same_kind j k ≡ false → (theirs : List (List Row)) → IsTied j m live theirs → IsTied j m (to_end live r) theirs
   touched_other j m ne theirs g =
       rw to_end_is
       (kept_tied j m live (rest ++ r ∷ []) theirs g
-      (λ s. filter-no_more (in_set j m s) rest r (apart_kind n m s at j k ne r r_in) ∙ filter-other (in_set k n at) (in_set j m s) (apart_kind n m s at j k ne) live way))
+      (λ s. filter-no_more (in_set j m s) rest r (apart_kind n m s at j k ne r r_in)
+      ∙ filter-other (in_set k n at) (in_set j m s) (apart_kind n m s at j k ne) live way))
 
 pub touched_here : (k : Kind) (n at way : ℕ) (d : Row) (live : List Row) (sets : List (List Row)) → AreTold live → IsTied k n live sets → at < n
-    → way < length (get_or sets at []) → (one : List Row) → one ≡ get_or sets at one → (new : List Row) → ((d : Row) → new ≡ remove one way ++ get_or one way d ∷ [])
+    → way < length (get_or sets at []) → (one : List Row) → one ≡ get_or sets at one → (new : List Row) → ((d : Row)
+    → new ≡ remove one way ++ get_or one way d ∷ [])
     → IsTied k n (to_end live (row_at sets at way d)) (set sets at new)
 touched_here k n at way d live sets told f lt within one value new e =
     let one_is : one ≡ get_or sets at [] = value ∙ get_or_default sets at one [] (subst (λ v. at < v) (sym f.count) lt) in

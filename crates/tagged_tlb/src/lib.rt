@@ -12,5 +12,4 @@ mod tlb;
 pub use chooser::Chooser;
 pub use found::{Found, Seen, Slot};
 pub use row::{Key, Kind, Made, Row, Sought};
-pub use set::Set;
 pub use tlb::Tlb;

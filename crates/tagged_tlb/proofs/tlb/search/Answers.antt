@@ -14,9 +14,11 @@ loop-class-preserved g c = elim c.if-is_marked.branch [
       let at : ℕ = c.args.sought.at / 2 ^ c.loop-class.class % g.row.SETS in
       let lt : at < length c.args.sets.now = omega (arith, c.requires.some, c.requires.sets) in
       rw (w.found-is, w.look-found.ensures) (
-        (λ d kind live told f. next_here d c.args.sets.now kind g.row.SETS c.args.sought live told f c.loop-class.class c.loop-class.found w.index-sets-set.result
+        (λ d kind live told f. next_here d c.args.sets.now kind g.row.SETS c.args.sought live told f c.loop-class.class c.loop-class.found
+            w.index-sets-set.result
             c.requires.some w.index-sets-set.is (c.loop-class.invariant.0 d kind live told f)),
-        looked_within c.args.sets.now (hit c.args.sought c.loop-class.class (c.args.sought.at / 2 ^ c.loop-class.class)) at w.index-sets-set.result c.loop-class.found lt
+        looked_within c.args.sets.now (hit c.args.sought c.loop-class.class
+            (c.args.sought.at / 2 ^ c.loop-class.class)) at w.index-sets-set.result c.loop-class.found lt
             w.index-sets-set.is c.loop-class.invariant.1,
       )
   | else-is_marked w ↦

@@ -6,4 +6,5 @@ use Rattle.tagged_tlb.proofs.Deepest.{NoneBelow}
 use Rattle.tagged_tlb.proofs.tlb.search_deepest.Given as goal
 
 abbrev pub invariant-loop-class : goal.invariant-loop-class
-invariant-loop-class g l = (kind : Kind) → (live : List Row) → AreTold live → IsTied kind g.row.SETS live l.sets → NoneBelow (is_sought kind l.sought) l.class live
+invariant-loop-class g l = (kind : Kind) → (live : List Row) → AreTold live → IsTied kind g.row.SETS live l.sets
+    → NoneBelow (is_sought kind l.sought) l.class live

@@ -11,7 +11,8 @@ invariant_of-self g c =
     let hs : List Head = c.self.inside.heads.items in
     let inv = c.self.invariant in
     let n : ℕ = vec_len c.self.inside.trails in
-    let short : length hs < g.row.WAYS = subst (λ k. k < g.row.WAYS) (length-map hs (row_of c.self.inside.trails.items)) (subst (λ v. length v < g.row.WAYS) (sym c.self.view_is) c.requires) in
+    let short : length hs < g.row.WAYS = subst (λ k. k < g.row.WAYS) (length-map hs (row_of c.self.inside.trails.items)) (subst
+    (λ v. length v < g.row.WAYS) (sym c.self.view_is) c.requires) in
     let room : n < g.row.WAYS = omega (arith, inv.0, c.len-spare.ensures, c.if-spare-eq0.true, short) in (
       omega (arith, inv.0, c.push_reserved.ensures.len, c.push_reserved-then-spare-eq0.ensures.len),
       omega (arith, room, c.push_reserved-then-spare-eq0.ensures.len),
@@ -41,7 +42,8 @@ invariant_of-self-else-spare-eq0 g c =
       omega (arith, inv.3, c.remove-slot.ensures.capacity),
       inv.4,
       rw (c.push_reserved-else-spare-eq0.ensures.items, c.remove-slot.ensures.items, c.head_of-else-spare-eq0.ensures)
-          (taken (vec_len c.self.inside.trails) c.self.inside.heads.items c.self.inside.free.items inv.5 i c.remove-slot.result within (head_with c.args.row c.remove-slot.result) c.remove-slot.ensures.value),
+          (taken (vec_len c.self.inside.trails) c.self.inside.heads.items c.self.inside.free.items inv.5 i c.remove-slot.result within
+          (head_with c.args.row c.remove-slot.result) c.remove-slot.ensures.value),
     )
 
 pub returns-then-spare-eq0 : goal.returns-then-spare-eq0
@@ -60,4 +62,5 @@ returns-else-spare-eq0 g c =
     rw (← c.self.view_is)
     (ap (map (row_of (set c.self.inside.trails.items c.remove-slot.result c.args.row.trail)))
     (c.push_reserved-else-spare-eq0.ensures.items ∙ ap (λ v. c.self.inside.heads.items ++ v ∷ []) c.head_of-else-spare-eq0.ensures)
-    ∙ room_here (vec_len c.self.inside.trails) c.self.inside.heads.items c.self.inside.free.items c.self.invariant.5 i c.remove-slot.result within c.self.inside.trails.items c.args.row (omega arith) c.remove-slot.ensures.value)
+    ∙ room_here (vec_len c.self.inside.trails) c.self.inside.heads.items c.self.inside.free.items c.self.invariant.5 i c.remove-slot.result within
+    c.self.inside.trails.items c.args.row (omega arith) c.remove-slot.ensures.value)

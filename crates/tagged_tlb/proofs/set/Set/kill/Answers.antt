@@ -16,7 +16,8 @@ invariant_of-self g c =
     let kept = filter_same _ (λ (h : Head). not (covers c.args.inval.now h.tag)) _ (λ x b f k. search rules) _ _ c.retain.ensures.filtered in
     let slots = c.give_back.ensures.slots ∙ ap (λ v. c.self.inside.free.items ++ spares i v) c.as_slice.ensures.value in
     let a : length c.retain.new.self.items ≡ length (filter (stays i) hs) = ap length kept in
-    let b : length c.give_back.new.free.items ≡ length c.self.inside.free.items + length (spares i hs) = ap length slots ∙ length-append c.self.inside.free.items (spares i hs) in
+    let b : length c.give_back.new.free.items ≡ length c.self.inside.free.items + length (spares i hs) = ap length slots
+    ∙ length-append c.self.inside.free.items (spares i hs) in
     let all = counted i hs in (
       omega (arith, inv.0, a, b, all),
       inv.1,
@@ -37,7 +38,8 @@ returns-else-len-spare g c =
     let hs : List Head = c.self.inside.heads.items in
     let i = c.args.inval.now in
     let slots = c.give_back.ensures.slots ∙ ap (λ v. c.self.inside.free.items ++ spares i v) c.as_slice.ensures.value in
-    let b : length c.give_back.new.free.items ≡ length c.self.inside.free.items + length (spares i hs) = ap length slots ∙ length-append c.self.inside.free.items (spares i hs) in
+    let b : length c.give_back.new.free.items ≡ length c.self.inside.free.items + length (spares i hs) = ap length slots
+    ∙ length-append c.self.inside.free.items (spares i hs) in
     let z : length (spares i hs) ≡ 0 = omega (arith, b, c.len.ensures, c.len-spare.ensures, c.if-len-spare.false) in
     rw (← c.self.view_is)
     (sym (killed_view i c.self.inside.trails.items hs ∙ ap (map (row_of c.self.inside.trails.items)) (all_stay i hs z)))

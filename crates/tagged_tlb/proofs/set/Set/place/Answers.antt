@@ -7,4 +7,6 @@ use Rattle.tagged_tlb.proofs.set.Set.place.Goals as goal
 pub returns : goal.returns
 returns g c =
     rw (← c.self.view_is)
-    (c.place.ensures ∙ ap (first_hit (is_hit c.args.sought.now c.args.class c.args.start) 0) c.as_slice.ensures.value ∙ sym (first_map (hit c.args.sought.now c.args.class c.args.start) (row_of c.self.inside.trails.items) (is_hit c.args.sought.now c.args.class c.args.start) (λ h. refl) 0 c.self.inside.heads.items))
+    (c.place.ensures ∙ ap (first_hit (is_hit c.args.sought.now c.args.class c.args.start) 0) c.as_slice.ensures.value
+    ∙ sym (first_map (hit c.args.sought.now c.args.class c.args.start) (row_of c.self.inside.trails.items)
+    (is_hit c.args.sought.now c.args.class c.args.start) (λ h. refl) 0 c.self.inside.heads.items))
