@@ -1,10 +1,11 @@
 //! What is searched of a row, without its trail.
 ghost use Rattle.std.specs.Prelude.{◌≡◌};
+ghost use Rattle.sysregs.specs.Equality.{same_fields};
 ghost use Rattle.tagged_tlb.specs.Slots.{head_with, key_of_head, is_keyed, is_hit};
 
-use crate::equality::same_fields;
 use crate::row::{Key, Kind, Made, Row, Sought};
 use fault_codes::Stage;
+use sysregs::{Config, same_config};
 use tlbi_ops::Tag;
 use walk_spec::Region;
 
@@ -33,6 +34,14 @@ pub(crate) fn head_of(row: &Row, slot: usize) -> Head
         kind: row.kind,
         global: row.global,
     }
+}
+
+/// Whether the register fields of both are equal.
+#[tactic(auto, using(sysregs::proofs::Configs::equal_configs))]
+fn same_fields(a: &Config, b: &Config) -> bool
+    ensures { result ≡ same_fields a.now b.now }
+{
+    same_config(a, b)
 }
 
 /// Whether the row of a head would serve the same as another.

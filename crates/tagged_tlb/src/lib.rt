@@ -2,7 +2,6 @@
 #![tactic(auto)]
 
 mod chooser;
-mod equality;
 mod found;
 mod head;
 mod row;
