@@ -11,7 +11,7 @@ use Rattle.tagged_tlb.specs.declared.row.Key.{Key}
 use Rattle.tagged_tlb.specs.declared.row.Sought.{Sought}
 use Rattle.tagged_tlb.specs.declared.row.Row.{Row}
 use Rattle.tagged_tlb.specs.Rows.{closer, deepest}
-use Rattle.tagged_tlb.specs.Tied.{IsTied, AreTold, AreSmall, row_at, is_sought}
+use Rattle.tagged_tlb.specs.Tied.{IsTied, AreToldApart, AreSmall, row_at, is_sought}
 use Rattle.tagged_tlb.specs.Slots.{hit}
 use Rattle.tagged_tlb.specs.Found.{first_hit}
 use Rattle.tagged_tlb.specs.Classes.{is_marked, AreMarked}
@@ -160,7 +160,7 @@ module _ (m : Row → Bool) where
 
 -- ONE CLASS
 
-module _ (d : Row) (sets : List (List Row)) (k : Kind) (n : ℕ) (q : Sought) (live : List Row) (told : AreTold live) (f : IsTied k n live sets) (c : ℕ)
+module _ (d : Row) (sets : List (List Row)) (k : Kind) (n : ℕ) (q : Sought) (live : List Row) (told : AreToldApart live) (f : IsTied k n live sets) (c : ℕ)
     (some : 0 < n)
     (one : List Row) (value : one ≡ get_or sets (q.at / 2 ^ c % n) one) where
   lt : q.at / 2 ^ c % n < n
@@ -203,7 +203,7 @@ some_row k kind = record {
   global = false;
 }
 
-pub none_of_class : (d : Row) (sets : List (List Row)) (k : Kind) (n : ℕ) (q : Sought) (live : List Row) (told : AreTold live) (f : IsTied k n live sets)
+pub none_of_class : (d : Row) (sets : List (List Row)) (k : Kind) (n : ℕ) (q : Sought) (live : List Row) (told : AreToldApart live) (f : IsTied k n live sets)
     (c : ℕ) → 0 < n
     → (marks : ℕ) → AreMarked marks sets → is_marked marks c ≡ false → NoneBelow (is_sought k q) c live → NoneBelow (is_sought k q) (c + 1) live
 none_of_class d sets k n q live told f c some marks marked no_mark h =
@@ -214,7 +214,7 @@ none_of_class d sets k n q live told f c some marks marked no_mark h =
     one_up (is_sought k q) c live h (sym (class_rows d sets k n q live told f c lt) ∙ empty)
 
 -- no row has a class from one on
-pub none_of_classes : (d : Row) (sets : List (List Row)) (k : Kind) (n : ℕ) (q : Sought) (live : List Row) (told : AreTold live)
+pub none_of_classes : (d : Row) (sets : List (List Row)) (k : Kind) (n : ℕ) (q : Sought) (live : List Row) (told : AreToldApart live)
     (f : IsTied k n live sets) → 0 < n
     → (marks : ℕ) → AreMarked marks sets → (gap c : ℕ) → c + gap ≡ 64 → marks < 2 ^ c → NoneBelow (is_sought k q) c live → NoneBelow (is_sought k q) 64 live
 none_of_classes d sets k n q live told f some marks marked zero c e small h = let e : c ≡ 64 = omega (arith, e) in subst (λ v. NoneBelow

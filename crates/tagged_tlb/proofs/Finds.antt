@@ -15,7 +15,7 @@ use Rattle.tagged_tlb.specs.declared.found.Seen.{Seen}
 use Rattle.tagged_tlb.specs.declared.found.Found.{Found}
 use Rattle.tagged_tlb.specs.declared.found.Found.TheVariants.{Nothing, One, Two}
 use Rattle.tagged_tlb.specs.Rows.{same_kind, holds, is_older, inserted, by_making, matching}
-use Rattle.tagged_tlb.specs.Tied.{in_set, IsTied, AreTold, AreSmall, row_at, matches_by, is_sought}
+use Rattle.tagged_tlb.specs.Tied.{in_set, IsTied, AreToldApart, AreSmall, row_at, matches_by, is_sought}
 use Rattle.tagged_tlb.specs.Slots.{hit, suits_asid, is_keyed_row, made_of_row}
 use Rattle.tagged_tlb.specs.Found.{met, looked, seen_at, seen_row, found_rows, IsSeen, AllSeen, IsWithin, AreWithin}
 use Rattle.tagged_tlb.specs.Classes.{is_marked, AreMarked}
@@ -172,7 +172,7 @@ module _ (d : Row) (sets : List (List Row)) where
 
   -- ONE CLASS
 
-  module _ (k : Kind) (n : ℕ) (q : Sought) (live : List Row) (told : AreTold live) (f : IsTied k n live sets) where
+  module _ (k : Kind) (n : ℕ) (q : Sought) (live : List Row) (told : AreToldApart live) (f : IsTied k n live sets) where
     abbrev m : Row → Bool
     m r = is_sought k q r
 

@@ -6,7 +6,7 @@ use Rattle.tagged_tlb.specs.declared.row.Made.{Made}
 use Rattle.tagged_tlb.specs.declared.row.Row.{Row}
 use Rattle.tagged_tlb.specs.Rows.{is_older, inserted, by_making}
 use Rattle.tagged_tlb.specs.Sets.{is_row}
-use Rattle.tagged_tlb.specs.Tied.{IsOther, AreTold}
+use Rattle.tagged_tlb.specs.Tied.{IsOther, AreToldApart}
 use Rattle.tagged_tlb.proofs.Touches.{other_filter}
 
 pub lt_yes : (a b : ℕ) → a < b → nat_lt a b ≡ true
@@ -121,15 +121,15 @@ push : (y : Row) (xs rows : List Row) → IsOther y rows → inserted y (adds xs
 push y xs [] o = refl
 push y xs (r ∷ rows) o = either_way y r o.0 (adds xs rows) ∙ ap (inserted r) (push y xs rows o.1)
 
-pub runs_adds : (xs rows : List Row) → AreTold rows → runs xs rows ≡ adds xs rows
+pub runs_adds : (xs rows : List Row) → AreToldApart rows → runs xs rows ≡ adds xs rows
 runs_adds xs [] t = refl
 runs_adds xs (r ∷ rows) t = runs_adds (inserted r xs) rows t.1 ∙ sym (push r xs rows t.0)
 
-told_if : (y : Row) (ys : List Row) (b : Bool) → IsOther y ys → AreTold ys → AreTold (cond b (y ∷ ys) ys)
+told_if : (y : Row) (ys : List Row) (b : Bool) → IsOther y ys → AreToldApart ys → AreToldApart (cond b (y ∷ ys) ys)
 told_if y ys true o t = (o, t)
 told_if y ys false o t = t
 
-pub told_filter : (q : Row → Bool) (xs : List Row) → AreTold xs → AreTold (filter q xs)
+pub told_filter : (q : Row → Bool) (xs : List Row) → AreToldApart xs → AreToldApart (filter q xs)
 told_filter q [] t = tt
 told_filter q (x ∷ xs) t = told_if x (filter q xs) (q x) (other_filter q x xs t.0) (told_filter q xs t.1)
 
@@ -144,7 +144,7 @@ module _ (p q : Row → Bool) where
   split_by y ys false true apart o rest = ap (inserted y) rest
   split_by y ys false false apart o rest = rest
 
-  pub split : ((r : Row) → p r ≡ true → q r ≡ false) → (xs : List Row) → AreTold xs
+  pub split : ((r : Row) → p r ≡ true → q r ≡ false) → (xs : List Row) → AreToldApart xs
       → by_making (filter (λ r. p r || q r) xs) ≡ adds (by_making (filter p xs)) (filter q xs)
   split apart [] t = refl
   split apart (y ∷ ys) t = split_by y ys (p y) (q y) (apart y) t.0 (split apart ys t.1)

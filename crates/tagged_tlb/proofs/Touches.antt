@@ -8,7 +8,7 @@ use Rattle.std.proofs.lemmas.List.{get_or_default}
 use Rattle.tagged_tlb.specs.declared.row.Kind.{Kind}
 use Rattle.tagged_tlb.specs.declared.row.Row.{Row}
 use Rattle.tagged_tlb.specs.Sets.{without, is_row, to_end}
-use Rattle.tagged_tlb.specs.Tied.{in_set, IsTied, IsOther, AreTold, row_at}
+use Rattle.tagged_tlb.specs.Tied.{in_set, IsTied, IsOther, AreToldApart, row_at}
 use Rattle.tagged_tlb.proofs.Lists.{filter-without, filter-other, filter-more, filter-no_more}
 use Rattle.tagged_tlb.specs.Rows.{same_kind}
 use Rattle.tagged_tlb.proofs.Ties.{apart_set, apart_kind, set_tied, kept_tied}
@@ -65,7 +65,7 @@ module _ (q : Row → Bool) (d : Row) where
     loses_by false zero lt = kept zero lt
     loses_by false (suc k) lt = kept (suc k) lt
 
-  pub loses : (xs : List Row) (way : ℕ) → AreTold xs → way < length (filter q xs) → Loses xs way
+  pub loses : (xs : List Row) (way : ℕ) → AreToldApart xs → way < length (filter q xs) → Loses xs way
   loses [] way t h = absurd (omega (arith, h))
   loses (y ∷ ys) zero t h = loses_by y ys t.0 (λ k lt. loses ys k t.1 lt) (q y) zero h
   loses (y ∷ ys) (suc k) t h = loses_by y ys t.0 (λ k lt. loses ys k t.1 lt) (q y) (suc k) h
@@ -82,7 +82,7 @@ module _ (q : Row → Bool) (d : Row) where
 
 -- THE SETS
 
-module _ (k : Kind) (n at way : ℕ) (d : Row) (live : List Row) (sets : List (List Row)) (told : AreTold live) (f : IsTied k n live sets) (lt : at < n)
+module _ (k : Kind) (n at way : ℕ) (d : Row) (live : List Row) (sets : List (List Row)) (told : AreToldApart live) (f : IsTied k n live sets) (lt : at < n)
     (within : way < length (get_or sets at [])) where
   abbrev r : Row
   r = row_at sets at way d
@@ -119,7 +119,7 @@ module _ (k : Kind) (n at way : ℕ) (d : Row) (live : List Row) (sets : List (L
       (λ s. filter-no_more (in_set j m s) rest r (apart_kind n m s at j k ne r r_in)
       ∙ filter-other (in_set k n at) (in_set j m s) (apart_kind n m s at j k ne) live way))
 
-pub touched_here : (k : Kind) (n at way : ℕ) (d : Row) (live : List Row) (sets : List (List Row)) → AreTold live → IsTied k n live sets → at < n
+pub touched_here : (k : Kind) (n at way : ℕ) (d : Row) (live : List Row) (sets : List (List Row)) → AreToldApart live → IsTied k n live sets → at < n
     → way < length (get_or sets at []) → (one : List Row) → one ≡ get_or sets at one → (new : List Row) → ((d : Row)
     → new ≡ remove one way ++ get_or one way d ∷ [])
     → IsTied k n (to_end live (row_at sets at way d)) (set sets at new)

@@ -51,9 +51,9 @@ IsOther r [] = Unit {0}
 IsOther r (s ∷ rows) = (is_row r s ≡ false) × IsOther r rows
 
 -- no two rows were made as the same one
-abbrev pub AreTold : (rows : List Row) → Type 0
-AreTold [] = Unit {0}
-AreTold (r ∷ rows) = IsOther r rows × AreTold rows
+abbrev pub AreToldApart : (rows : List Row) → Type 0
+AreToldApart [] = Unit {0}
+AreToldApart (r ∷ rows) = IsOther r rows × AreToldApart rows
 
 -- each row's class is below 64
 abbrev pub AreSmall : (rows : List Row) → Type 0

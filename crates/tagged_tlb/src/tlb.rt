@@ -8,7 +8,7 @@ ghost use Rattle.tagged_tlb.specs.Shapes.{shape, shape_of};
 ghost use Rattle.tagged_tlb.specs.Rows.{matching, deepest};
 ghost use Rattle.tagged_tlb.specs.Sets.{Cache, added, to_end};
 ghost use Rattle.tagged_tlb.specs.Found.{found_rows, slot_row, AreWithin, MayBeWithin};
-ghost use Rattle.tagged_tlb.specs.Tied.{IsTied, IsAdded, IsAt, AreTold, AreSmall, row_at, is_sought};
+ghost use Rattle.tagged_tlb.specs.Tied.{IsTied, IsAdded, IsAt, AreToldApart, AreSmall, row_at, is_sought};
 ghost use Rattle.tagged_tlb.specs.Classes;
 ghost use Rattle.tagged_tlb.specs.Classes.{AreMarked, AreEmpty};
 
@@ -81,7 +81,7 @@ fn search<const SETS: usize, const WAYS: usize>(
     requires sets { length sets.now ≡ SETS }
     requires marked { AreMarked classes sets.now }
     ensures within { AreWithin sets.now result }
-    ensures best { (d : declared_row.Row) → (kind : declared_kind.Kind) → (live : List declared_row.Row) → AreTold live → AreSmall live →
+    ensures best { (d : declared_row.Row) → (kind : declared_kind.Kind) → (live : List declared_row.Row) → AreToldApart live → AreSmall live →
         IsTied kind SETS live sets.now → found_rows d sets.now result ≡ take 2 (matching (is_sought kind sought) live) }
 {
     let mut found = Found::Nothing;
@@ -105,7 +105,7 @@ fn search_deepest<const SETS: usize, const WAYS: usize>(
     requires sets { length sets.now ≡ SETS }
     requires marked { AreMarked classes sets.now }
     ensures within { MayBeWithin sets.now result }
-    ensures least { (d : declared_row.Row) → (kind : declared_kind.Kind) → (live : List declared_row.Row) → AreTold live → AreSmall live →
+    ensures least { (d : declared_row.Row) → (kind : declared_kind.Kind) → (live : List declared_row.Row) → AreToldApart live → AreSmall live →
         IsTied kind SETS live sets.now → option_map (slot_row d sets.now) result ≡ deepest (is_sought kind sought) live }
 {
     for class in 0..end_of(classes) {
@@ -124,7 +124,8 @@ fn search_deepest<const SETS: usize, const WAYS: usize>(
 impl<const SETS: usize, const WAYS: usize> Tlb<SETS, WAYS> {
     /// A cache without rows. It takes all its memory now; an error says that there is none.
     pub fn opened(alloc: Global) -> Result<Self, AllocError>
-        ensures { IfOk result (λ t. t ≡ replicate SETS []) }
+        ensures empty { IfOk result (λ t. t ≡ replicate SETS []) }
+        ensures tied { IfOk result (λ t. (kind : declared_kind.Kind) → IsTied kind SETS [] t) }
     {
         let mut sets = Vec::with_capacity(alloc, SETS)?;
         for _set in 0..SETS {
@@ -179,7 +180,7 @@ impl<const SETS: usize, const WAYS: usize> Tlb<SETS, WAYS> {
     pub fn touch(&mut self, slot: Slot)
         requires set { slot.set < SETS }
         requires way { slot.way < length (get_or self.old slot.set []) }
-        ensures { (d : declared_row.Row) → (kind : declared_kind.Kind) → (live : List declared_row.Row) → AreTold live → IsTied kind SETS live self.old →
+        ensures { (d : declared_row.Row) → (kind : declared_kind.Kind) → (live : List declared_row.Row) → AreToldApart live → IsTied kind SETS live self.old →
             IsTied kind SETS (to_end live (slot_row d self.old slot)) self.new }
     {
         let set = &mut self.sets[slot.set];
@@ -190,7 +191,7 @@ impl<const SETS: usize, const WAYS: usize> Tlb<SETS, WAYS> {
     pub fn find(&self, sought: &Sought) -> Found
         requires { 0 < SETS }
         ensures within { AreWithin self.now result }
-        ensures best { (d : declared_row.Row) → (kind : declared_kind.Kind) → (live : List declared_row.Row) → AreTold live → AreSmall live →
+        ensures best { (d : declared_row.Row) → (kind : declared_kind.Kind) → (live : List declared_row.Row) → AreToldApart live → AreSmall live →
             IsTied kind SETS live self.now → found_rows d self.now result ≡ take 2 (matching (is_sought kind sought.now) live) }
     {
         search::<SETS, WAYS>(self.sets.as_slice(), self.classes, *sought)
@@ -200,7 +201,7 @@ impl<const SETS: usize, const WAYS: usize> Tlb<SETS, WAYS> {
     pub fn deepest(&self, sought: &Sought) -> Option<Slot>
         requires { 0 < SETS }
         ensures within { MayBeWithin self.now result }
-        ensures least { (d : declared_row.Row) → (kind : declared_kind.Kind) → (live : List declared_row.Row) → AreTold live → AreSmall live →
+        ensures least { (d : declared_row.Row) → (kind : declared_kind.Kind) → (live : List declared_row.Row) → AreToldApart live → AreSmall live →
             IsTied kind SETS live self.now → option_map (slot_row d self.now) result ≡ deepest (is_sought kind sought.now) live }
     {
         search_deepest::<SETS, WAYS>(self.sets.as_slice(), self.classes, *sought)
