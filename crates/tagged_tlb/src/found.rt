@@ -100,7 +100,7 @@ pub(crate) fn look(
 }
 
 /// The place of the first row of a set that matches, as one of a class.
-pub(crate) fn place(heads: &[Head], sought: &Sought, class: u32, start: u64) -> Option<usize>
+pub(crate) fn first_way(heads: &[Head], sought: &Sought, class: u32, start: u64) -> Option<usize>
     ensures { result ≡ first_hit (is_hit sought.now class start) 0 heads.now }
 {
     for (way, head) in heads.iter().enumerate() {

@@ -9,7 +9,7 @@ ghost use Rattle.tagged_tlb.specs.Slots.{hit, made_of_row, key_of_head, spares, 
 ghost use Rattle.tagged_tlb.specs.Found.{looked, first_hit};
 
 use crate::chooser::Chooser;
-use crate::found::{Found, look, place};
+use crate::found::{Found, first_way, look};
 use crate::head::{Head, has_key, head_of};
 use crate::row::{Row, Sought};
 use std::alloc::{AllocError, Global};
@@ -103,10 +103,10 @@ impl<const WAYS: usize> Set<WAYS> {
     }
 
     /// The place of the first row that matches, as one of a class. `start` is the address counted in its regions.
-    pub fn place(&self, sought: &Sought, class: u32, start: u64) -> Option<usize>
+    pub fn first_way(&self, sought: &Sought, class: u32, start: u64) -> Option<usize>
         ensures { result ≡ first_hit (hit sought.now class start) 0 self.now }
     {
-        place(self.heads.as_slice(), sought, class, start)
+        first_way(self.heads.as_slice(), sought, class, start)
     }
 
     /// The trail of the row at a place.

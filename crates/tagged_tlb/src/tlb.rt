@@ -112,7 +112,7 @@ fn search_deepest<const SETS: usize, const WAYS: usize>(
         if is_marked(classes, class) {
             let start = sought.at >> class;
             let set = (start % SETS as u64) as usize;
-            match sets[set].place(&sought, class, start) {
+            match sets[set].first_way(&sought, class, start) {
                 Some(way) => return Some(Slot { set, way }),
                 None => {}
             }

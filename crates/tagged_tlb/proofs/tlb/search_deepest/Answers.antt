@@ -16,20 +16,20 @@ returns-in-Some-clause-within g c =
       lt,
       place_within c.args.sets.now (hit c.args.sought c.loop-class.class
           (c.args.sought.at / 2 ^ c.loop-class.class)) at c.in-Some.way c.index-sets-set.result lt
-          c.index-sets-set.is (sym c.place.ensures ∙ c.in-Some.is),
+          c.index-sets-set.is (sym c.first_way.ensures ∙ c.in-Some.is),
     )
 
 pub returns-in-Some-clause-least : goal.returns-in-Some-clause-least
 returns-in-Some-clause-least g c = λ d kind live told small f.
     found_here d c.args.sets.now kind g.row.SETS c.args.sought live told f c.loop-class.class c.requires.some c.index-sets-set.result c.index-sets-set.is
-    c.in-Some.way (sym c.place.ensures ∙ c.in-Some.is) (c.loop-class.invariant kind live told f)
+    c.in-Some.way (sym c.first_way.ensures ∙ c.in-Some.is) (c.loop-class.invariant kind live told f)
 
 pub loop-class-preserved : goal.loop-class-preserved
 loop-class-preserved g c = λ kind live told f. elim c.if-is_marked.branch [
   | then-is_marked+in-None w ↦
       none_here (some_row c.args.sought.key kind) c.args.sets.now kind g.row.SETS c.args.sought live told f c.loop-class.class c.requires.some
       w.index-sets-set.result w.index-sets-set.is
-      (sym w.place.ensures ∙ w.in-None.is) (c.loop-class.invariant kind live told f)
+      (sym w.first_way.ensures ∙ w.in-None.is) (c.loop-class.invariant kind live told f)
   | else-is_marked w ↦
       none_of_class (some_row c.args.sought.key kind) c.args.sets.now kind g.row.SETS c.args.sought live told f c.loop-class.class c.requires.some
       c.args.classes c.requires.marked
