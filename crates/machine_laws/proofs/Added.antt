@@ -24,7 +24,8 @@ use Rattle.machine_laws.proofs.Lists.{In-from_filter, In-push_cases, In-without}
 use Rattle.machine_laws.proofs.Pairs.{pairs_filter, pairs_without, pairs_push}
 use Rattle.machine_laws.proofs.Combined.{IsMade1}
 use Rattle.machine_laws.proofs.Found.{apart_sym}
-use Rattle.machine_laws.proofs.Sets.{kind_itself, In-added}
+use Rattle.tagged_tlb.proofs.Ties.{kind_itself}
+use Rattle.machine_laws.proofs.Sets.{In-added}
 
 -- EQUAL KEYS
 

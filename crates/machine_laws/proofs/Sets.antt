@@ -13,55 +13,13 @@ use Rattle.machine_spec.specs.Header.{Header}
 use Rattle.tagged_tlb.specs.declared.row.Row.{Row}
 use Rattle.tagged_tlb.specs.Rows.{same_kind}
 use Rattle.tagged_tlb.specs.Sets.{Cache, victim, without, same_set, same_key, placed, added, is_row, to_end, touched, filled}
+use Rattle.tagged_tlb.proofs.Lists.{filter-without, filter-other}
+use Rattle.tagged_tlb.proofs.Ties.{kind_itself}
 use Rattle.machine_laws.specs.Rules.{SetLoses, FullSetsLoseOne}
 use Rattle.machine_laws.proofs.Facts.{In}
 use Rattle.machine_laws.proofs.Lists.{In-from_filter, In-push_cases, In-without}
 
--- A LIST WITHOUT ONE OF THOSE THAT PASS
-
-first : {X : Type 0} (p : X → Bool) (x : X) (xs : List X) (b : Bool) → p x ≡ b → filter p (without p xs zero) ≡ remove (filter p xs) zero
-    → filter p (cond b xs (x ∷ without p xs zero)) ≡ remove (cond b (x ∷ filter p xs) (filter p xs)) zero
-first p x xs true e rest = refl
-first p x xs false e rest = rw e rest
-
-later : {X : Type 0} (p : X → Bool) (x : X) (xs : List X) (n : ℕ) (b : Bool) → p x ≡ b → filter p (without p xs n) ≡ remove (filter p xs) n
-    → filter p (without p xs (suc n)) ≡ remove (filter p xs) (suc n)
-    → filter p (cond b (x ∷ without p xs n) (x ∷ without p xs (suc n))) ≡ remove (cond b (x ∷ filter p xs) (filter p xs)) (suc n)
-later p x xs n true e here rest = rw e (ap (λ v. x ∷ v) here)
-later p x xs n false e here rest = rw e rest
-
--- those that pass lose the one at that place
-pub filter-without : {X : Type 0} (p : X → Bool) (xs : List X) (n : ℕ) → filter p (without p xs n) ≡ remove (filter p xs) n
-filter-without p [] zero = refl
-filter-without p [] (suc n) = refl
-filter-without p (x ∷ xs) zero = first p x xs (p x) refl (filter-without p xs zero)
-filter-without p (x ∷ xs) (suc n) = later p x xs n (p x) refl (filter-without p xs n) (filter-without p xs (suc n))
-
-other_first : {X : Type 0} (p q : X → Bool) (x : X) (xs : List X) (b : Bool) → (b ≡ true → q x ≡ false) → filter q (without p xs zero) ≡ filter q xs
-    → filter q (cond b xs (x ∷ without p xs zero)) ≡ cond (q x) (x ∷ filter q xs) (filter q xs)
-other_first p q x xs true apart rest = rw (apart refl) refl
-other_first p q x xs false apart rest = ap (λ v. cond (q x) (x ∷ v) v) rest
-
-other_later : {X : Type 0} (p q : X → Bool) (x : X) (xs : List X) (n : ℕ) (b : Bool) → filter q (without p xs n) ≡ filter q xs
-    → filter q (without p xs (suc n)) ≡ filter q xs
-    → filter q (cond b (x ∷ without p xs n) (x ∷ without p xs (suc n))) ≡ cond (q x) (x ∷ filter q xs) (filter q xs)
-other_later p q x xs n true here rest = ap (λ v. cond (q x) (x ∷ v) v) here
-other_later p q x xs n false here rest = ap (λ v. cond (q x) (x ∷ v) v) rest
-
--- those that pass another test, of which none passes this one, stay
-pub filter-other : {X : Type 0} (p q : X → Bool) → ((x : X) → p x ≡ true → q x ≡ false) → (xs : List X) (n : ℕ)
-    → filter q (without p xs n) ≡ filter q xs
-filter-other p q apart [] n = refl
-filter-other p q apart (x ∷ xs) zero = other_first p q x xs (p x) (apart x) (filter-other p q apart xs zero)
-filter-other p q apart (x ∷ xs) (suc n) = other_later p q x xs n (p x) (filter-other p q apart xs n) (filter-other p q apart xs (suc n))
-
 -- ONE SET
-
-pub kind_itself : (k : Kind) → same_kind k k ≡ true
-kind_itself Leaf1 = refl
-kind_itself Table1 = refl
-kind_itself Leaf2 = refl
-kind_itself Table2 = refl
 
 -- a row is in its own set
 pub same_set_itself : (s : Shape) (r : Row) → same_set s r r ≡ true

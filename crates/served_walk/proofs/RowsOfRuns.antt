@@ -1,5 +1,5 @@
 -- The rows of a core can serve, over every run.
-use Rattle.std.proofs.Common.{ℕ, false, true, List, [], ◌∷◌, Option}
+use Rattle.std.proofs.Common.{◌≡◌, ℕ, false, true, List, [], ◌∷◌, Option, inl, inr, refl}
 use Rattle.sysregs.specs.declared.regs.Side.{Side}
 use Rattle.sysregs.specs.declared.regs.Side.TheVariants.{Low}
 use Rattle.sysregs.specs.Sides.{side_of}
@@ -14,14 +14,16 @@ use Rattle.tagged_tlb.specs.declared.row.Kind.TheVariants.{Leaf1, Table1, Leaf2,
 use Rattle.machine_spec.specs.Marks.{Mark}
 use Rattle.tagged_tlb.specs.declared.row.Row.{Row}
 use Rattle.machine_spec.specs.Machine.{core_numbered, world_after, run_of}
-use Rattle.machine_laws.specs.Leaving.{uses_of}
+use Rattle.tagged_tlb.specs.Sets.{is_row}
+use Rattle.tagged_tlb.specs.Tied.{IsOther, AreToldApart}
+use Rattle.machine_laws.specs.Leaving.{In, uses_of}
 use Rattle.machine_laws.proofs.Trees.{chain, flat}
 use Rattle.machine_laws.proofs.Facts.{regime_for, IsStored, sided, IsRowBy, view_of}
 use Rattle.machine_laws.proofs.Gone.{AreRanked}
 use Rattle.machine_laws.proofs.LeavingRuns.{run_ranked}
 use Rattle.machine_laws.proofs.Theorem.{facts_of_run}
 use Rattle.machine_laws.proofs.Promised.{all_served, all_made}
-use Rattle.served_walk.specs.CanServe.{ServesAs, AreTold, RowsCanServe}
+use Rattle.served_walk.specs.CanServe.{ServesAs, RowsCanServe}
 use Rattle.served_walk.proofs.Depth.{on_length, chain_most, walk_most}
 use Rattle.served_walk.proofs.Servable.{leaf1_ends, leaf2_ends, table2_needs, table1_serves}
 
@@ -51,9 +53,13 @@ serves_as P r Table2 h = λ s x held ok.
       on_length (regime_of c s) most_items2 (chain (regime_of c s) false x) (ask t.need t.go) r.trail (chain_most c s false x ok) t.on,
     )
 
-told_of : (h : Header) (c : ℕ) (u rows : List Row) → AreRanked h c u rows → AreTold rows
+other_of : (r : Row) (rows : List Row) → ((s : Row) → In s rows → is_row r s ≡ false) → IsOther r rows
+other_of r [] h = tt
+other_of r (s ∷ rows) h = (h s (inl refl), other_of r rows (λ x i. h x (inr i)))
+
+told_of : (h : Header) (c : ℕ) (u rows : List Row) → AreRanked h c u rows → AreToldApart rows
 told_of h c u [] a = tt
-told_of h c u (r ∷ rows) a = ((λ s i. (a.0 s i).0), told_of h c u rows a.1)
+told_of h c u (r ∷ rows) a = (other_of r rows (λ s i. (a.0 s i).0), told_of h c u rows a.1)
 
 pub rows_can_serve : RowsCanServe
 rows_can_serve h events own c lt =

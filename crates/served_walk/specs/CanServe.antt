@@ -1,5 +1,5 @@
 -- What the rows of a core are good for, over every run (this project's own rules).
-use Rattle.std.specs.Prelude.{◌≡◌, ◌⊎◌, ℕ, ◌<◌, ◌≤◌, false, true, List, [], ◌∷◌, length}
+use Rattle.std.specs.Prelude.{◌≡◌, ◌⊎◌, ℕ, ◌<◌, ◌≤◌, false, true, List, length}
 use Rattle.sysregs.specs.declared.regs.Side.{Side}
 use Rattle.trails.specs.declared.event.Event.{Event}
 use Rattle.trails.specs.declared.outcome.Access.{Access}
@@ -17,7 +17,7 @@ use Rattle.tagged_tlb.specs.declared.row.Kind.{Kind}
 use Rattle.tagged_tlb.specs.declared.row.Kind.TheVariants.{Leaf1, Table1, Leaf2 as OfLeaf2, Table2}
 use Rattle.tagged_tlb.specs.declared.row.Row.{Row}
 use Rattle.tagged_tlb.specs.Rows.{holds}
-use Rattle.tagged_tlb.specs.Sets.{is_row}
+use Rattle.tagged_tlb.specs.Tied.{AreToldApart}
 use Rattle.machine_spec.specs.Machine.{core_numbered, world_after}
 use Rattle.machine_laws.specs.Headline.{AreOfCores}
 use Rattle.machine_laws.specs.Leaving.{In}
@@ -40,14 +40,9 @@ ServesAs r Table2 =
     (s : Side) (x : ℕ) → holds r.region x ≡ true → is_refused2 r.key.config x ≡ false →
     ((w : WordNeed) × (stands2 r.key.config s false x r.trail ≡ needs (word w))) × (length r.trail ≤ most_items2)
 
--- no two rows were made as the same one
-abbrev pub AreTold : (rows : List Row) → Type 0
-AreTold [] = Unit {0}
-AreTold (r ∷ rows) = ((s : Row) → In s rows → is_row r s ≡ false) × AreTold rows
-
 -- the rows of a core before a step
 pub record AreServable (step : ℕ) (rows : List Row) : Type 0 where
-  pub told : AreTold rows
+  pub told : AreToldApart rows
   pub before : (r : Row) → In r rows → r.made.step < step
   pub serves : (r : Row) → In r rows → ServesAs r r.kind
 

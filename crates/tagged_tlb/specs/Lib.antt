@@ -1,6 +1,11 @@
 pub use Rattle.sysregs.specs.Registers
 pub use Rattle.sysregs.specs.Equality
 pub use Rattle.tlbi_ops.specs.Covers
+pub use Rattle.trace_lang.specs.Traces
 pub mod Shapes
 pub mod Rows
 pub mod Sets
+pub mod Tied
+pub mod Slots
+pub mod Found
+pub mod Classes

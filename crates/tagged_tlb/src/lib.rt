@@ -1,6 +1,14 @@
-//! Rows of cached translations: when they were made, and under which registers they serve.
+//! Caches of translations: rows in sets, which stand for the one list of all rows of a core in the order of rank.
 #![tactic(auto)]
 
+mod chooser;
+mod found;
+mod head;
 mod row;
+mod set;
+mod tlb;
 
-pub use row::{Key, Kind, Made, Row};
+pub use chooser::Chooser;
+pub use found::{Found, Seen, Slot};
+pub use row::{Key, Kind, Made, Row, Sought};
+pub use tlb::Tlb;

@@ -1,3 +1,4 @@
+use fault_codes::Stage;
 use sysregs::Config;
 use tlbi_ops::Tag;
 use trails::Trail;
@@ -39,4 +40,13 @@ pub struct Row {
     pub made: Made,
     pub kind: Kind,
     pub global: bool,
+}
+
+/// What a search looks for: the rows of a stage that serve an address in bytes under a key. A row of stage 1 serves by its ASID
+/// too, unless its leaf is global.
+#[derive(Clone, Copy)]
+pub struct Sought {
+    pub key: Key,
+    pub at: u64,
+    pub stage: Stage,
 }

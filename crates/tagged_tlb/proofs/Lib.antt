@@ -1,0 +1,10 @@
+pub mod Lists
+pub mod Draws
+pub mod Ties
+pub mod Adds
+pub mod Touches
+pub mod Order
+pub mod Finds
+pub mod Deepest
+pub mod Heads
+pub mod Classes
