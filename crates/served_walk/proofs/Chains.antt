@@ -166,7 +166,7 @@ module _ (c : Config) (s : Side) (p : Bool) (x : ℕ) (sup : Need → Supplied) 
 
   behind_word : (big : Bool) (base : ℕ) (items : List Item) (w : WordNeed) (k : Item → Ask Need Item (End Leaf2))
       → IsOn r (Behind big false base) items (ask (word w) k) → IsOn r (Behind big p base) items (From p w.left w.table)
-          × (length items + w.left ≡ r.stage2.start)
+      × (length items + w.left ≡ r.stage2.start)
   unfolding AtWord
   behind_word true base items w k h = absurd (done_ask _ items (word w) k h)
   behind_word false base items w k h = at_word r.stage2.start base items w k h
@@ -189,7 +189,7 @@ module _ (c : Config) (s : Side) (p : Bool) (x : ℕ) (sup : Need → Supplied) 
 
   chain_table : (items : List Item) (from : From2) → NeedsOf from (stands2 c s false x items)
       → (is_refused2 c x ≡ false) × IsOn r (chain r p x) items (From p (left_below from.level) from.base)
-          × (length items + left_below from.level + 1 ≤ most_items2)
+      × (length items + left_below from.level + 1 ≤ most_items2)
   chain_table items from n =
       let w : WordNeed = n.0 in
       let d = refused_needs r (is_refused2 c x) early (chain r false x) items (word w) n.1 in
@@ -198,8 +198,7 @@ module _ (c : Config) (s : Side) (p : Bool) (x : ℕ) (sup : Need → Supplied) 
       let most : r.stage2.start ≤ most_left = (sound2 r x (of_fields c s) d.0).0.start in
       let few : w.left ≤ most_left = omega (arith, a.1, most, some_items items w o.0 o.1) in
       let level : left_below from.level ≡ w.left = ap (λ f. left_below f.level) n.2 ∙ left_below_of w.left few in
-      let base : from.base ≡ w.table = ap (λ f. f.base) n.2 in
-      (
+      let base : from.base ≡ w.table = ap (λ f. f.base) n.2 in (
         d.0,
         subst (λ l. IsOn r (chain r p x) items (From p l from.base)) (sym level)
             (subst (λ b. IsOn r (chain r p x) items (From p w.left b)) (sym base) a.0),

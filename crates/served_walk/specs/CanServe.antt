@@ -1,5 +1,5 @@
 -- What the rows of a core are good for, over every run (this project's own rules).
-use Rattle.std.specs.Prelude.{◌≡◌, ◌⊎◌, ℕ, ◌<◌, ◌≤◌, false, true, List, length}
+use Rattle.std.specs.Prelude.{◌≡◌, ◌⊎◌, ℕ, ◌<◌, ◌≤◌, false, true, List, [], length}
 use Rattle.sysregs.specs.declared.regs.Side.{Side}
 use Rattle.trails.specs.declared.event.Event.{Event}
 use Rattle.trails.specs.declared.outcome.Access.{Access}
