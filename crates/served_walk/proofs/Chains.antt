@@ -138,10 +138,12 @@ module _ (c : Config) (s : Side) (p : Bool) (x : ℕ) (sup : Need → Supplied) 
   abbrev One : Bool → (ℕ → Ask Need Item (End Leaf2)) → ℕ → Item → Ask Need Item (End Leaf2)
   One b below left i = step_then below (step2 (asked2 r b x) left i.pa i.value)
 
-  turn_word : (left : ℕ) (i : Item) (rest : List Item) (w : WordNeed) (k : Item → Ask Need Item (End Leaf2)) (below : ℕ
-      → Ask Need Item (End Leaf2)) (below' : ℕ → Ask Need Item (End Leaf2)) (m : ℕ) →
-      ((next : ℕ) → IsOn r (below next) rest (ask (word w) k) → IsOn r (below' next) rest (From p w.left w.table) × (length rest + 1 + w.left ≡ m)) → Turn2 r left i →
-      IsOn r (One false below left i) rest (ask (word w) k) → IsOn r (One p below' left i) rest (From p w.left w.table) × (length rest + 1 + w.left ≡ m)
+  turn_word : (left : ℕ) (i : Item) (rest : List Item) (w : WordNeed) (k : Item → Ask Need Item (End Leaf2))
+      (below below' : ℕ → Ask Need Item (End Leaf2)) (m : ℕ)
+      → ((next : ℕ) → IsOn r (below next) rest (ask (word w) k)
+      → IsOn r (below' next) rest (From p w.left w.table) × (length rest + 1 + w.left ≡ m))
+      → Turn2 r left i → IsOn r (One false below left i) rest (ask (word w) k)
+      → IsOn r (One p below' left i) rest (From p w.left w.table) × (length rest + 1 + w.left ≡ m)
   turn_word left i rest w k below below' m rec (table next a d) h = rw (d p x) (rec next (rw (d false x) at h))
   turn_word left i rest w k below below' m rec (leaf f n d) h = absurd
       (done_ask (reaches (Rattle.walk_spec.specs.Stage2.leaf2_of (asked2 r false x) left i.pa f)) rest (word w) k (rw (d false x) at h))

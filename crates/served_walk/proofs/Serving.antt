@@ -27,12 +27,8 @@ serve_is sup (i ∷ items) (ask n k) = ap (λ (r : Reply). record { items = i �
 module _ {A B : Type 0} where
   push_stop : (i : Item) (rows : List Row) (items : List Item) (by : List Row) (s : StopAt A) (f : A → List Item → ReplyAt B)
       → push_at i rows (then_stop items by s f) ≡ then_stop (i ∷ items) (rows ++ by) s f
-  push_stop i rows items by (fed a left) f = ap (λ l. record {
-    items = i ∷ items
-        ++ (f a left).items;
-    stop = (f a left).stop;
-    by = l;
-  }) (sym (append_assoc rows by (f a left).by))
+  push_stop i rows items by (fed a left) f =
+      ap (λ l. record { items = i ∷ items ++ (f a left).items; stop = (f a left).stop; by = l }) (sym (append_assoc rows by (f a left).by))
   push_stop i rows items by (breaks h) f = refl
 
   push_then : (i : Item) (rows : List Row) (r : ReplyAt A) (f : A → List Item → ReplyAt B) → push_at i rows (then_at r f) ≡ then_at (push_at i rows r) f
