@@ -1,4 +1,4 @@
-//! Tests of runs: invalidations, caches of rows, the trace language, a core, the machine, and the report of a run.
+//! Tests of runs: invalidations, the trace language, a core, the machine, and the report of a run.
 #![tactic(auto)]
 
 #[cfg(test)]
@@ -7,8 +7,6 @@ mod of_cpu_model;
 mod of_machine;
 #[cfg(test)]
 mod of_report_text;
-#[cfg(test)]
-mod of_tagged_tlb;
 #[cfg(test)]
 mod of_tlbi_ops;
 #[cfg(test)]

@@ -7,7 +7,7 @@ ghost use Rattle.tagged_tlb.specs.declared.row.Kind as declared_kind;
 ghost use Rattle.tagged_tlb.specs.Shapes.{shape, shape_of};
 ghost use Rattle.tagged_tlb.specs.Rows.{matching, deepest};
 ghost use Rattle.tagged_tlb.specs.Sets.{Cache, added, to_end};
-ghost use Rattle.tagged_tlb.specs.Found.{found_rows, slot_row, AreWithin, MayBeWithin};
+ghost use Rattle.tagged_tlb.specs.Found.{found_rows, slot_row, AreWithin, IsWithin, MayBeWithin};
 ghost use Rattle.tagged_tlb.specs.Tied.{IsTied, IsAdded, IsAt, AreToldApart, AreSmall, row_at, is_sought};
 ghost use Rattle.tagged_tlb.specs.Classes;
 ghost use Rattle.tagged_tlb.specs.Classes.{AreMarked, AreEmpty};
@@ -178,8 +178,7 @@ impl<const SETS: usize, const WAYS: usize> Tlb<SETS, WAYS> {
 
     /// The row at a place of a set goes last.
     pub fn touch(&mut self, slot: Slot)
-        requires set { slot.set < SETS }
-        requires way { slot.way < length (get_or self.old slot.set []) }
+        requires { IsWithin self.old slot }
         ensures { (d : declared_row.Row) → (kind : declared_kind.Kind) → (live : List declared_row.Row) → AreToldApart live → IsTied kind SETS live self.old →
             IsTied kind SETS (to_end live (slot_row d self.old slot)) self.new }
     {
@@ -209,8 +208,7 @@ impl<const SETS: usize, const WAYS: usize> Tlb<SETS, WAYS> {
 
     /// The trail of the row at a place of a set.
     pub fn trail(&self, slot: Slot) -> &[Item]
-        requires set { slot.set < SETS }
-        requires way { slot.way < length (get_or self.now slot.set []) }
+        requires { IsWithin self.now slot }
         ensures { (d : declared_row.Row) → result.now ≡ (slot_row d self.now slot).trail }
     {
         self.sets[slot.set].trail(slot.way)
