@@ -8,6 +8,8 @@ mod of_machine;
 #[cfg(test)]
 mod of_report_text;
 #[cfg(test)]
+mod of_tagged_tlb;
+#[cfg(test)]
 mod of_tlbi_ops;
 #[cfg(test)]
 mod of_trace_lang;
