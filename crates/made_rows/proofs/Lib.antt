@@ -1,0 +1,3 @@
+pub mod Steady
+pub mod MetAre
+pub mod Pieces

@@ -1,0 +1,2 @@
+//! The rows that a step makes, told from its trail.
+#![tactic(auto)]
