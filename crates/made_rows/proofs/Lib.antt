@@ -1,3 +1,4 @@
 pub mod Steady
 pub mod MetAre
 pub mod Pieces
+pub mod Classes

@@ -1,2 +1,4 @@
 //! The rows that a step makes, told from its trail.
 #![tactic(auto)]
+
+mod word;
