@@ -1,5 +1,9 @@
 pub use Rattle.sysregs.specs.Registers
 pub use Rattle.table_reads.specs.Numbers
 pub use Rattle.walk_spec.specs.Needs
+pub use Rattle.walk_spec.specs.Stage1
+pub use Rattle.machine_spec.specs.Made
+pub use Rattle.machine_spec.specs.Marks
 pub mod Met
 pub mod Words
+pub mod NewRows

@@ -4,8 +4,9 @@ ghost use Rattle.geometry.specs.Tables.{most_left};
 ghost use Rattle.sysregs.specs.Registers.{granule_of};
 ghost use Rattle.sysregs.specs.Sides.{tg_of};
 ghost use Rattle.fault_codes.specs.declared.fault.Stage.TheVariants.{S1, S2};
-ghost use Rattle.table_reads.specs.Numbers.{AreSound};
-ghost use Rattle.walk_spec.specs.Needs.{Regime};
+ghost use Rattle.sysregs.specs.declared.regs.Side.{Side};
+ghost use Rattle.table_reads.specs.Numbers.{AreSound, sizes1, sizes2};
+ghost use Rattle.walk_spec.specs.Needs.{regime_of};
 ghost use Rattle.made_rows.specs.Words.{word_at};
 
 use descriptors::{Kind1, Kind2, decode1, decode2};
@@ -40,10 +41,11 @@ fn word1_at<const G: u32, const LEFT: u32>(
     item: &Item,
 ) -> Word
     requires granule { G ≡ granule_of (tg_of config.now side) }
+    requires sizes { sizes.now ≡ sizes1 config.now side }
     requires same_granule { sizes.now.granule ≡ G }
     requires sound { AreSound sizes.now }
     requires left { LEFT ≤ most_left }
-    ensures value { (r : Regime) → r.config ≡ config.now → r.side ≡ side → r.stage1 ≡ sizes.now → result ≡ word_at r S1 LEFT item.now }
+    ensures value { result ≡ word_at (regime_of config.now side) S1 LEFT item.now }
     ensures small { result.class ≤ 55 }
 {
     let entry = entry_class::<G, LEFT>();
@@ -74,10 +76,11 @@ fn word1_at<const G: u32, const LEFT: u32>(
 #[tactic(auto, using(crate::proofs::Classes::entry_most, crate::proofs::Classes::leaf_most))]
 fn word2_at<const G: u32, const LEFT: u32>(config: &Config, sizes: &Sizes, item: &Item) -> Word
     requires granule { G ≡ granule_of config.now.tg2 }
+    requires sizes { sizes.now ≡ sizes2 config.now }
     requires same_granule { sizes.now.granule ≡ G }
     requires sound { AreSound sizes.now }
     requires left { LEFT ≤ most_left }
-    ensures value { (r : Regime) → r.config ≡ config.now → r.stage2 ≡ sizes.now → result ≡ word_at r S2 LEFT item.now }
+    ensures value { (s : Side) → result ≡ word_at (regime_of config.now s) S2 LEFT item.now }
     ensures small { result.class ≤ 55 }
 {
     let entry = entry_class::<G, LEFT>();
@@ -115,10 +118,11 @@ fn word1_by<const G: u32>(
     item: &Item,
 ) -> Word
     requires granule { G ≡ granule_of (tg_of config.now side) }
+    requires sizes { sizes.now ≡ sizes1 config.now side }
     requires same_granule { sizes.now.granule ≡ G }
     requires sound { AreSound sizes.now }
     requires left { left ≤ most_left }
-    ensures value { (r : Regime) → r.config ≡ config.now → r.side ≡ side → r.stage1 ≡ sizes.now → result ≡ word_at r S1 left item.now }
+    ensures value { result ≡ word_at (regime_of config.now side) S1 left item.now }
     ensures small { result.class ≤ 55 }
 {
     case_table!(level left; word1_at::<G>(config, side, sizes, item))
@@ -127,21 +131,23 @@ fn word1_by<const G: u32>(
 /// A word of stage 2, by its level.
 fn word2_by<const G: u32>(left: u32, config: &Config, sizes: &Sizes, item: &Item) -> Word
     requires granule { G ≡ granule_of config.now.tg2 }
+    requires sizes { sizes.now ≡ sizes2 config.now }
     requires same_granule { sizes.now.granule ≡ G }
     requires sound { AreSound sizes.now }
     requires left { left ≤ most_left }
-    ensures value { (r : Regime) → r.config ≡ config.now → r.stage2 ≡ sizes.now → result ≡ word_at r S2 left item.now }
+    ensures value { (s : Side) → result ≡ word_at (regime_of config.now s) S2 left item.now }
     ensures small { result.class ≤ 55 }
 {
     case_table!(level left; word2_at::<G>(config, sizes, item))
 }
 
 /// What a word of stage 1 is, which was read with so many levels left in the tables of a side.
+#[tactic(auto, unfolding(table_reads::specs::Numbers::sizes1))]
 pub(crate) fn word1(config: &Config, side: Side, sizes: &Sizes, left: u32, item: &Item) -> Word
-    requires granule { sizes.now.granule ≡ granule_of (tg_of config.now side) }
+    requires sizes { sizes.now ≡ sizes1 config.now side }
     requires sound { AreSound sizes.now }
     requires left { left ≤ most_left }
-    ensures value { (r : Regime) → r.config ≡ config.now → r.side ≡ side → r.stage1 ≡ sizes.now → result ≡ word_at r S1 left item.now }
+    ensures value { result ≡ word_at (regime_of config.now side) S1 left item.now }
     ensures small { result.class ≤ 55 }
 {
     let tg = config.tg(side);
@@ -149,11 +155,12 @@ pub(crate) fn word1(config: &Config, side: Side, sizes: &Sizes, left: u32, item:
 }
 
 /// What a word of stage 2 is, which was read with so many levels left.
+#[tactic(auto, unfolding(table_reads::specs::Numbers::sizes2))]
 pub(crate) fn word2(config: &Config, sizes: &Sizes, left: u32, item: &Item) -> Word
-    requires granule { sizes.now.granule ≡ granule_of config.now.tg2 }
+    requires sizes { sizes.now ≡ sizes2 config.now }
     requires sound { AreSound sizes.now }
     requires left { left ≤ most_left }
-    ensures value { (r : Regime) → r.config ≡ config.now → r.stage2 ≡ sizes.now → result ≡ word_at r S2 left item.now }
+    ensures value { (s : Side) → result ≡ word_at (regime_of config.now s) S2 left item.now }
     ensures small { result.class ≤ 55 }
 {
     case_table!(granule config.tg2; word2_by(left, config, sizes, item))
