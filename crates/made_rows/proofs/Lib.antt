@@ -2,3 +2,4 @@ pub mod Steady
 pub mod MetAre
 pub mod Pieces
 pub mod Classes
+pub mod Passing

@@ -32,6 +32,7 @@ use Rattle.walk_spec.specs.BothStages.{Landing, landed, piece, smaller, judged2,
 use Rattle.machine_spec.specs.Marks.{Mark, mark, marks, is_first}
 use Rattle.machine_spec.specs.Made.{last_first}
 use Rattle.machine_laws.proofs.Trees.{IsOn}
+use Rattle.made_rows.specs.Pieces.{after1, after2, IsPiece}
 
 -- THE CLASS OF A LEAF IS THAT OF ITS WORD'S REGION
 
@@ -86,20 +87,6 @@ unfolding step1
 reached1 q e pa v l h = reached1_by q e pa (means1_of q.regime.config q.regime.side e.left v) l h
 
 -- WHERE A WALK STANDS
-
--- the last item of stage 1
-abbrev pub after1 : (last : Option Mark) (mark : Mark) → Option Mark
-after1 o m = cond (is_first m) (Some m) o
-
--- the class of the last word of stage 2 behind it
-abbrev pub after2 : (class : Option ℕ) (mark : Mark) → Option ℕ
-after2 o m = cond (is_first m) None (cond m.base None (Some m.region.class))
-
--- the class of the piece of both leaves
-abbrev pub IsPiece : (last : Option Mark) (class2 : Option ℕ) (class : ℕ) → Type 0
-IsPiece None k c = Unit {0}
-IsPiece (Some m) None c = c ≡ m.region.class
-IsPiece (Some m) (Some k) c = c ≡ smaller m.region.class k
 
 module _ (r : Regime) where
   -- at each end of a walk this holds

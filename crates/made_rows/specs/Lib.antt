@@ -4,6 +4,8 @@ pub use Rattle.walk_spec.specs.Needs
 pub use Rattle.walk_spec.specs.Stage1
 pub use Rattle.machine_spec.specs.Made
 pub use Rattle.machine_spec.specs.Marks
+pub use Rattle.served_walk.specs.Spots
 pub mod Met
+pub mod Pieces
 pub mod Words
 pub mod NewRows

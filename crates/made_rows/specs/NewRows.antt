@@ -1,5 +1,5 @@
 -- The rows that a step makes, as code tells them: with places in the trail of the step.
-use Rattle.std.specs.Prelude.{◌≡◌, ℕ, ◌*◌, ◌/◌, ◌^◌, ◌≤◌, Bool, true, false, ◌&&◌, List, [], ◌∷◌, take, drop, map, Option, Some, None, fold}
+use Rattle.std.specs.Prelude.{◌≡◌, ℕ, ◌+◌, ◌/◌, ◌^◌, ◌≤◌, Bool, true, false, ◌&&◌, List, [], ◌∷◌, take, drop, map, Option, Some, None, if◌then◌else◌}
 use Rattle.geometry.specs.Tables.{most_left, level_of}
 use Rattle.sysregs.specs.declared.regs.Regs.{Regs}
 use Rattle.sysregs.specs.Registers.{config_of}
@@ -18,9 +18,14 @@ use Rattle.tagged_tlb.specs.declared.row.Kind.{Kind}
 use Rattle.tagged_tlb.specs.declared.row.Kind.TheVariants.{Leaf1, Table1, Leaf2, Table2}
 use Rattle.tagged_tlb.specs.declared.row.Row.{Row}
 use Rattle.machine_spec.specs.Marks.{Mark, is_leaf1, is_global, tag_by}
-use Rattle.machine_spec.specs.Made.{Maker, key_for, made_in, is_read_now}
+use Rattle.walk_spec.specs.Stage1.{untagged}
+use Rattle.machine_spec.specs.Made.{Maker, key_for, made_in, is_read_now, rows_by}
+use Rattle.served_walk.specs.Spots.{start_with}
 use Rattle.made_rows.specs.declared.making.NewRow.{NewRow}
+use Rattle.made_rows.specs.declared.gather.Stand.{Stand}
 use Rattle.made_rows.specs.declared.word.Word.{Word}
+use Rattle.made_rows.specs.Met.{mark_for, open_ipa, later_ipas}
+use Rattle.made_rows.specs.Pieces.{after1, after2}
 use Rattle.made_rows.specs.Words.{means_by}
 
 -- for which access rows are made, under which registers and in which step
@@ -91,3 +96,42 @@ abbrev pub EndsAs : (mapped : Bool) (end : Fed Need (End Landing)) (left : Ask N
 EndsAs b (ended (stops f)) u = b ≡ false
 EndsAs b (ended (reaches l)) u = (b ≡ true) × (u ≡ done (reaches l))
 EndsAs b (lacks n) u = b ≡ false
+
+-- WHILE A TRAIL IS PASSED
+
+-- a row tells the leaf of stage 1 that a mark is of, but for its region and its end
+pub record IsLeafRow (made : MadeFor) (m : Mark) (n : NewRow) : Type 0 where
+  pub new : is_new_leaf (maker_for made) (Some m) ≡ true
+  pub kind : n.kind ≡ Leaf1
+  pub start : n.start ≡ 0
+  pub tag : n.tag ≡ tag_by made.regs m
+  pub global : n.global ≡ is_global m.part
+  pub class : n.region.class ≡ m.region.class
+
+-- the row of the last item of stage 1, where that is a leaf of this step
+abbrev pub IsLeaf : (made : MadeFor) (last : Option Mark) (leaf : Option NewRow) → Type 0
+IsLeaf made o None = is_new_leaf (maker_for made) o ≡ false
+IsLeaf made None (Some n) = ⊥
+IsLeaf made (Some m) (Some n) = IsLeafRow made m n
+
+-- what is known of the last item of stage 1 and of the words behind it
+pub record HasLeaf (made : MadeFor) (last : Option Mark) (class2 : Option ℕ) (s : Stand) : Type 0 where
+  pub leaf : IsLeaf made last s.leaf
+  pub class : is_new_leaf (maker_for made) last ≡ true → s.class2 ≡ class2
+
+-- the rows of an item, where it was read in this step
+abbrev pub rows_now : (maker : Maker) (mark : Mark) (whole chain : List Item) → List Row
+rows_now k m whole chain = if is_read_now k m then rows_by k m whole chain m.stage m.part else []
+
+-- the mark of an item whose chain is for an IPA
+abbrev pub mark_in : (made : MadeFor) (ipa : ℕ) (item : Item) → Mark
+mark_in made x i = mark_for (regime_for made) (untagged made.access.va) x i
+
+-- An item was passed: what stands behind it, and its row. (More than six parameters: what stands before and behind.)
+pub record Passed (made : MadeFor) (ipas : List ℕ) (at : ℕ) (i : Item) (old new : Stand) (row : Option NewRow) : Type 0 where
+  pub ipa : new.ipa ≡ open_ipa old.ipa (drop old.chains ipas) i
+  pub chains : drop new.chains ipas ≡ later_ipas (drop old.chains ipas) i
+  pub start : new.start ≡ start_with old.start at (mark_in made new.ipa i)
+  pub row_is : (trail : List Item) → one_from (maker_for made) trail row
+      ≡ rows_now (maker_for made) (mark_in made new.ipa i) (take (at + 1) trail) (drop new.start (take (at + 1) trail))
+  pub leaf : (o : Option Mark) (k : Option ℕ) → HasLeaf made o k old → HasLeaf made (after1 o (mark_in made new.ipa i)) (after2 k (mark_in made new.ipa i)) new

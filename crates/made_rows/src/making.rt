@@ -1,5 +1,5 @@
 //! One row that a step makes.
-ghost use Rattle.std.specs.Prelude.{◌≡◌, ℕ, ◌≤◌, List, take, drop, IfSome, Some, None, true};
+ghost use Rattle.std.specs.Prelude.{◌≡◌, ◌==◌, ℕ, ◌≤◌, List, take, drop, IfSome, Some, None, true};
 ghost use Rattle.geometry.specs.Tables.{most_left, level_of};
 ghost use Rattle.sysregs.specs.declared.regs.Side as declared_side;
 ghost use Rattle.fault_codes.specs.declared.fault.Stage.TheVariants.{S1, S2};
@@ -46,7 +46,7 @@ pub(crate) struct Making<'a> {
     access: &'a Access,
     stage1: Option<Sizes>,
     stage2: Option<Sizes>,
-    pub step: u32,
+    step: u32,
     side: Side,
 }
 
@@ -147,6 +147,13 @@ impl<'a> Making<'a> {
         self.access.va % (1 << 56)
     }
 
+    /// Whether an item was read in this step.
+    pub fn is_now(&self, item: &Item) -> bool
+        ensures { result ≡ (item.now.moment == self.now.step) }
+    {
+        item.moment == self.step
+    }
+
     /// What the word of an item is.
     pub fn word(&self, item: &Item) -> Option<Word>
         ensures is { (left : ℕ) → left ≤ most_left → item.now.level ≡ level_of left → is_sized (regime_for self.now) item.now.stage ≡ true →
@@ -202,6 +209,7 @@ impl<'a> Making<'a> {
             is_sized (regime_for self.now) (stage_by kind) ≡ true →
             row_from (maker_for self.now) trail result ≡ row_of (maker_for self.now) m kind (drop start (take end trail)) }
         ensures class { result.region.class ≡ word.now.class }
+        ensures start { result.start ≡ start }
     {
         let stage = match kind {
             Kind::Leaf1 | Kind::Table1 => Stage::S1,
