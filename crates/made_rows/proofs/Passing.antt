@@ -1,6 +1,6 @@
 -- One item is passed.
 use Rattle.std.proofs.Common.{◌≡◌, ℕ, ◌+◌, ◌≤◌, Bool, true, false, cond, List, [], ◌∷◌, take, drop, refl, sym, ap, ◌∙◌, subst, Option, Some, None}
-use Rattle.std.specs.Prelude.{◌&&◌, ◌==◌}
+use Rattle.std.specs.Prelude.{◌&&◌, ◌==◌, is_some}
 use Rattle.std.proofs.lemmas.Bool.{both_ways}
 use Rattle.std.proofs.lemmas.Option.{same_Some}
 use Rattle.geometry.specs.Tables.{most_left, level_of, left_below}
@@ -239,10 +239,11 @@ module _ (made : MadeFor) (x : ℕ) (i : Item) (w : i.what ≡ AWord) where
     }
 
     -- a word of another moment, where no leaf of stage 1 was read now
-    pub earlier2 : (ipas : List ℕ) (at chains start : ℕ) (class0 : Option ℕ) → is_read_now K M ≡ false →
-        Passed made ipas at i record { ipa = x; chains = chains; start = start; leaf = None; class2 = class0 }
-        record { ipa = x; chains = chains; start = start; leaf = None; class2 = class0 } None
-    earlier2 ipas at chains start class0 n =
+    pub earlier2 : (ipas : List ℕ) (at chains start : ℕ) (leaf0 : Option NewRow) (class0 : Option ℕ) → is_some leaf0 ≡ false → is_read_now K M ≡ false →
+        Passed made ipas at i record { ipa = x; chains = chains; start = start; leaf = leaf0; class2 = class0 }
+        record { ipa = x; chains = chains; start = start; leaf = leaf0; class2 = class0 } None
+    earlier2 ipas at chains start (Some row) class0 h n = absurd cc
+    earlier2 ipas at chains start None class0 h n =
         passed2 ipas at chains start None class0 class0 None (λ trail. sym (rows_as false S2 M.part _ _ n stage2_is refl))
         (λ o l e. absurd (both_ways (is_new_leaf K o) l e))
 
