@@ -3,3 +3,4 @@ pub mod MetAre
 pub mod Pieces
 pub mod Classes
 pub mod Passing
+pub mod PassingAll

@@ -1,5 +1,5 @@
 -- The rows that a step makes, as code tells them: with places in the trail of the step.
-use Rattle.std.specs.Prelude.{◌≡◌, ℕ, ◌+◌, ◌/◌, ◌^◌, ◌≤◌, Bool, true, false, ◌&&◌, List, [], ◌∷◌, take, drop, map, Option, Some, None, if◌then◌else◌}
+use Rattle.std.specs.Prelude.{◌≡◌, ℕ, ◌+◌, ◌/◌, ◌^◌, ◌≤◌, Bool, true, false, ◌&&◌, List, [], ◌∷◌, take, drop, map, fold, Option, Some, None, if◌then◌else◌}
 use Rattle.geometry.specs.Tables.{most_left, level_of}
 use Rattle.sysregs.specs.declared.regs.Regs.{Regs}
 use Rattle.sysregs.specs.Registers.{config_of}
@@ -19,12 +19,12 @@ use Rattle.tagged_tlb.specs.declared.row.Kind.TheVariants.{Leaf1, Table1, Leaf2,
 use Rattle.tagged_tlb.specs.declared.row.Row.{Row}
 use Rattle.machine_spec.specs.Marks.{Mark, is_leaf1, is_global, tag_by}
 use Rattle.walk_spec.specs.Stage1.{untagged}
-use Rattle.machine_spec.specs.Made.{Maker, key_for, made_in, is_read_now, rows_by}
+use Rattle.machine_spec.specs.Made.{Maker, key_for, made_in, is_read_now, rows_by, rows_of}
 use Rattle.served_walk.specs.Spots.{start_with}
 use Rattle.made_rows.specs.declared.making.NewRow.{NewRow}
 use Rattle.made_rows.specs.declared.gather.Stand.{Stand}
 use Rattle.made_rows.specs.declared.word.Word.{Word}
-use Rattle.made_rows.specs.Met.{mark_for, open_ipa, later_ipas}
+use Rattle.made_rows.specs.Met.{mark_for, open_ipa, later_ipas, met}
 use Rattle.made_rows.specs.Pieces.{after1, after2}
 use Rattle.made_rows.specs.Words.{means_by}
 
@@ -135,3 +135,12 @@ pub record Passed (made : MadeFor) (ipas : List ℕ) (at : ℕ) (i : Item) (old 
   pub row_is : (trail : List Item) → one_from (maker_for made) trail row
       ≡ rows_now (maker_for made) (mark_in made new.ipa i) (take (at + 1) trail) (drop new.start (take (at + 1) trail))
   pub leaf : (o : Option Mark) (k : Option ℕ) → HasLeaf made o k old → HasLeaf made (after1 o (mark_in made new.ipa i)) (after2 k (mark_in made new.ipa i)) new
+
+-- the items of a trail with what they are, from the front
+abbrev pub met_in : (made : MadeFor) (ipas : List ℕ) (trail : List Item) → List Mark
+met_in made ipas trail = met (regime_for made) (untagged made.access.va) 0 ipas trail
+
+-- a whole trail was passed
+pub record PassedAll (made : MadeFor) (ipas : List ℕ) (trail : List Item) (rows : List NewRow) (s : Stand) : Type 0 where
+  pub rows_are : rows_from (maker_for made) trail rows ≡ rows_of (maker_for made) [] [] (met_in made ipas trail)
+  pub leaf : HasLeaf made (fold after1 None (met_in made ipas trail)) (fold after2 None (met_in made ipas trail)) s

@@ -7,16 +7,16 @@ use Rattle.made_rows.specs.NewRows.{maker_for, regime_for, is_sized, IsKnown, ma
 use Rattle.made_rows.proofs.Passing
 use Rattle.made_rows.proofs.gather.pass_word1.Goals as goal
 
-pub returns-then-not-is_now : goal.returns-then-not-is_now
-returns-then-not-is_now c =
+pub returns-then-not-is_now-clause-passed : goal.returns-then-not-is_now-clause-passed
+returns-then-not-is_now-clause-passed c =
     let made : MadeFor = c.args.making.now in
     let s : Stand = c.args.stand.now in
     let i : Item = c.args.item.now in
     λ ipas known. Passing.earlier1 made s.ipa i c.requires.what c.requires.stage ipas c.args.at s.chains s.start s.leaf s.class2
     (Passing.now_of made s.ipa i c.requires.what ∙ sym c.is_now.ensures ∙ c.if-not-is_now.true)
 
-pub returns-in-Table : goal.returns-in-Table
-returns-in-Table c =
+pub returns-in-Table-clause-passed : goal.returns-in-Table-clause-passed
+returns-in-Table-clause-passed c =
     let made : MadeFor = c.args.making.now in
     let s : Stand = c.args.stand.now in
     let i : Item = c.args.item.now in
@@ -32,8 +32,8 @@ returns-in-Table c =
     (λ trail. c.row-row.ensures.row (mark_in made s.ipa i) trail
     (subst (TellsMark (regime_for made) (mark_in made s.ipa i) S1 c.in_ok-word.word) (sym c.va.ensures) t) sized))
 
-pub returns-in-Leaf1 : goal.returns-in-Leaf1
-returns-in-Leaf1 c =
+pub returns-in-Leaf1-clause-passed : goal.returns-in-Leaf1-clause-passed
+returns-in-Leaf1-clause-passed c =
     let made : MadeFor = c.args.making.now in
     let s : Stand = c.args.stand.now in
     let i : Item = c.args.item.now in
@@ -48,8 +48,8 @@ returns-in-Leaf1 c =
     (λ trail. c.row-row-in-Leaf1.ensures.row (mark_in made s.ipa i) trail
     (subst (TellsMark (regime_for made) (mark_in made s.ipa i) S1 c.in_ok-word.word) (sym c.va-in-Leaf1.ensures) t) sized) c.row-row-in-Leaf1.ensures.start c.row-row-in-Leaf1.ensures.class
 
-pub returns-in-Nothing : goal.returns-in-Nothing
-returns-in-Nothing c =
+pub returns-in-Nothing-clause-passed : goal.returns-in-Nothing-clause-passed
+returns-in-Nothing-clause-passed c =
     let made : MadeFor = c.args.making.now in
     let s : Stand = c.args.stand.now in
     let i : Item = c.args.item.now in
