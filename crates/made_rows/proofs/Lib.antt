@@ -4,3 +4,4 @@ pub mod Pieces
 pub mod Classes
 pub mod Passing
 pub mod PassingAll
+pub mod Combining

@@ -32,7 +32,7 @@ items_met r va x ipas (i ∷ items) =
     ap (λ j. j ∷ items_of (met r va (open_ipa x ipas i) (later_ipas ipas i) items)) (word_item r i.stage _ i i.what)
     ∙ ap (λ l. i ∷ l) (items_met r va (open_ipa x ipas i) (later_ipas ipas i) items)
 
-rows_more : (k : Maker) (trail : List Item) (rows more : List NewRow) → rows_from k trail (rows ++ more) ≡ rows_from k trail rows ++ rows_from k trail more
+pub rows_more : (k : Maker) (trail : List Item) (rows more : List NewRow) → rows_from k trail (rows ++ more) ≡ rows_from k trail rows ++ rows_from k trail more
 rows_more k trail [] more = refl
 rows_more k trail (r ∷ rows) more = ap (λ l. row_from k trail r ∷ l) (rows_more k trail rows more)
 
@@ -40,7 +40,7 @@ abbrev pub listed : Option NewRow → List NewRow
 listed None = []
 listed (Some r) = r ∷ []
 
-listed_is : (k : Maker) (trail : List Item) (row : Option NewRow) → rows_from k trail (listed row) ≡ one_from k trail row
+pub listed_is : (k : Maker) (trail : List Item) (row : Option NewRow) → rows_from k trail (listed row) ≡ one_from k trail row
 listed_is k trail None = refl
 listed_is k trail (Some r) = refl
 
@@ -98,7 +98,7 @@ module _ (made : MadeFor) (ipas : List ℕ) (trail : List Item) where
         record {
           rows_are =
               ap (λ z. z ++ later) (rows_more K trail rows (listed row) ∙ ap (λ z. rows_from K trail rows ++ z) (listed_is K trail row))
-                  ∙ append_assoc (rows_from K trail rows) (one_from K trail row) later ∙ ap (λ z. rows_from K trail rows ++ z) (sym rows_here) ∙ mid.rows_are;
+              ∙ append_assoc (rows_from K trail rows) (one_from K trail row) later ∙ ap (λ z. rows_from K trail rows ++ z) (sym rows_here) ∙ mid.rows_are;
           known = subst (AreKnown (regime_for made)) (sym next) k.1;
           last = after1 mid.last m;
           class2 = after2 mid.class2 m;
@@ -117,7 +117,7 @@ module _ (made : MadeFor) (ipas : List ℕ) (trail : List Item) where
       record {
         rows_are =
             sym (append-nil (rows_from K trail rows)) ∙ ap (λ ms. rows_from K trail rows ++ rows_at K trail (spots K at s.start ms)) (sym none) ∙ mid.rows_are
-                ∙ rows_placed K [] 0 (met_in made ipas trail) [] trail (omega arith) whole;
+            ∙ rows_placed K [] 0 (met_in made ipas trail) [] trail (omega arith) whole;
         leaf = subst (λ o. HasLeaf made o (fold after2 None (met_in made ipas trail)) s) last (subst (λ k. HasLeaf made mid.last k s) class2 mid.leaf);
       }
 

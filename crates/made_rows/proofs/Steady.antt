@@ -28,11 +28,7 @@ use Rattle.table_reads.specs.Places.{is_too_large}
 use Rattle.fault_codes.specs.declared.fault.Class.TheVariants.{Translation, AddressSize, Permission}
 use Rattle.permissions.specs.Rights.{no_bits}
 use Rattle.made_rows.specs.Met.{address_by}
-
--- the sizes of a stage are in range
-abbrev pub is_sized : (regime : Regime) (stage : Stage) → Bool
-is_sized r S1 = is_sized1 r.config r.side
-is_sized r S2 = is_sized2 r.config
+use Rattle.made_rows.specs.NewRows.{is_sized}
 
 -- a word that a walk may need, for these addresses
 pub record IsSteady (r : Regime) (va x : ℕ) (w : WordNeed) : Type 0 where
@@ -86,7 +82,7 @@ module _ (r : Regime) (va : ℕ) (p : Bool) (x : ℕ) (sized : is_sized r S2 ≡
   steady_from2 (suc left) t l = (
     record { left = l; address = refl; sized = sized },
     λ i. steady_then r va (walk2_from (asked2 r p x) left) (step2 (asked2 r p x) (suc left) i.pa i.value) x
-    (λ t. steady_from2 left t (omega (arith, l))),
+        (λ t. steady_from2 left t (omega (arith, l))),
   )
 
 accepted2 : (c : Config) (x : ℕ) → is_refused2 c x ≡ false → is_sized2 c ≡ true

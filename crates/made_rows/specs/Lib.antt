@@ -2,6 +2,10 @@ pub use Rattle.sysregs.specs.Registers
 pub use Rattle.table_reads.specs.Numbers
 pub use Rattle.walk_spec.specs.Needs
 pub use Rattle.walk_spec.specs.Stage1
+pub use Rattle.walk_spec.specs.BothStages
+pub use Rattle.walk_spec.specs.Ask
+pub use Rattle.walk_spec.specs.Steps
+pub use Rattle.translate.specs.Replayed
 pub use Rattle.machine_spec.specs.Made
 pub use Rattle.machine_spec.specs.Marks
 pub use Rattle.served_walk.specs.Spots

@@ -10,16 +10,16 @@ use Rattle.trails.specs.declared.item.Item.{Item}
 use Rattle.trails.specs.declared.item.What.TheVariants.{Word as AWord}
 use Rattle.trails.specs.declared.outcome.Access.{Access}
 use Rattle.table_reads.specs.Numbers.{is_sized1, is_sized2}
-use Rattle.walk_spec.specs.Ask.{Ask, done, ask, Fed, ended, lacks}
+use Rattle.walk_spec.specs.Ask.{Stands, ends, needs, Fed, ended, lacks}
 use Rattle.walk_spec.specs.Needs.{Need, Regime, regime_of, sizes_of}
 use Rattle.walk_spec.specs.Steps.{End, stops, reaches}
-use Rattle.walk_spec.specs.BothStages.{Landing}
+use Rattle.walk_spec.specs.BothStages.{Landing, walk}
 use Rattle.tagged_tlb.specs.declared.row.Kind.{Kind}
 use Rattle.tagged_tlb.specs.declared.row.Kind.TheVariants.{Leaf1, Table1, Leaf2, Table2}
 use Rattle.tagged_tlb.specs.declared.row.Row.{Row}
-use Rattle.machine_spec.specs.Marks.{Mark, is_leaf1, is_global, tag_by}
+use Rattle.machine_spec.specs.Marks.{Mark, marks, is_leaf1, is_global, tag_by}
 use Rattle.walk_spec.specs.Stage1.{untagged}
-use Rattle.machine_spec.specs.Made.{Maker, key_for, made_in, is_read_now, rows_by, rows_of}
+use Rattle.machine_spec.specs.Made.{Maker, key_for, made_in, is_read_now, rows_by, rows_of, numbered, rows_made}
 use Rattle.served_walk.specs.Spots.{start_with}
 use Rattle.made_rows.specs.declared.making.NewRow.{NewRow}
 use Rattle.made_rows.specs.declared.gather.Stand.{Stand}
@@ -91,11 +91,23 @@ abbrev pub is_new_leaf : (maker : Maker) (last : Option Mark) → Bool
 is_new_leaf k None = false
 is_new_leaf k (Some m) = is_leaf1 m && is_read_now k m
 
--- how a walk ends that came to a translation, or not
-abbrev pub EndsAs : (mapped : Bool) (end : Fed Need (End Landing)) (left : Ask Need Item (End Landing)) → Type 0
-EndsAs b (ended (stops f)) u = b ≡ false
-EndsAs b (ended (reaches l)) u = (b ≡ true) × (u ≡ done (reaches l))
-EndsAs b (lacks n) u = b ≡ false
+-- a walk came to a translation
+abbrev pub is_mapped : (end : Fed Need (End Landing)) → Bool
+is_mapped (ended (stops f)) = false
+is_mapped (ended (reaches l)) = true
+is_mapped (lacks n) = false
+
+-- the walk stands on a trail up to this end, and no item is left over
+abbrev pub StandsTo : (stands : Stands Need Item (End Landing)) (end : Fed Need (End Landing)) → Type 0
+StandsTo s (ended e) = s ≡ ends e []
+StandsTo s (lacks n) = s ≡ needs n
+
+-- these are the rows that a step makes whose access ended so on a trail
+abbrev pub AreMade : (regs : Regs) (step : ℕ) (access : Access) (trail : List Item) (end : Fed Need (End Landing)) (rows : List NewRow) → Type 0
+AreMade regs step a trail end rows =
+    let k : Maker = record { regs = regs; step = step } in
+    let c = config_of regs in
+    numbered 0 (rows_from k trail rows) ≡ rows_made k (untagged a.va) trail (marks (regime_of c (side_of a.va)) (walk c true a) trail) end
 
 -- WHILE A TRAIL IS PASSED
 

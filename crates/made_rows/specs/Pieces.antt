@@ -16,3 +16,8 @@ abbrev pub IsPiece : (last : Option Mark) (class2 : Option ℕ) (class : ℕ) �
 IsPiece None k c = Unit {0}
 IsPiece (Some m) None c = c ≡ m.region.class
 IsPiece (Some m) (Some k) c = c ≡ smaller m.region.class k
+
+-- the smaller of two classes, of which the second may lack
+abbrev pub smaller_of : (class : ℕ) (other : Option ℕ) → ℕ
+smaller_of c None = c
+smaller_of c (Some k) = smaller c k

@@ -1,15 +1,29 @@
 //! All rows that a step makes, in the order of its trail.
-ghost use Rattle.std.specs.Prelude.{◌≡◌, ℕ, ◌+◌, ◌<◌, ◌≤◌, ◌^◌, List, [], length, Some, None, if◌then◌else◌, vec_len, vec_capacity};
+ghost use Rattle.std.specs.Prelude.{◌≡◌, ℕ, ◌+◌, ◌/◌, ◌<◌, ◌≤◌, ◌^◌, List, Option, true, [], length, Some, None, if◌then◌else◌, vec_len, vec_capacity};
 ghost use Rattle.fault_codes.specs.declared.fault.Stage.TheVariants.{S1, S2};
+ghost use Rattle.sysregs.specs.Registers.{config_of};
 ghost use Rattle.trails.specs.Lengths.{most_items};
+ghost use Rattle.trails.specs.declared.item.Item as declared_item;
 ghost use Rattle.trails.specs.declared.item.What.TheVariants.{Base as ABase, Word as AWord};
-ghost use Rattle.made_rows.specs.NewRows.{MadeFor, regime_for, IsKnown, AreKnown, Passed, PassedAll};
+ghost use Rattle.walk_spec.specs.Ask.{Fed};
+ghost use Rattle.walk_spec.specs.Needs.{Need};
+ghost use Rattle.walk_spec.specs.Steps.{End};
+ghost use Rattle.walk_spec.specs.Stage1.{untagged};
+ghost use Rattle.walk_spec.specs.BothStages.{Landing, walk};
+ghost use Rattle.translate.specs.Replayed.{stands_whole};
+ghost use Rattle.machine_spec.specs.Marks.{Mark};
+ghost use Rattle.machine_spec.specs.Made.{leaf_rows};
+ghost use Rattle.made_rows.specs.Met.{chain_ipas};
+ghost use Rattle.made_rows.specs.Pieces.{IsPiece, smaller_of};
+ghost use Rattle.made_rows.specs.NewRows.{MadeFor, maker_for, regime_for, one_from, IsKnown, AreKnown, HasLeaf, Passed, PassedAll, is_mapped, StandsTo, AreMade};
 
 use crate::making::{Making, NewRow};
 use crate::word::Means;
 use fault_codes::Stage;
 use tagged_tlb::Kind;
 use trails::{Access, Item, What};
+use translate::InForce;
+use walk_spec::Region;
 
 /// What is known between two items of a trail: the IPA of the chain of stage 2 that stands open, how many chains were begun,
 /// and where the open one begins in the trail; the row of the last item of stage 1, where that is a leaf that was read now, and
@@ -120,13 +134,7 @@ fn pass_word2(making: &Making, stand: &mut Stand, at: usize, item: &Item) -> Opt
 }
 
 /// Passes an item of a trail. Answers its row.
-fn pass(
-    making: &Making,
-    stand: &mut Stand,
-    ipas: &[u64],
-    at: usize,
-    item: &Item,
-) -> Option<NewRow>
+fn pass(making: &Making, stand: &mut Stand, ipas: &[u64], at: usize, item: &Item) -> Option<NewRow>
     requires place { at < 2 ^ 32 }
     requires chains { stand.old.chains < 2 ^ 32 }
     ensures passed { IsKnown (regime_for making.now) item.now → Passed making.now ipas.now at item.now stand.old stand.new result }
@@ -177,4 +185,59 @@ fn pass_all(making: &Making, trail: &[Item], ipas: &[u64], rows: &mut Vec<NewRow
         }
     }
     stand
+}
+
+/// The region of a class around an address.
+fn region_around(address: u64, class: u32) -> Region
+    ensures { result ≡ record { class = class; start = address / 2 ^ class } }
+{
+    let start = if class < 64 { address >> class } else { 0 };
+    Region { class, start }
+}
+
+/// The smaller of two classes, of which the second may lack.
+fn smaller(class: u32, other: Option<u32>) -> u32
+    ensures { result ≡ (smaller_of class other) }
+{
+    match other {
+        Some(other) if other < class => other,
+        _ => class,
+    }
+}
+
+/// The row of a stage 1 leaf that was read now with the stage 2 of its output, behind a whole trail that ends in a translation.
+fn leaf_row(making: &Making, stand: &Stand, end: usize) -> Option<NewRow>
+    ensures { (o : Option Mark) → (k : Option ℕ) → (class : ℕ) → (trail : List declared_item.Item) → HasLeaf making.now o k stand.now → IsPiece o k class →
+        end ≡ length trail → one_from (maker_for making.now) trail result ≡ leaf_rows (maker_for making.now) class (untagged making.now.access.va) trail o }
+{
+    let leaf = stand.leaf?;
+    let class = smaller(leaf.region.class, stand.class2);
+    Some(NewRow {
+        region: region_around(making.va(), class),
+        end,
+        ..leaf
+    })
+}
+
+/// The rows that a step makes whose access was walked under registers in force: into an empty list with room for them, in the
+/// order in which they are made. The trail stands on the walk of the access, and the IPAs are those of its chains.
+pub fn rows_made(force: &InForce, walked: &Walked, step: u32, rows: &mut Vec<NewRow>)
+    requires most { length walked.now.trail.now ≤ most_items }
+    requires empty { rows.old.items ≡ [] }
+    requires room { most_items < vec_capacity rows.old }
+    ensures made { (end : Fed Need (End Landing)) → StandsTo (stands_whole (config_of force.now) walked.now.access.now walked.now.trail.now) end →
+        walked.now.is_mapped ≡ is_mapped end →
+        walked.now.ipas.now ≡ chain_ipas (walk (config_of force.now) true walked.now.access.now) walked.now.trail.now →
+        AreMade force.now step walked.now.access.now walked.now.trail.now end rows.new.items }
+    ensures most { vec_len rows.new ≤ length walked.now.trail.now + 1 }
+    ensures capacity { vec_capacity rows.new ≡ vec_capacity rows.old }
+{
+    let making = Making::of(force, walked.access, step);
+    let stand = pass_all(&making, walked.trail, walked.ipas, rows);
+    if !walked.is_mapped {
+        return;
+    }
+    if let Some(row) = leaf_row(&making, &stand, walked.trail.len()) {
+        rows.push_reserved(row);
+    }
 }

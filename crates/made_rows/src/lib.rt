@@ -4,3 +4,7 @@
 mod gather;
 mod making;
 mod word;
+
+pub use gather::{Stand, Walked, rows_made};
+pub use making::NewRow;
+pub use word::{Means, Word};

@@ -20,8 +20,8 @@ use fault_codes::Stage;
 use stage1_walk::sized1;
 use stage2_walk::sized2;
 use std::marker::Model;
-use sysregs::{Config, Side};
 use sysregs::fields::{asid, vmid};
+use sysregs::{Config, Side};
 use table_reads::Sizes;
 use tagged_tlb::Kind;
 use tlbi_ops::Tag;
@@ -41,6 +41,7 @@ pub struct NewRow {
 }
 
 /// Under which registers, for which access and in which step rows are made.
+#[derive(Drop)]
 pub(crate) struct Making<'a> {
     force: &'a InForce,
     access: &'a Access,
