@@ -1,6 +1,8 @@
 -- The rows of a whole step.
 use Rattle.std.proofs.Common.{◌≡◌, ℕ, ◌<◌, Bool, true, false, cond, List, [], ◌∷◌, ◌++◌, append-nil, length, take, drop, fold, refl, sym, ap, ◌∙◌, subst, Option, Some, None, arith}
-use Rattle.std.specs.Prelude.{◌&&◌, ◌/◌, ◌^◌, option_map}
+use Rattle.std.specs.Prelude.{◌&&◌, ◌/◌, ◌%◌, ◌^◌, ◌≤◌, option_map}
+use Rattle.geometry.specs.Tables.{most_left, level_of}
+use Rattle.kept_items.proofs.StartTables.{base1_sound}
 use Rattle.std.specs.Option.{option_or}
 use Rattle.std.proofs.lemmas.Bool.{both_ways, and_parts}
 use Rattle.std.proofs.lemmas.List.{take_all}
@@ -16,7 +18,7 @@ use Rattle.trails.specs.declared.outcome.Access.{Access}
 use Rattle.tlbi_ops.specs.Covers.{is_stage1}
 use Rattle.walk_spec.specs.declared.region.Region.{Region}
 use Rattle.walk_spec.specs.Ask.{Ask, done, ask, Fed, ended, lacks}
-use Rattle.walk_spec.specs.Needs.{Regime, regime_of, Need, stage1_base, stage2_base, word, fits}
+use Rattle.walk_spec.specs.Needs.{Regime, regime_of, sizes_of, Need, stage1_base, stage2_base, word, fits}
 use Rattle.walk_spec.specs.Steps.{End, stops, reaches}
 use Rattle.walk_spec.specs.Stage1.{untagged}
 use Rattle.walk_spec.specs.BothStages.{Landing, asked, walk}
@@ -30,9 +32,10 @@ use Rattle.machine_laws.proofs.MarksOf.{fits_word_parts, fits_base1_parts, fits_
 use Rattle.served_walk.proofs.Ties.{ends_on, needs_on}
 use Rattle.made_rows.specs.declared.gather.Stand.{Stand}
 use Rattle.made_rows.specs.declared.making.NewRow.{NewRow}
-use Rattle.made_rows.specs.Met.{chain_ipas, met}
+use Rattle.made_rows.specs.Met.{met}
+use Rattle.made_rows.specs.Sized.{is_sized}
 use Rattle.made_rows.specs.Pieces.{after1, after2, IsPiece, smaller_of}
-use Rattle.made_rows.specs.NewRows.{MadeFor, maker_for, regime_for, row_from, rows_from, one_from, IsKnown, AreKnown, IsLeaf, IsLeafRow, HasLeaf, is_new_leaf, is_sized, met_in, is_mapped, StandsTo, AreMade}
+use Rattle.made_rows.specs.NewRows.{MadeFor, maker_for, regime_for, row_from, rows_from, one_from, IsKnown, AreKnown, IsLeaf, IsLeafRow, HasLeaf, is_new_leaf, met_in, is_mapped, StandsTo, AreMade}
 use Rattle.made_rows.proofs.Steady.{AreSteady, steady_walk}
 use Rattle.made_rows.proofs.MetAre.{met_are}
 use Rattle.made_rows.proofs.PassingAll.{rows_more, listed, listed_is}
@@ -81,27 +84,44 @@ module _ (made : MadeFor) (trail : List Item) where
 
 -- WORDS OF A TRAIL
 
-known_base : (r : Regime) (i : Item) → i.what ≡ Base → IsKnown r i
-known_base r i b = λ w. (let q : Base ≡ Word = sym b ∙ w in absurd cc)
+known_base : (r : Regime) (i : Item) → i.what ≡ Base → (i.stage ≡ S1 → (i.value < 2 ^ 52) × (i.value % 8 ≡ 0) × (is_sized r S1 ≡ true)) → IsKnown r i
+known_base r i b h = record { word = λ w. (let q : Base ≡ Word = sym b ∙ w in absurd cc); base = λ _. h }
 
-steady_known : {A : Type 0} (r : Regime) (va x : ℕ) (t u : Ask Need Item A) (items : List Item) → AreSteady r va x t → IsOn r t items u → AreKnown r items
-steady_known r va x t u [] s h = tt
-steady_known r va x (done a) u (i ∷ items) s h = absurd h
-steady_known r va x (ask stage1_base k) u (i ∷ items) s h =
-    (known_base r i (fits_base1_parts r i h.0).0, steady_known r va x (k i) u items (s i) h.1)
-steady_known r va x (ask (stage2_base y) k) u (i ∷ items) s h =
-    (known_base r i (fits_base2_parts r y i h.0).0, steady_known r va y (k i) u items (s i) h.1)
-steady_known r va x (ask (word w) k) u (i ∷ items) s h =
+known_base2 : (r : Regime) (i : Item) → i.what ≡ Base → i.stage ≡ S2 → IsKnown r i
+known_base2 r i b t = known_base r i b (λ s. (let q : S2 ≡ S1 = sym t ∙ s in absurd cc))
+
+known_word : (r : Regime) (i : Item) → i.what ≡ Word
+    → (left : ℕ) × (left ≤ most_left) × (left ≤ (sizes_of r i.stage).start) × (i.level ≡ level_of left) × (is_sized r i.stage ≡ true) → IsKnown r i
+known_word r i w h = record { word = λ _. h; base = λ b. (let q : Word ≡ Base = sym w ∙ b in absurd cc) }
+
+steady_known : {A : Type 0} (P : A → ℕ → Type 0) (r : Regime) (va x g : ℕ) (t u : Ask Need Item A) (items : List Item) → AreSteady P r va x g t
+    → IsOn r t items u → AreKnown r items
+steady_known P r va x g t u [] s h = tt
+steady_known P r va x g (done a) u (i ∷ items) s h = absurd h
+steady_known P r va x g (ask stage1_base k) u (i ∷ items) s h =
+    let sound = base1_sound r i (sym h.0) in (
+      known_base r i (fits_base1_parts r i h.0).0 (λ _. (sound.0, sound.1, s.0)),
+      steady_known P r va x _ (k i) u items (s.1 i h.0) h.1,
+    )
+steady_known P r va x g (ask (stage2_base y) k) u (i ∷ items) s h =
+    let p = fits_base2_parts r y i h.0 in (known_base2 r i p.0 p.1, steady_known P r va y g (k i) u items (s.1 i) h.1)
+steady_known P r va x g (ask (word w) k) u (i ∷ items) s h =
     let p = fits_word_parts r w i h.0 in (
-      λ _. (w.left, s.0.left, p.level, subst (λ st. is_sized r st ≡ true) (sym p.stage) s.0.sized),
-      steady_known r va x (k i) u items (s.1 i) h.1,
+      known_word r i p.what (
+        w.left,
+        s.0.left,
+        subst (λ st. w.left ≤ (sizes_of r st).start) (sym p.stage) s.0.within,
+        p.level,
+        subst (λ st. is_sized r st ≡ true) (sym p.stage) s.0.sized,
+      ),
+      steady_known P r va x _ (k i) u items (s.1 i h.0) h.1,
     )
 
 option_or_none : (o : Option Mark) → option_or o None ≡ o
 option_or_none None = refl
 option_or_none (Some m) = refl
 
-module _ (regs : Regs) (step : ℕ) (a : Access) (trail : List Item) (ipas : List ℕ) where
+module _ (regs : Regs) (step : ℕ) (a : Access) (trail : List Item) where
   abbrev Made : MadeFor
   Made = record { regs = regs; access = a; step = step }
 
@@ -112,24 +132,24 @@ module _ (regs : Regs) (step : ℕ) (a : Access) (trail : List Item) (ipas : Lis
   W = walk (config_of regs) true a
 
   abbrev Met : List Mark
-  Met = met_in Made ipas trail
+  Met = met_in Made trail
 
   stands_on : (end : Fed Need (End Landing)) → StandsTo (stands_whole (config_of regs) a trail) end → (u : Ask Need Item (End Landing)) × IsOn R W trail u
   stands_on (ended e) h = (done e, ends_on R W trail e h)
   stands_on (lacks n) h = (let d = needs_on R W trail n h in (ask n d.0, d.1))
 
-  steady : AreSteady R (untagged a.va) 0 W
+  abbrev Any : End Landing → ℕ → Type 0
+  Any e g = Unit {0}
+
+  steady : AreSteady Any R (untagged a.va) 0 (a.va % 2 ^ 52) W
   steady = steady_walk (asked (config_of regs) true a) (of_fields (config_of regs) (side_of a.va)) refl 0
 
-  module _ (end : Fed Need (End Landing)) (h : StandsTo (stands_whole (config_of regs) a trail) end) (is : ipas ≡ chain_ipas W trail) where
+  module _ (end : Fed Need (End Landing)) (h : StandsTo (stands_whole (config_of regs) a trail) end) where
     pub trail_known : AreKnown R trail
-    trail_known = (let d = stands_on end h in steady_known R (untagged a.va) 0 W d.0 trail steady d.1)
+    trail_known = (let d = stands_on end h in steady_known Any R (untagged a.va) 0 (a.va % 2 ^ 52) W d.0 trail steady d.1)
 
     met_is : marks R W trail ≡ Met
-    met_is =
-        let d = stands_on end h in
-        met_are R (untagged a.va) 0 W d.0 trail [] steady d.1
-        ∙ ap (λ js. met R (untagged a.va) 0 js trail) (append-nil (chain_ipas W trail) ∙ sym is)
+    met_is = (let d = stands_on end h in met_are R (untagged a.va) Any 0 (a.va % 2 ^ 52) W d.0 trail steady d.1)
 
     pub all_made : (rows more : List NewRow) → rows_from (maker_for Made) trail rows ≡ rows_of (maker_for Made) [] [] Met
         → rows_from (maker_for Made) trail more ≡ combined_rows (maker_for Made) (untagged a.va) trail Met end → AreMade regs step a trail end (rows ++ more)
@@ -145,16 +165,16 @@ module _ (regs : Regs) (step : ℕ) (a : Access) (trail : List Item) (ipas : Lis
   none_mapped (ended (reaches l)) e = absurd cc
   none_mapped (lacks n) e = refl
 
-  pub one_mapped : (end : Fed Need (End Landing)) → StandsTo (stands_whole (config_of regs) a trail) end → ipas ≡ chain_ipas W trail → is_mapped end ≡ true
+  pub one_mapped : (end : Fed Need (End Landing)) → StandsTo (stands_whole (config_of regs) a trail) end → is_mapped end ≡ true
       → (row : Option NewRow) → ((class : ℕ) → IsPiece (fold after1 None Met) (fold after2 None Met) class → one_from (maker_for Made) trail row
       ≡ leaf_rows (maker_for Made) class (untagged a.va) trail (fold after1 None Met))
       → rows_from (maker_for Made) trail (listed row) ≡ combined_rows (maker_for Made) (untagged a.va) trail Met end
-  one_mapped (ended (stops f)) h is e row g = absurd cc
-  one_mapped (lacks n) h is e row g = absurd cc
-  one_mapped (ended (reaches l)) h is e row g =
+  one_mapped (ended (stops f)) h e row g = absurd cc
+  one_mapped (lacks n) h e row g = absurd cc
+  one_mapped (ended (reaches l)) h e row g =
       let on = ends_on R W trail (reaches l) h in
       let p = holds_on R (LandingIs (asked (config_of regs) true a)) None None W trail (reaches l) on (walk_holds (asked (config_of regs) true a)) in
-      let same = met_is (ended (reaches l)) h is in
+      let same = met_is (ended (reaches l)) h in
       let piece : IsPiece (fold after1 None Met) (fold after2 None Met) l.class = subst (λ ms. IsPiece (fold after1 None ms) (fold after2 None ms) l.class) same p in
       listed_is (maker_for Made) trail row ∙ g l.class piece
       ∙ ap (leaf_rows (maker_for Made) l.class (untagged a.va) trail) (last_is None Met ∙ option_or_none (last_first Met))

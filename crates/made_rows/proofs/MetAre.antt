@@ -1,6 +1,6 @@
 -- The items of a trail are what its walk met them as.
-use Rattle.std.proofs.Common.{◌≡◌, ℕ, Bool, true, false, cond, List, [], ◌∷◌, ◌++◌, append_assoc, refl, sym, ap, ◌∙◌}
-use Rattle.std.specs.Prelude.{◌&&◌, drop, get_or}
+use Rattle.std.proofs.Common.{◌≡◌, ℕ, Bool, true, false, cond, List, [], ◌∷◌, refl, sym, ap, ◌∙◌}
+use Rattle.std.specs.Prelude.{◌&&◌}
 use Rattle.geometry.specs.Tables.{most_left, left_below}
 use Rattle.fault_codes.specs.declared.fault.Stage.{Stage}
 use Rattle.fault_codes.specs.declared.fault.Stage.TheVariants.{S1, S2}
@@ -13,8 +13,9 @@ use Rattle.machine_spec.specs.Marks.{Mark, mark, mark_base, marks}
 use Rattle.machine_laws.proofs.Trees.{IsOn}
 use Rattle.machine_laws.proofs.MarksOf.{fits_word_parts, fits_base1_parts, fits_base2_parts}
 use Rattle.served_walk.specs.Spots.{mark_of_word}
-use Rattle.made_rows.specs.Met.{chain_ipas, begins_chain, address_by, mark_for, open_ipa, later_ipas, met}
-use Rattle.made_rows.proofs.Steady.{IsSteady, AreSteady}
+use Rattle.tlbi_ops.specs.Covers.{is_stage1}
+use Rattle.made_rows.specs.Met.{goes_by_item, begins_chain, address_by, mark_for, open_ipa, next_goal, met}
+use Rattle.made_rows.proofs.Steady.{IsSteady, goal_behind, AreSteady}
 
 module _ (r : Regime) (va : ℕ) where
   -- the mark of a word is told by its stage, levels left and address
@@ -54,30 +55,42 @@ module _ (r : Regime) (va : ℕ) where
   base2_begins : (x : ℕ) (i : Item) → fits r (stage2_base x) i ≡ true → begins_chain i ≡ true
   base2_begins x i f = (let p = fits_base2_parts r x i f in rw (p.0, p.1) refl)
 
-  -- one item that begins no chain, and one that begins a chain
-  one_goes : (x : ℕ) (ipas : List ℕ) (m : Mark) (i : Item) (items : List Item) (ms : List Mark) → begins_chain i ≡ false → m ≡ mark_for r va x i →
-      ms ≡ met r va x ipas items → m ∷ ms ≡ met r va x ipas (i ∷ items)
-  one_goes x ipas m i items ms b e h =
-      ap (λ z. z ∷ ms) e ∙ ap (λ z. mark_for r va x i ∷ z) h
-      ∙ ap (λ b. mark_for r va (cond b (get_or ipas 0 0) x) i ∷ met r va (cond b (get_or ipas 0 0) x) (cond b (drop 1 ipas) ipas) items) (sym b)
+  -- where stage 1 goes behind an item of each kind
+  goal1 : (g : ℕ) (i : Item) → i.stage ≡ S1 → goes_by_item r va i i.what ≡ next_goal r va g i
+  goal1 g i s = ap (λ st. cond (is_stage1 st) (goes_by_item r va i i.what) g) (sym s)
 
-  one_begins : (x y : ℕ) (ipas : List ℕ) (m : Mark) (i : Item) (items : List Item) (ms : List Mark) → begins_chain i ≡ true → m ≡ mark_for r va y i →
-      ms ≡ met r va y ipas items → m ∷ ms ≡ met r va x (y ∷ ipas) (i ∷ items)
-  one_begins x y ipas m i items ms b e h =
-      ap (λ z. z ∷ ms) e ∙ ap (λ z. mark_for r va y i ∷ z) h
-      ∙ ap (λ b. mark_for r va (cond b y x) i ∷ met r va (cond b y x) (cond b ipas (y ∷ ipas)) items) (sym b)
+  goal2 : (g : ℕ) (i : Item) → i.stage ≡ S2 → g ≡ next_goal r va g i
+  goal2 g i s = ap (λ st. cond (is_stage1 st) (goes_by_item r va i i.what) g) (sym s)
 
-  pub met_are : {A : Type 0} (x : ℕ) (t u : Ask Need Item A) (items : List Item) (more : List ℕ) → AreSteady r va x t → IsOn r t items u →
-      marks r t items ≡ met r va x (chain_ipas t items ++ more) items
-  met_are x (done a) u [] more s h = refl
-  met_are x (done a) u (i ∷ items) more s h = absurd h
-  met_are x (ask n k) u [] more s h = refl
-  met_are x (ask stage1_base k) u (i ∷ items) more s h =
-      one_goes x (chain_ipas (k i) items ++ more) (mark r stage1_base i) i items (marks r (k i) items) (base1_goes i h.0) (base1_is x i h.0)
-      (met_are x (k i) u items more (s i) h.1)
-  met_are x (ask (stage2_base y) k) u (i ∷ items) more s h =
-      one_begins x y (chain_ipas (k i) items ++ more) (mark r (stage2_base y) i) i items (marks r (k i) items) (base2_begins y i h.0) (base2_is y y i h.0)
-      (met_are y (k i) u items more (s i) h.1)
-  met_are x (ask (word w) k) u (i ∷ items) more s h =
-      one_goes x (chain_ipas (k i) items ++ more) (mark r (word w) i) i items (marks r (k i) items) (word_goes i (fits_word_parts r w i h.0).what)
-      (word_is x i w s.0 h.0) (met_are x (k i) u items more (s.1 i) h.1)
+  goal_word : (g : ℕ) (i : Item) (s : Stage) → i.stage ≡ s → goal_behind r va g s i ≡ next_goal r va g i
+  goal_word g i S1 e = goal1 g i e
+  goal_word g i S2 e = goal2 g i e
+
+  -- one item
+  one_met : (x y g h : ℕ) (m : Mark) (i : Item) (items : List Item) (ms : List Mark) → y ≡ open_ipa x g i → m ≡ mark_for r va y i → h ≡ next_goal r va g i →
+      ms ≡ met r va y h items → m ∷ ms ≡ met r va x g (i ∷ items)
+  one_met x y g h m i items ms a b c d =
+      ap (λ z. z ∷ ms) b ∙ ap (λ z. mark_for r va y i ∷ z) d ∙ ap (λ z. mark_for r va y i ∷ met r va y z items) c
+      ∙ ap (λ z. mark_for r va z i ∷ met r va z (next_goal r va g i) items) a
+
+  stays : (x g : ℕ) (i : Item) → begins_chain i ≡ false → x ≡ open_ipa x g i
+  stays x g i b = ap (λ b. cond b g x) (sym b)
+
+  opens : (x g : ℕ) (i : Item) → begins_chain i ≡ true → g ≡ open_ipa x g i
+  opens x g i b = ap (λ b. cond b g x) (sym b)
+
+  pub met_are : {A : Type 0} (P : A → ℕ → Type 0) (x g : ℕ) (t u : Ask Need Item A) (items : List Item) → AreSteady P r va x g t → IsOn r t items u →
+      marks r t items ≡ met r va x g items
+  met_are P x g (done a) u [] s h = refl
+  met_are P x g (done a) u (i ∷ items) s h = absurd h
+  met_are P x g (ask n k) u [] s h = refl
+  met_are P x g (ask stage1_base k) u (i ∷ items) s h =
+      one_met x x g (goes_by_item r va i i.what) (mark r stage1_base i) i items (marks r (k i) items) (stays x g i (base1_goes i h.0)) (base1_is x i h.0)
+      (goal1 g i (fits_base1_parts r i h.0).1) (met_are P x (goes_by_item r va i i.what) (k i) u items (s.1 i h.0) h.1)
+  met_are P x g (ask (stage2_base y) k) u (i ∷ items) s h =
+      one_met x y g g (mark r (stage2_base y) i) i items (marks r (k i) items) (s.0 ∙ opens x g i (base2_begins y i h.0)) (base2_is y y i h.0)
+      (goal2 g i (fits_base2_parts r y i h.0).1) (met_are P y g (k i) u items (s.1 i) h.1)
+  met_are P x g (ask (word w) k) u (i ∷ items) s h =
+      let p = fits_word_parts r w i h.0 in
+      one_met x x g (goal_behind r va g w.stage i) (mark r (word w) i) i items (marks r (k i) items) (stays x g i (word_goes i p.what)) (word_is x i w s.0 h.0)
+      (goal_word g i w.stage p.stage) (met_are P x (goal_behind r va g w.stage i) (k i) u items (s.1 i h.0) h.1)

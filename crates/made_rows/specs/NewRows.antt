@@ -1,5 +1,5 @@
 -- The rows that a step makes, as code tells them: with places in the trail of the step.
-use Rattle.std.specs.Prelude.{◌≡◌, ℕ, ◌+◌, ◌/◌, ◌^◌, ◌≤◌, Bool, true, false, ◌&&◌, List, [], ◌∷◌, take, drop, map, fold, Option, Some, None, if◌then◌else◌}
+use Rattle.std.specs.Prelude.{◌≡◌, ℕ, ◌+◌, ◌/◌, ◌%◌, ◌^◌, ◌<◌, ◌≤◌, Bool, true, false, ◌&&◌, List, [], ◌∷◌, take, drop, map, fold, Option, Some, None, if◌then◌else◌}
 use Rattle.geometry.specs.Tables.{most_left, level_of}
 use Rattle.sysregs.specs.declared.regs.Regs.{Regs}
 use Rattle.sysregs.specs.Registers.{config_of}
@@ -7,9 +7,8 @@ use Rattle.sysregs.specs.Sides.{side_of}
 use Rattle.fault_codes.specs.declared.fault.Stage.{Stage}
 use Rattle.fault_codes.specs.declared.fault.Stage.TheVariants.{S1, S2}
 use Rattle.trails.specs.declared.item.Item.{Item}
-use Rattle.trails.specs.declared.item.What.TheVariants.{Word as AWord}
+use Rattle.trails.specs.declared.item.What.TheVariants.{Base as ABase, Word as AWord}
 use Rattle.trails.specs.declared.outcome.Access.{Access}
-use Rattle.table_reads.specs.Numbers.{is_sized1, is_sized2}
 use Rattle.walk_spec.specs.Ask.{Stands, ends, needs, Fed, ended, lacks}
 use Rattle.walk_spec.specs.Needs.{Need, Regime, regime_of, sizes_of}
 use Rattle.walk_spec.specs.Steps.{End, stops, reaches}
@@ -24,7 +23,8 @@ use Rattle.served_walk.specs.Spots.{start_with}
 use Rattle.made_rows.specs.declared.making.NewRow.{NewRow}
 use Rattle.made_rows.specs.declared.gather.Stand.{Stand}
 use Rattle.made_rows.specs.declared.word.Word.{Word}
-use Rattle.made_rows.specs.Met.{mark_for, open_ipa, later_ipas, met}
+use Rattle.made_rows.specs.Met.{mark_for, open_ipa, next_goal, met}
+use Rattle.made_rows.specs.Sized.{is_sized}
 use Rattle.made_rows.specs.Pieces.{after1, after2}
 use Rattle.made_rows.specs.Words.{means_by}
 
@@ -65,14 +65,10 @@ abbrev pub one_from : (maker : Maker) (trail : List Item) (new : Option NewRow) 
 one_from k trail None = []
 one_from k trail (Some n) = row_from k trail n ∷ []
 
--- the sizes of a stage are in range
-abbrev pub is_sized : (regime : Regime) (stage : Stage) → Bool
-is_sized r S1 = is_sized1 r.config r.side
-is_sized r S2 = is_sized2 r.config
-
--- a word of a level that its stage has
-abbrev pub IsKnown : (regime : Regime) (item : Item) → Type 0
-IsKnown r i = i.what ≡ AWord → (left : ℕ) × (left ≤ most_left) × (i.level ≡ level_of left) × (is_sized r i.stage ≡ true)
+-- a word of a level that its stage has, and a base that stage 1 may read from
+pub record IsKnown (r : Regime) (i : Item) : Type 0 where
+  pub word : i.what ≡ AWord → (left : ℕ) × (left ≤ most_left) × (left ≤ (sizes_of r i.stage).start) × (i.level ≡ level_of left) × (is_sized r i.stage ≡ true)
+  pub base : i.what ≡ ABase → i.stage ≡ S1 → (i.value < 2 ^ 52) × (i.value % 8 ≡ 0) × (is_sized r S1 ≡ true)
 
 abbrev pub AreKnown : (regime : Regime) (items : List Item) → Type 0
 AreKnown r [] = Unit {0}
@@ -139,20 +135,20 @@ rows_now k m whole chain = if is_read_now k m then rows_by k m whole chain m.sta
 abbrev pub mark_in : (made : MadeFor) (ipa : ℕ) (item : Item) → Mark
 mark_in made x i = mark_for (regime_for made) (untagged made.access.va) x i
 
--- An item was passed: what stands behind it, and its row. (More than six parameters: what stands before and behind.)
-pub record Passed (made : MadeFor) (ipas : List ℕ) (at : ℕ) (i : Item) (old new : Stand) (row : Option NewRow) : Type 0 where
-  pub ipa : new.ipa ≡ open_ipa old.ipa (drop old.chains ipas) i
-  pub chains : drop new.chains ipas ≡ later_ipas (drop old.chains ipas) i
+-- An item was passed: what stands behind it, and its row.
+pub record Passed (made : MadeFor) (at : ℕ) (i : Item) (old new : Stand) (row : Option NewRow) : Type 0 where
+  pub ipa : new.ipa ≡ open_ipa old.ipa old.goal i
+  pub goal : new.goal ≡ next_goal (regime_for made) (untagged made.access.va) old.goal i
   pub start : new.start ≡ start_with old.start at (mark_in made new.ipa i)
   pub row_is : (trail : List Item) → one_from (maker_for made) trail row
       ≡ rows_now (maker_for made) (mark_in made new.ipa i) (take (at + 1) trail) (drop new.start (take (at + 1) trail))
   pub leaf : (o : Option Mark) (k : Option ℕ) → HasLeaf made o k old → HasLeaf made (after1 o (mark_in made new.ipa i)) (after2 k (mark_in made new.ipa i)) new
 
--- the items of a trail with what they are, from the front
-abbrev pub met_in : (made : MadeFor) (ipas : List ℕ) (trail : List Item) → List Mark
-met_in made ipas trail = met (regime_for made) (untagged made.access.va) 0 ipas trail
+-- the items of a trail with what they are, from the front; with stage 1 off the output is VA bits 51 to 0
+abbrev pub met_in : (made : MadeFor) (trail : List Item) → List Mark
+met_in made trail = met (regime_for made) (untagged made.access.va) 0 (made.access.va % 2 ^ 52) trail
 
 -- a whole trail was passed
-pub record PassedAll (made : MadeFor) (ipas : List ℕ) (trail : List Item) (rows : List NewRow) (s : Stand) : Type 0 where
-  pub rows_are : rows_from (maker_for made) trail rows ≡ rows_of (maker_for made) [] [] (met_in made ipas trail)
-  pub leaf : HasLeaf made (fold after1 None (met_in made ipas trail)) (fold after2 None (met_in made ipas trail)) s
+pub record PassedAll (made : MadeFor) (trail : List Item) (rows : List NewRow) (s : Stand) : Type 0 where
+  pub rows_are : rows_from (maker_for made) trail rows ≡ rows_of (maker_for made) [] [] (met_in made trail)
+  pub leaf : HasLeaf made (fold after1 None (met_in made trail)) (fold after2 None (met_in made trail)) s

@@ -9,11 +9,10 @@ ghost use Rattle.walk_spec.specs.Ask.{Fed};
 ghost use Rattle.walk_spec.specs.Needs.{Need};
 ghost use Rattle.walk_spec.specs.Steps.{End};
 ghost use Rattle.walk_spec.specs.Stage1.{untagged};
-ghost use Rattle.walk_spec.specs.BothStages.{Landing, walk};
+ghost use Rattle.walk_spec.specs.BothStages.{Landing};
 ghost use Rattle.translate.specs.Replayed.{stands_whole};
 ghost use Rattle.machine_spec.specs.Marks.{Mark};
 ghost use Rattle.machine_spec.specs.Made.{leaf_rows};
-ghost use Rattle.made_rows.specs.Met.{chain_ipas};
 ghost use Rattle.made_rows.specs.Pieces.{IsPiece, smaller_of};
 ghost use Rattle.made_rows.specs.NewRows.{MadeFor, maker_for, regime_for, one_from, IsKnown, AreKnown, HasLeaf, Passed, PassedAll, is_mapped, StandsTo, AreMade};
 
@@ -25,13 +24,13 @@ use trails::{Access, Item, What};
 use translate::InForce;
 use walk_spec::Region;
 
-/// What is known between two items of a trail: the IPA of the chain of stage 2 that stands open, how many chains were begun,
-/// and where the open one begins in the trail; the row of the last item of stage 1, where that is a leaf that was read now, and
-/// the class of the last word of stage 2 behind it.
+/// What is known between two items of a trail: the IPA of the chain of stage 2 that stands open, where stage 1 goes, in bytes,
+/// and where the open chain begins in the trail; the row of the last item of stage 1, where that is a leaf that was read now,
+/// and the class of the last word of stage 2 behind it.
 #[derive(Clone, Copy)]
 pub struct Stand {
     pub ipa: u64,
-    pub chains: usize,
+    pub goal: u64,
     pub start: usize,
     pub leaf: Option<NewRow>,
     pub class2: Option<u32>,
@@ -45,31 +44,25 @@ fn only_if(condition: bool, row: NewRow) -> Option<NewRow>
 }
 
 /// Passes the base of stage 1.
-fn pass_base1(stand: &mut Stand, at: usize, item: &Item)
+fn pass_base1(making: &Making, stand: &mut Stand, at: usize, item: &Item)
     requires place { at < 2 ^ 32 }
     requires stage { item.now.stage ≡ S1 }
     requires what { item.now.what ≡ ABase }
-    ensures passed { (made : MadeFor) → (ipas : List ℕ) → Passed made ipas at item.now stand.old stand.new None }
-    ensures chains { stand.new.chains ≡ stand.old.chains }
+    ensures { IsKnown (regime_for making.now) item.now → Passed making.now at item.now stand.old stand.new None }
 {
+    stand.goal = making.start_entry(item.value);
     stand.start = at + 1;
     stand.leaf = None;
     stand.class2 = None;
 }
 
-/// Passes a base of stage 2, which begins a chain.
-fn pass_base2(stand: &mut Stand, ipas: &[u64], at: usize, item: &Item)
-    requires chains { stand.old.chains < 2 ^ 32 }
+/// Passes a base of stage 2, which begins a chain for where stage 1 goes.
+fn pass_base2(stand: &mut Stand, at: usize, item: &Item)
     requires stage { item.now.stage ≡ S2 }
     requires what { item.now.what ≡ ABase }
-    ensures passed { (made : MadeFor) → Passed made ipas.now at item.now stand.old stand.new None }
-    ensures chains { stand.new.chains ≡ stand.old.chains + 1 }
+    ensures { (made : MadeFor) → Passed made at item.now stand.old stand.new None }
 {
-    stand.ipa = match ipas.get(stand.chains) {
-        Some(&ipa) => ipa,
-        None => 0,
-    };
-    stand.chains += 1;
+    stand.ipa = stand.goal;
     stand.start = at;
     stand.class2 = None;
 }
@@ -79,16 +72,16 @@ fn pass_word1(making: &Making, stand: &mut Stand, at: usize, item: &Item) -> Opt
     requires place { at < 2 ^ 32 }
     requires stage { item.now.stage ≡ S1 }
     requires what { item.now.what ≡ AWord }
-    ensures passed { (ipas : List ℕ) → IsKnown (regime_for making.now) item.now → Passed making.now ipas at item.now stand.old stand.new result }
-    ensures chains { stand.new.chains ≡ stand.old.chains }
+    ensures { IsKnown (regime_for making.now) item.now → Passed making.now at item.now stand.old stand.new result }
 {
     stand.start = at + 1;
     stand.leaf = None;
     stand.class2 = None;
+    let word = making.word(item)?;
+    stand.goal = word.goal;
     if !making.is_now(item) {
         return None;
     }
-    let word = making.word(item)?;
     match word.means {
         Means::Table { cached } => {
             let row = making.row(Kind::Table1, &word, making.va(), 0, at + 1);
@@ -108,8 +101,7 @@ fn pass_word2(making: &Making, stand: &mut Stand, at: usize, item: &Item) -> Opt
     requires place { at < 2 ^ 32 }
     requires stage { item.now.stage ≡ S2 }
     requires what { item.now.what ≡ AWord }
-    ensures passed { (ipas : List ℕ) → IsKnown (regime_for making.now) item.now → Passed making.now ipas at item.now stand.old stand.new result }
-    ensures chains { stand.new.chains ≡ stand.old.chains }
+    ensures { IsKnown (regime_for making.now) item.now → Passed making.now at item.now stand.old stand.new result }
 {
     let is_now = making.is_now(item);
     if !is_now && stand.leaf.is_none() {
@@ -134,19 +126,17 @@ fn pass_word2(making: &Making, stand: &mut Stand, at: usize, item: &Item) -> Opt
 }
 
 /// Passes an item of a trail. Answers its row.
-fn pass(making: &Making, stand: &mut Stand, ipas: &[u64], at: usize, item: &Item) -> Option<NewRow>
+fn pass(making: &Making, stand: &mut Stand, at: usize, item: &Item) -> Option<NewRow>
     requires place { at < 2 ^ 32 }
-    requires chains { stand.old.chains < 2 ^ 32 }
-    ensures passed { IsKnown (regime_for making.now) item.now → Passed making.now ipas.now at item.now stand.old stand.new result }
-    ensures chains { stand.new.chains ≤ stand.old.chains + 1 }
+    ensures { IsKnown (regime_for making.now) item.now → Passed making.now at item.now stand.old stand.new result }
 {
     match (item.stage, item.what) {
         (Stage::S1, What::Base) => {
-            pass_base1(stand, at, item);
+            pass_base1(making, stand, at, item);
             None
         }
         (Stage::S2, What::Base) => {
-            pass_base2(stand, ipas, at, item);
+            pass_base2(stand, at, item);
             None
         }
         (Stage::S1, What::Word) => pass_word1(making, stand, at, item),
@@ -154,33 +144,24 @@ fn pass(making: &Making, stand: &mut Stand, ipas: &[u64], at: usize, item: &Item
     }
 }
 
-/// An access that was walked: the items of its trail, the IPAs of its chains of stage 2 in the order of the trail, and whether
-/// it came to a translation.
-pub struct Walked<'a> {
-    pub access: &'a Access,
-    pub trail: &'a [Item],
-    pub ipas: &'a [u64],
-    pub is_mapped: bool,
-}
-
 /// Passes all items of a trail. Their rows are appended in order, for which there is room.
-fn pass_all(making: &Making, trail: &[Item], ipas: &[u64], rows: &mut Vec<NewRow>) -> Stand
+fn pass_all(making: &Making, trail: &[Item], rows: &mut Vec<NewRow>) -> Stand
     requires most { length trail.now ≤ most_items }
     requires empty { rows.old.items ≡ [] }
     requires room { most_items ≤ vec_capacity rows.old }
-    ensures passed { AreKnown (regime_for making.now) trail.now → PassedAll making.now ipas.now trail.now rows.new.items result }
+    ensures passed { AreKnown (regime_for making.now) trail.now → PassedAll making.now trail.now rows.new.items result }
     ensures most { vec_len rows.new ≤ length trail.now }
     ensures capacity { vec_capacity rows.new ≡ vec_capacity rows.old }
 {
     let mut stand = Stand {
         ipa: 0,
-        chains: 0,
+        goal: making.off_output(),
         start: 0,
         leaf: None,
         class2: None,
     };
     for (at, item) in trail.iter().enumerate() {
-        if let Some(row) = pass(making, &mut stand, ipas, at, item) {
+        if let Some(row) = pass(making, &mut stand, at, item) {
             rows.push_reserved(row);
         }
     }
@@ -219,21 +200,26 @@ fn leaf_row(making: &Making, stand: &Stand, end: usize) -> Option<NewRow>
     })
 }
 
+/// An access that was walked: the items of its trail, and whether it came to a translation.
+pub struct Walked<'a> {
+    pub access: &'a Access,
+    pub trail: &'a [Item],
+    pub is_mapped: bool,
+}
+
 /// The rows that a step makes whose access was walked under registers in force: into an empty list with room for them, in the
-/// order in which they are made. The trail stands on the walk of the access, and the IPAs are those of its chains.
+/// order in which they are made. The trail stands on the walk of the access.
 pub fn rows_made(force: &InForce, walked: &Walked, step: u32, rows: &mut Vec<NewRow>)
     requires most { length walked.now.trail.now ≤ most_items }
     requires empty { rows.old.items ≡ [] }
     requires room { most_items < vec_capacity rows.old }
     ensures made { (end : Fed Need (End Landing)) → StandsTo (stands_whole (config_of force.now) walked.now.access.now walked.now.trail.now) end →
-        walked.now.is_mapped ≡ is_mapped end →
-        walked.now.ipas.now ≡ chain_ipas (walk (config_of force.now) true walked.now.access.now) walked.now.trail.now →
-        AreMade force.now step walked.now.access.now walked.now.trail.now end rows.new.items }
+        walked.now.is_mapped ≡ is_mapped end → AreMade force.now step walked.now.access.now walked.now.trail.now end rows.new.items }
     ensures most { vec_len rows.new ≤ length walked.now.trail.now + 1 }
     ensures capacity { vec_capacity rows.new ≡ vec_capacity rows.old }
 {
     let making = Making::of(force, walked.access, step);
-    let stand = pass_all(&making, walked.trail, walked.ipas, rows);
+    let stand = pass_all(&making, walked.trail, rows);
     if !walked.is_mapped {
         return;
     }

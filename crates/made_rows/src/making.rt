@@ -1,28 +1,31 @@
 //! One row that a step makes.
-ghost use Rattle.std.specs.Prelude.{◌≡◌, ◌==◌, ℕ, ◌≤◌, List, take, drop, IfSome, Some, None, true};
+ghost use Rattle.std.specs.Prelude.{◌≡◌, ◌==◌, ℕ, ◌<◌, ◌≤◌, ◌^◌, ◌%◌, List, take, drop, IfSome, Some, None, true};
 ghost use Rattle.geometry.specs.Tables.{most_left, level_of};
 ghost use Rattle.sysregs.specs.declared.regs.Side as declared_side;
 ghost use Rattle.fault_codes.specs.declared.fault.Stage.TheVariants.{S1, S2};
 ghost use Rattle.trails.specs.declared.item.Item as declared_item;
-ghost use Rattle.table_reads.specs.Numbers.{AreSound, is_sized1, is_sized2};
+ghost use Rattle.table_reads.specs.Places.{place_of};
+ghost use Rattle.table_reads.specs.Numbers.{AreSound, is_sized1, is_sized2, sizes1};
 ghost use Rattle.stage1_walk.specs.Sized.{IsSized1};
 ghost use Rattle.stage2_walk.specs.Entered.{IsSized2};
 ghost use Rattle.walk_spec.specs.Stage1.{untagged};
 ghost use Rattle.walk_spec.specs.Needs.{regime_of, sizes_of};
 ghost use Rattle.machine_spec.specs.Marks.{Mark, tag_by};
 ghost use Rattle.machine_spec.specs.Made.{row_of};
+ghost use Rattle.made_rows.specs.Sized.{is_sized};
 ghost use Rattle.made_rows.specs.Words.{word_at};
-ghost use Rattle.made_rows.specs.NewRows.{maker_for, regime_for, row_from, stage_by, is_sized, TellsMark};
+ghost use Rattle.made_rows.specs.NewRows.{maker_for, regime_for, row_from, stage_by, TellsMark};
 
 use crate::word::{Means, Word, word1, word2};
 use bitwords::align_down;
 use fault_codes::Stage;
+use geometry::case_table;
 use stage1_walk::sized1;
 use stage2_walk::sized2;
 use std::marker::Model;
 use sysregs::fields::{asid, vmid};
-use sysregs::{Config, Side};
-use table_reads::Sizes;
+use sysregs::{Config, Side, Tg};
+use table_reads::{Sizes, place};
 use tagged_tlb::Kind;
 use tlbi_ops::Tag;
 use trails::{Access, Item};
@@ -87,17 +90,18 @@ fn in_stage1(
     config: &Config,
     side: Side,
     sizes: &Option<Sizes>,
+    va: u64,
     left: u32,
     item: &Item,
 ) -> Option<Word>
     requires sizes { IsSized1 config.now side sizes.now }
     requires sound { IfSome sizes.now AreSound }
     requires left { left ≤ most_left }
-    ensures is { is_sized1 config.now side ≡ true → result ≡ Some (word_at (regime_of config.now side) S1 left item.now) }
+    ensures is { is_sized1 config.now side ≡ true → left ≤ (sizes1 config.now side).start → result ≡ Some (word_at (regime_of config.now side) va S1 left item.now) }
     ensures small { IfSome result (λ w. w.class ≤ 55) }
 {
     match sizes {
-        Some(sizes) => Some(word1(config, side, sizes, left, item)),
+        Some(sizes) => Some(word1(config, side, sizes, va, left, item)),
         None => None,
     }
 }
@@ -107,13 +111,25 @@ fn in_stage2(config: &Config, sizes: &Option<Sizes>, left: u32, item: &Item) -> 
     requires sizes { IsSized2 config.now sizes.now }
     requires sound { IfSome sizes.now AreSound }
     requires left { left ≤ most_left }
-    ensures is { (s : declared_side.Side) → is_sized2 config.now ≡ true → result ≡ Some (word_at (regime_of config.now s) S2 left item.now) }
+    ensures is { (s : declared_side.Side) → is_sized2 config.now ≡ true → result ≡ Some (word_at (regime_of config.now s) 0 S2 left item.now) }
     ensures small { IfSome result (λ w. w.class ≤ 55) }
 {
     match sizes {
         Some(sizes) => Some(word2(config, sizes, left, item)),
         None => None,
     }
+}
+
+/// The entry that an address selects in a start table of stage 1.
+#[tactic(auto, unfolding(table_reads::specs::Numbers::sizes1))]
+fn first_entry(config: &Config, side: Side, sizes: &Sizes, base: u64, va: u64) -> u64
+    requires sizes { sizes.now ≡ sizes1 config.now side }
+    requires sound { AreSound sizes.now }
+    requires base { base < 2 ^ 52 × base % 8 ≡ 0 }
+    ensures { result ≡ place_of sizes.now sizes.now.start base va }
+{
+    let tg = config.tg(side);
+    case_table!(granule tg; place(sizes, sizes.start, base, va))
 }
 
 /// The granule of a stage, whose sizes are there.
@@ -148,6 +164,26 @@ impl<'a> Making<'a> {
         self.access.va % (1 << 56)
     }
 
+    /// Where stage 1 goes while it is off: VA bits 51 to 0.
+    pub fn off_output(&self) -> u64
+        ensures { result ≡ self.now.access.va % 2 ^ 52 }
+    {
+        self.access.va % (1 << 52)
+    }
+
+    /// The entry that the address selects in the start table of stage 1, whose base is this.
+    pub fn start_entry(&self, base: u64) -> u64
+        ensures { base < 2 ^ 52 → base % 8 ≡ 0 → is_sized (regime_for self.now) S1 ≡ true →
+            result ≡ place_of (regime_for self.now).stage1 (regime_for self.now).stage1.start base (untagged self.now.access.va) }
+    {
+        match &self.stage1 {
+            Some(sizes) if base < (1 << 52) && base % 8 == 0 => {
+                first_entry(self.force.config(), self.side, sizes, base, self.va())
+            }
+            _ => 0,
+        }
+    }
+
     /// Whether an item was read in this step.
     pub fn is_now(&self, item: &Item) -> bool
         ensures { result ≡ (item.now.moment == self.now.step) }
@@ -157,14 +193,15 @@ impl<'a> Making<'a> {
 
     /// What the word of an item is.
     pub fn word(&self, item: &Item) -> Option<Word>
-        ensures is { (left : ℕ) → left ≤ most_left → item.now.level ≡ level_of left → is_sized (regime_for self.now) item.now.stage ≡ true →
-            result ≡ Some (word_at (regime_for self.now) item.now.stage left item.now) }
+        ensures is { (left : ℕ) → left ≤ most_left → left ≤ (sizes_of (regime_for self.now) item.now.stage).start → item.now.level ≡ level_of left →
+            is_sized (regime_for self.now) item.now.stage ≡ true →
+            result ≡ Some (word_at (regime_for self.now) (untagged self.now.access.va) item.now.stage left item.now) }
         ensures small { IfSome result (λ w. w.class ≤ 55) }
     {
         let left = left_of(item.level)?;
         let config = self.force.config();
         match item.stage {
-            Stage::S1 => in_stage1(config, self.side, &self.stage1, left, item),
+            Stage::S1 => in_stage1(config, self.side, &self.stage1, self.va(), left, item),
             Stage::S2 => in_stage2(config, &self.stage2, left, item),
         }
     }

@@ -1,18 +1,19 @@
 //! What a word is to the rows of a step.
-ghost use Rattle.std.specs.Prelude.{◌≡◌, ◌≤◌};
+ghost use Rattle.std.specs.Prelude.{◌≡◌, ◌-◌, ◌<◌, ◌≤◌, ◌^◌, ◌%◌};
 ghost use Rattle.geometry.specs.Tables.{most_left};
 ghost use Rattle.sysregs.specs.Registers.{granule_of};
 ghost use Rattle.sysregs.specs.Sides.{tg_of};
 ghost use Rattle.fault_codes.specs.declared.fault.Stage.TheVariants.{S1, S2};
 ghost use Rattle.sysregs.specs.declared.regs.Side.{Side};
+ghost use Rattle.table_reads.specs.Places.{place_of};
 ghost use Rattle.table_reads.specs.Numbers.{AreSound, sizes1, sizes2};
 ghost use Rattle.walk_spec.specs.Needs.{regime_of};
 ghost use Rattle.made_rows.specs.Words.{word_at};
 
 use descriptors::{Kind1, Kind2, decode1, decode2};
-use geometry::{case_table, entry_class, leaf_class};
+use geometry::{case_table, entry_class, goes_to, leaf_class};
 use sysregs::{Config, Side, Tg};
-use table_reads::{Sizes, is_too_large};
+use table_reads::{Sizes, is_too_large, place};
 use trails::Item;
 
 /// What a word is: nothing that is kept, a table, a leaf of stage 1, or one of stage 2. `cached` says whether a table or a
@@ -25,19 +26,36 @@ pub enum Means {
     Leaf2 { cached: bool },
 }
 
-/// What a word is, and the class of its region: that of its entry, or of its run.
+/// What a word is; the class of its region: that of its entry, or of its run; and where stage 1 goes by a word of its own, in
+/// bytes: to an entry of the next table, or to its output.
 #[derive(Clone, Copy)]
 pub struct Word {
     pub means: Means,
     pub class: u32,
+    pub goal: u64,
+}
+
+/// The entry that an address selects in the table of a word of stage 1 with `LEFT` levels left.
+fn entry_below<const G: u32, const LEFT: u32>(sizes: &Sizes, table: u64, va: u64) -> u64
+    requires granule { sizes.now.granule ≡ G }
+    requires sound { AreSound sizes.now }
+    requires left { 0 < LEFT }
+    requires table { table < 2 ^ 52 × table % 8 ≡ 0 }
+    ensures { LEFT ≤ sizes.now.start → result ≡ place_of sizes.now (LEFT - 1) table va }
+{
+    if LEFT > sizes.start {
+        return 0;
+    }
+    place::<G>(sizes, LEFT - 1, table, va)
 }
 
 /// A word of stage 1 with `LEFT` levels left.
-#[tactic(auto, using(crate::proofs::Classes::entry_most, crate::proofs::Classes::leaf_most))]
+#[tactic(auto, using(crate::proofs::Classes::entry_most, crate::proofs::Classes::leaf_most, descriptors::proofs::Bounds::bounded1))]
 fn word1_at<const G: u32, const LEFT: u32>(
     config: &Config,
     side: Side,
     sizes: &Sizes,
+    va: u64,
     item: &Item,
 ) -> Word
     requires granule { G ≡ granule_of (tg_of config.now side) }
@@ -45,7 +63,7 @@ fn word1_at<const G: u32, const LEFT: u32>(
     requires same_granule { sizes.now.granule ≡ G }
     requires sound { AreSound sizes.now }
     requires left { LEFT ≤ most_left }
-    ensures value { result ≡ word_at (regime_of config.now side) S1 LEFT item.now }
+    ensures value { LEFT ≤ sizes.now.start → result ≡ word_at (regime_of config.now side) va S1 LEFT item.now }
     ensures small { result.class ≤ 55 }
 {
     let entry = entry_class::<G, LEFT>();
@@ -53,22 +71,28 @@ fn word1_at<const G: u32, const LEFT: u32>(
         Kind1::Invalid => Word {
             means: Means::Nothing,
             class: entry,
+            goal: 0,
         },
         Kind1::Table { next, .. } => Word {
             means: Means::Table {
                 cached: !is_too_large(sizes, next),
             },
             class: entry,
+            goal: entry_below::<G, LEFT>(sizes, next, va),
         },
         Kind1::Leaf {
             out,
             global,
             contiguous,
             ..
-        } => Word {
-            means: Means::Leaf1 { global },
-            class: leaf_class::<G>(sizes.input, LEFT, out, contiguous, item.pa),
-        },
+        } => {
+            let class = leaf_class::<G>(sizes.input, LEFT, out, contiguous, item.pa);
+            Word {
+                means: Means::Leaf1 { global },
+                class,
+                goal: goes_to(out, class, va),
+            }
+        }
     }
 }
 
@@ -80,7 +104,7 @@ fn word2_at<const G: u32, const LEFT: u32>(config: &Config, sizes: &Sizes, item:
     requires same_granule { sizes.now.granule ≡ G }
     requires sound { AreSound sizes.now }
     requires left { LEFT ≤ most_left }
-    ensures value { (s : Side) → result ≡ word_at (regime_of config.now s) S2 LEFT item.now }
+    ensures value { (s : Side) → result ≡ word_at (regime_of config.now s) 0 S2 LEFT item.now }
     ensures small { result.class ≤ 55 }
 {
     let entry = entry_class::<G, LEFT>();
@@ -88,12 +112,14 @@ fn word2_at<const G: u32, const LEFT: u32>(config: &Config, sizes: &Sizes, item:
         Kind2::Invalid => Word {
             means: Means::Nothing,
             class: entry,
+            goal: 0,
         },
         Kind2::Table { next } => Word {
             means: Means::Table {
                 cached: !is_too_large(sizes, next),
             },
             class: entry,
+            goal: 0,
         },
         Kind2::Leaf {
             out,
@@ -105,6 +131,7 @@ fn word2_at<const G: u32, const LEFT: u32>(config: &Config, sizes: &Sizes, item:
                 cached: !is_too_large(sizes, out) && (af || config.ha2),
             },
             class: leaf_class::<G>(sizes.input, LEFT, out, contiguous, item.pa),
+            goal: 0,
         },
     }
 }
@@ -115,6 +142,7 @@ fn word1_by<const G: u32>(
     config: &Config,
     side: Side,
     sizes: &Sizes,
+    va: u64,
     item: &Item,
 ) -> Word
     requires granule { G ≡ granule_of (tg_of config.now side) }
@@ -122,10 +150,10 @@ fn word1_by<const G: u32>(
     requires same_granule { sizes.now.granule ≡ G }
     requires sound { AreSound sizes.now }
     requires left { left ≤ most_left }
-    ensures value { result ≡ word_at (regime_of config.now side) S1 left item.now }
+    ensures value { left ≤ sizes.now.start → result ≡ word_at (regime_of config.now side) va S1 left item.now }
     ensures small { result.class ≤ 55 }
 {
-    case_table!(level left; word1_at::<G>(config, side, sizes, item))
+    case_table!(level left; word1_at::<G>(config, side, sizes, va, item))
 }
 
 /// A word of stage 2, by its level.
@@ -135,7 +163,7 @@ fn word2_by<const G: u32>(left: u32, config: &Config, sizes: &Sizes, item: &Item
     requires same_granule { sizes.now.granule ≡ G }
     requires sound { AreSound sizes.now }
     requires left { left ≤ most_left }
-    ensures value { (s : Side) → result ≡ word_at (regime_of config.now s) S2 left item.now }
+    ensures value { (s : Side) → result ≡ word_at (regime_of config.now s) 0 S2 left item.now }
     ensures small { result.class ≤ 55 }
 {
     case_table!(level left; word2_at::<G>(config, sizes, item))
@@ -143,15 +171,22 @@ fn word2_by<const G: u32>(left: u32, config: &Config, sizes: &Sizes, item: &Item
 
 /// What a word of stage 1 is, which was read with so many levels left in the tables of a side.
 #[tactic(auto, unfolding(table_reads::specs::Numbers::sizes1))]
-pub(crate) fn word1(config: &Config, side: Side, sizes: &Sizes, left: u32, item: &Item) -> Word
+pub(crate) fn word1(
+    config: &Config,
+    side: Side,
+    sizes: &Sizes,
+    va: u64,
+    left: u32,
+    item: &Item,
+) -> Word
     requires sizes { sizes.now ≡ sizes1 config.now side }
     requires sound { AreSound sizes.now }
     requires left { left ≤ most_left }
-    ensures value { result ≡ word_at (regime_of config.now side) S1 left item.now }
+    ensures value { left ≤ sizes.now.start → result ≡ word_at (regime_of config.now side) va S1 left item.now }
     ensures small { result.class ≤ 55 }
 {
     let tg = config.tg(side);
-    case_table!(granule tg; word1_by(left, config, side, sizes, item))
+    case_table!(granule tg; word1_by(left, config, side, sizes, va, item))
 }
 
 /// What a word of stage 2 is, which was read with so many levels left.
@@ -160,7 +195,7 @@ pub(crate) fn word2(config: &Config, sizes: &Sizes, left: u32, item: &Item) -> W
     requires sizes { sizes.now ≡ sizes2 config.now }
     requires sound { AreSound sizes.now }
     requires left { left ≤ most_left }
-    ensures value { (s : Side) → result ≡ word_at (regime_of config.now s) S2 left item.now }
+    ensures value { (s : Side) → result ≡ word_at (regime_of config.now s) 0 S2 left item.now }
     ensures small { result.class ≤ 55 }
 {
     case_table!(granule config.tg2; word2_by(left, config, sizes, item))

@@ -6,5 +6,5 @@ use Rattle.made_rows.proofs.gather.pass_all.Given as goal
 
 abbrev pub invariant-loop-at : goal.invariant-loop-at
 invariant-loop-at l =
-    (AreKnown (regime_for l.making) l.trail → Midway l.making l.ipas l.trail l.at l.stand l.rows.items)
-    × (l.stand.chains ≤ l.at) × (vec_len l.rows ≤ l.at) × (vec_capacity l.rows ≡ vec_capacity l.fn.rows)
+    (AreKnown (regime_for l.making) l.trail → Midway l.making l.trail l.at l.stand l.rows.items)
+    × (vec_len l.rows ≤ l.at) × (vec_capacity l.rows ≡ vec_capacity l.fn.rows)
