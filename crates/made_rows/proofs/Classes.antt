@@ -1,5 +1,5 @@
 -- How large the region of a word is at most.
-use Rattle.std.proofs.Common.{◌≡◌, ℕ, ◌≤◌, Bool, arith}
+use Rattle.std.proofs.Common.{ℕ, ◌≤◌, Bool, arith}
 use Rattle.std.proofs.lemmas.Bool.Decides.{nat_tests}
 use Rattle.geometry.specs.Tables.{IsGranule, most_left, class_of}
 use Rattle.geometry.specs.Runs.{leaf_class}

@@ -1,13 +1,12 @@
 -- The rows of a whole step.
-use Rattle.std.proofs.Common.{◌≡◌, ℕ, ◌<◌, Bool, true, false, cond, List, [], ◌∷◌, ◌++◌, append-nil, length, take, drop, fold, refl, sym, ap, ◌∙◌, subst, Option, Some, None, arith}
-use Rattle.std.specs.Prelude.{◌&&◌, ◌/◌, ◌%◌, ◌^◌, ◌≤◌, option_map}
+use Rattle.std.proofs.Common.{◌≡◌, ℕ, ◌<◌, true, false, cond, List, [], ◌∷◌, ◌++◌, length, take, drop, fold, refl, sym, ap, ◌∙◌, subst, Option, Some, None, arith}
+use Rattle.std.specs.Prelude.{◌/◌, ◌%◌, ◌^◌, ◌≤◌, option_map}
 use Rattle.geometry.specs.Tables.{most_left, level_of}
 use Rattle.kept_items.proofs.StartTables.{base1_sound}
 use Rattle.std.specs.Option.{option_or}
-use Rattle.std.proofs.lemmas.Bool.{both_ways, and_parts}
+use Rattle.std.proofs.lemmas.Bool.{and_parts}
 use Rattle.std.proofs.lemmas.List.{take_all}
 use Rattle.sysregs.specs.declared.regs.Regs.{Regs}
-use Rattle.sysregs.specs.declared.regs.Config.{Config}
 use Rattle.sysregs.specs.Registers.{config_of}
 use Rattle.sysregs.specs.Sides.{side_of}
 use Rattle.fault_codes.specs.declared.fault.Stage.{Stage}
@@ -16,23 +15,20 @@ use Rattle.trails.specs.declared.item.Item.{Item}
 use Rattle.trails.specs.declared.item.What.TheVariants.{Base, Word}
 use Rattle.trails.specs.declared.outcome.Access.{Access}
 use Rattle.tlbi_ops.specs.Covers.{is_stage1}
-use Rattle.walk_spec.specs.declared.region.Region.{Region}
 use Rattle.walk_spec.specs.Ask.{Ask, done, ask, Fed, ended, lacks}
-use Rattle.walk_spec.specs.Needs.{Regime, regime_of, sizes_of, Need, stage1_base, stage2_base, word, fits}
+use Rattle.walk_spec.specs.Needs.{Regime, sizes_of, Need, stage1_base, stage2_base, word}
 use Rattle.walk_spec.specs.Steps.{End, stops, reaches}
 use Rattle.walk_spec.specs.Stage1.{untagged}
 use Rattle.walk_spec.specs.BothStages.{Landing, asked, walk}
 use Rattle.walk_laws.proofs.Shifts.{of_fields}
 use Rattle.translate.specs.Replayed.{stands_whole}
-use Rattle.tagged_tlb.specs.declared.row.Kind.TheVariants.{Leaf1 as OfLeaf1}
-use Rattle.machine_spec.specs.Marks.{Mark, marks, is_first, is_leaf, is_leaf1, is_global, tag_by}
-use Rattle.machine_spec.specs.Made.{Maker, is_read_now, row_of, leaf_row, leaf_rows, last_first, rows_of, combined_rows, numbered, rows_made}
+use Rattle.machine_spec.specs.Marks.{Mark, marks, is_first, is_leaf, is_leaf1}
+use Rattle.machine_spec.specs.Made.{Maker, is_read_now, leaf_row, leaf_rows, last_first, rows_of, combined_rows, numbered, rows_made}
 use Rattle.machine_laws.proofs.Trees.{IsOn}
 use Rattle.machine_laws.proofs.MarksOf.{fits_word_parts, fits_base1_parts, fits_base2_parts}
 use Rattle.served_walk.proofs.Ties.{ends_on, needs_on}
 use Rattle.made_rows.specs.declared.gather.Stand.{Stand}
 use Rattle.made_rows.specs.declared.making.NewRow.{NewRow}
-use Rattle.made_rows.specs.Met.{met}
 use Rattle.made_rows.specs.Sized.{is_sized}
 use Rattle.made_rows.specs.Pieces.{after1, after2, IsPiece, smaller_of}
 use Rattle.made_rows.specs.NewRows.{MadeFor, maker_for, regime_for, row_from, rows_from, one_from, IsKnown, AreKnown, IsLeaf, IsLeafRow, HasLeaf, is_new_leaf, met_in, is_mapped, StandsTo, AreMade}

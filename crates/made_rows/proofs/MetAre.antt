@@ -1,15 +1,14 @@
 -- The items of a trail are what its walk met them as.
-use Rattle.std.proofs.Common.{◌≡◌, ℕ, Bool, true, false, cond, List, [], ◌∷◌, refl, sym, ap, ◌∙◌}
-use Rattle.std.specs.Prelude.{◌&&◌}
-use Rattle.geometry.specs.Tables.{most_left, left_below}
+use Rattle.std.proofs.Common.{◌≡◌, ℕ, true, false, cond, List, [], ◌∷◌, refl, sym, ap, ◌∙◌}
+use Rattle.geometry.specs.Tables.{left_below}
 use Rattle.fault_codes.specs.declared.fault.Stage.{Stage}
 use Rattle.fault_codes.specs.declared.fault.Stage.TheVariants.{S1, S2}
 use Rattle.trails.specs.declared.item.Item.{Item}
-use Rattle.trails.specs.declared.item.What.TheVariants.{Base, Word}
+use Rattle.trails.specs.declared.item.What.TheVariants.{Word}
 use Rattle.walk_spec.specs.Ask.{Ask, done, ask}
-use Rattle.walk_spec.specs.Needs.{Regime, Need, stage1_base, stage2_base, word, WordNeed, fits, is_base, stage_eq}
+use Rattle.walk_spec.specs.Needs.{Regime, Need, stage1_base, stage2_base, word, WordNeed, fits}
 use Rattle.stage2_walk.proofs.Starts.{left_below_of}
-use Rattle.machine_spec.specs.Marks.{Mark, mark, mark_base, marks}
+use Rattle.machine_spec.specs.Marks.{Mark, mark, marks}
 use Rattle.machine_laws.proofs.Trees.{IsOn}
 use Rattle.machine_laws.proofs.MarksOf.{fits_word_parts, fits_base1_parts, fits_base2_parts}
 use Rattle.served_walk.specs.Spots.{mark_of_word}

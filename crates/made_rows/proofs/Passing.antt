@@ -19,17 +19,14 @@ use Rattle.walk_spec.specs.Stage1.{untagged}
 use Rattle.stage2_walk.proofs.Starts.{left_below_of}
 use Rattle.tagged_tlb.specs.declared.row.Kind.TheVariants.{Leaf1 as OfLeaf1, Table1 as OfTable1, Leaf2 as OfLeaf2, Table2 as OfTable2}
 use Rattle.tagged_tlb.specs.declared.row.Row.{Row}
-use Rattle.machine_spec.specs.Marks.{Part, nothing, table, leaf_of_stage1, leaf_of_stage2, Mark, mark, part1, part2, part_of, is_first, is_leaf, is_leaf1, is_global, tag_by}
+use Rattle.machine_spec.specs.Marks.{Part, nothing, table, leaf_of_stage1, leaf_of_stage2, Mark, mark, part1, part2, part_of, is_first, is_leaf, is_global}
 use Rattle.machine_spec.specs.Made.{Maker, is_read_now, row_of, rows_by}
-use Rattle.made_rows.specs.declared.gather.Stand.{Stand}
 use Rattle.made_rows.specs.declared.making.NewRow.{NewRow}
-use Rattle.made_rows.specs.declared.word.Means.{Means}
 use Rattle.made_rows.specs.declared.word.Means.TheVariants.{Nothing, Table, Leaf1, Leaf2}
 use Rattle.made_rows.specs.declared.word.Word.{Word}
 use Rattle.made_rows.specs.Met.{goes_by_word, goes_by_item, address_by, next_goal}
-use Rattle.made_rows.specs.Pieces.{after1, after2}
 use Rattle.made_rows.specs.Words.{means_by, goal_at, word_at}
-use Rattle.made_rows.specs.NewRows.{MadeFor, maker_for, regime_for, row_from, one_from, TellsMark, is_new_leaf, IsLeaf, IsLeafRow, HasLeaf, rows_now, mark_in, Passed}
+use Rattle.made_rows.specs.NewRows.{MadeFor, maker_for, regime_for, row_from, one_from, TellsMark, is_new_leaf, IsLeaf, rows_now, mark_in, Passed}
 
 -- WHAT A WORD IS, BACK FROM CODE
 

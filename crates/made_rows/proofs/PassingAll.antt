@@ -1,24 +1,22 @@
 -- All items of a trail are passed.
-use Rattle.std.proofs.Common.{◌≡◌, ℕ, zero, suc, ◌+◌, ◌≤◌, Bool, true, false, cond, List, [], ◌∷◌, ◌++◌, append_assoc, append-nil, length, take, drop, map, fold, refl, sym, ap, ◌∙◌, subst, Option, Some, None, arith}
+use Rattle.std.proofs.Common.{◌≡◌, ℕ, ◌+◌, ◌≤◌, Bool, true, false, cond, List, [], ◌∷◌, ◌++◌, append_assoc, append-nil, length, take, drop, fold, refl, sym, ap, ◌∙◌, subst, Option, Some, None, arith}
 use Rattle.std.specs.Prelude.{get_or, ◌<◌, ◌%◌, ◌^◌}
 use Rattle.std.proofs.lemmas.List.{drop_more, drop_all}
 use Rattle.fault_codes.specs.declared.fault.Stage.{Stage}
-use Rattle.fault_codes.specs.declared.fault.Stage.TheVariants.{S1, S2}
 use Rattle.trails.specs.declared.item.Item.{Item}
 use Rattle.trails.specs.declared.item.What.{What}
 use Rattle.trails.specs.declared.item.What.TheVariants.{Base, Word}
 use Rattle.walk_spec.specs.Needs.{Regime}
 use Rattle.walk_spec.specs.Stage1.{untagged}
-use Rattle.tagged_tlb.specs.declared.row.Row.{Row}
 use Rattle.machine_spec.specs.Marks.{Mark, mark}
-use Rattle.machine_spec.specs.Made.{Maker, is_read_now, rows_by, rows_of}
+use Rattle.machine_spec.specs.Made.{Maker, is_read_now, rows_by}
 use Rattle.served_walk.specs.Spots.{Spot, spots, rows_at, start_with, mark_of_word}
 use Rattle.served_walk.proofs.Gathers.{items_of, rows_placed}
 use Rattle.made_rows.specs.declared.gather.Stand.{Stand}
 use Rattle.made_rows.specs.declared.making.NewRow.{NewRow}
-use Rattle.made_rows.specs.Met.{mark_for, open_ipa, next_goal, met}
+use Rattle.made_rows.specs.Met.{open_ipa, next_goal, met}
 use Rattle.made_rows.specs.Pieces.{after1, after2}
-use Rattle.made_rows.specs.NewRows.{MadeFor, maker_for, regime_for, row_from, rows_from, one_from, IsKnown, AreKnown, HasLeaf, rows_now, mark_in, met_in, Passed, PassedAll}
+use Rattle.made_rows.specs.NewRows.{MadeFor, maker_for, regime_for, row_from, rows_from, one_from, IsKnown, AreKnown, HasLeaf, mark_in, met_in, Passed, PassedAll}
 
 -- the item of a mark
 word_item : (r : Regime) (s : Stage) (x : ℕ) (i : Item) (w : What) → (mark_of_word r s x i w).item ≡ i

@@ -4,7 +4,6 @@ use Rattle.std.specs.Prelude.{◌&&◌, ◌||◌, not, fold}
 use Rattle.std.specs.Option.{option_or}
 use Rattle.geometry.specs.Tables.{most_left}
 use Rattle.permissions.specs.Rights.{no_bits, is_allowed1, is_allowed2, is_uxn}
-use Rattle.sysregs.specs.declared.regs.Config.{Config}
 use Rattle.fault_codes.specs.declared.fault.Stage.TheVariants.{S1, S2}
 use Rattle.fault_codes.specs.declared.fault.Fault.{Fault}
 use Rattle.fault_codes.specs.declared.fault.Class.TheVariants.{Translation, AddressSize, Permission}
@@ -14,7 +13,6 @@ use Rattle.descriptors.specs.declared.kinds.Kind2.{Kind2}
 use Rattle.descriptors.specs.declared.kinds.Kind2.TheVariants.{Invalid as Invalid2, Table as Table2, Leaf as Leaf2Kind}
 use Rattle.descriptors.specs.Meaning.{means1_of, means2_of}
 use Rattle.trails.specs.declared.item.Item.{Item}
-use Rattle.trails.specs.declared.outcome.Access.{Access}
 use Rattle.table_reads.specs.declared.lead.Lead.{Lead}
 use Rattle.table_reads.specs.declared.lead.Lead.TheVariants.{Down, Reached, Stopped}
 use Rattle.table_reads.specs.Places.{is_too_large}
@@ -24,7 +22,7 @@ use Rattle.walk_spec.specs.declared.leaf.Leaf1.{Leaf1}
 use Rattle.walk_spec.specs.declared.leaf.Leaf2.{Leaf2}
 use Rattle.walk_spec.specs.declared.leaf.Fields1.{Fields1}
 use Rattle.walk_spec.specs.Ask.{Ask, done, ask, after, go_on, finer}
-use Rattle.walk_spec.specs.Needs.{Regime, Need, stage1_base, stage2_base, word, mapping1, mapping2, mapping_of, class_by}
+use Rattle.walk_spec.specs.Needs.{Regime, Need, stage1_base, stage2_base, mapping1, mapping2, mapping_of, class_by}
 use Rattle.walk_spec.specs.Steps.{End, stops, reaches, step_then}
 use Rattle.walk_spec.specs.Stage2.{Asked2, fault2, step2, step2_by, walk2, walk2_from, walk2_behind, is_refused2}
 use Rattle.walk_spec.specs.Stage1.{Asked, asked2, fault1, leaf1_of, step1, step1_by, entry1, walk1_from, is_readable, read1, read1_by, word_of, stage1_from}
@@ -33,12 +31,9 @@ use Rattle.machine_spec.specs.Marks.{Mark, mark, marks, is_first}
 use Rattle.machine_spec.specs.Made.{last_first}
 use Rattle.machine_laws.proofs.Trees.{IsOn}
 use Rattle.made_rows.specs.Pieces.{after1, after2, IsPiece}
+use Rattle.made_rows.proofs.Steady.{cond_reached, down_not}
 
 -- THE CLASS OF A LEAF IS THAT OF ITS WORD'S REGION
-
-cond_stop : {L T : Type 0} (b : Bool) (f : Fault) (x : Lead L T) (l : L) → cond b (Stopped f) x ≡ Reached l → x ≡ Reached l
-cond_stop true f x l h = absurd cc
-cond_stop false f x l h = h
 
 abbrev class2_in : Lead Leaf2 ℕ → ℕ
 class2_in (Down t) = 0
@@ -56,15 +51,11 @@ Found1 l = Reached l
 same_class1 : (x l : Leaf1) → Found1 x ≡ Found1 l → l.class ≡ x.class
 same_class1 x l h = sym (ap class1_in h)
 
-down_not : {L T : Type 0} (b : Bool) (f : Fault) (t : T) (l : L) (P : Type 0) → cond b (Stopped f) (Down t) ≡ Reached l → P
-down_not true f t l P h = absurd cc
-down_not false f t l P h = absurd cc
-
 reached2_by : (q : Asked2) (left pa : ℕ) (kind : Kind2) (l : Leaf2) → step2_by q left pa kind ≡ Reached l → l.class ≡ class_by (mapping2 kind) q.sizes left pa
 reached2_by q left pa Invalid2 l h = absurd cc
 reached2_by q left pa (Table2 t) l h = down_not (is_too_large q.sizes t) (fault2 q AddressSize left) t l _ h
 reached2_by q left pa (Leaf2Kind out mem_attr read write xn sh af dbm contiguous) l h =
-    sym (ap class2_in (cond_stop (not (af || q.config.ha2)) _ _ l (cond_stop (is_too_large q.sizes out) _ _ l h)))
+    sym (ap class2_in (cond_reached (not (af || q.config.ha2)) _ _ l (cond_reached (is_too_large q.sizes out) _ _ l h)))
 
 reached2 : (q : Asked2) (left pa v : ℕ) (l : Leaf2) → step2 q left pa v ≡ Reached l → l.class ≡ class_by (mapping2 (means2_of q.config left v)) q.sizes left pa
 unfolding step2
@@ -77,9 +68,9 @@ reached1_by q e pa (Table t bits) l h = down_not (is_too_large q.regime.stage1 t
 reached1_by q e pa (Leaf out attr_index bits sh af global contiguous) l h =
     let fields : Fields1 = record { out = out; attr_index = attr_index; sh = sh; bits = bits; global = global; contiguous = contiguous } in
     let leaf : Leaf1 = leaf1_of q.regime e pa fields in
-    let g = cond_stop (not (af || q.regime.config.ha1)) _ _ l (cond_stop (is_too_large q.regime.stage1 out) _ _ l h) in
+    let g = cond_reached (not (af || q.regime.config.ha1)) _ _ l (cond_reached (is_too_large q.regime.stage1 out) _ _ l h) in
     let no_access : Bool = not (is_allowed1 leaf.perms (is_uxn bits e.table.bits) q.access.el q.access.kind q.access.pan q.regime.config.epan) in
-    same_class1 leaf l (cond_stop (q.judged && no_access) (fault1 Permission e.left) (Reached leaf) l g)
+    same_class1 leaf l (cond_reached (q.judged && no_access) (fault1 Permission e.left) (Reached leaf) l g)
 
 reached1 : (q : Asked) (e : Entry1) (pa v : ℕ) (l : Leaf1) → step1 q e pa v ≡ Reached l →
     l.class ≡ class_by (mapping_of q.regime S1 e.left v) q.regime.stage1 e.left pa

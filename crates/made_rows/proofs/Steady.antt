@@ -1,7 +1,6 @@
 -- The words of a walk are read for the address of the access and for the IPA of the chain that stands open.
-use Rattle.std.proofs.Common.{◌≡◌, ℕ, zero, suc, ◌≤◌, Bool, true, false, not, cond, List, [], ◌∷◌, refl, sym, ap, ◌∙◌, arith, Result, Ok, Err}
+use Rattle.std.proofs.Common.{◌≡◌, ℕ, zero, suc, ◌≤◌, Bool, true, false, not, cond, refl, sym, ap, ◌∙◌, arith, Result, Ok, Err}
 use Rattle.std.specs.Prelude.{◌&&◌, ◌||◌, ◌-◌, ◌%◌, ◌^◌}
-use Rattle.std.proofs.lemmas.Bool.{both_ways}
 use Rattle.geometry.specs.Tables.{most_left, left_below}
 use Rattle.sysregs.specs.declared.regs.Config.{Config}
 use Rattle.sysregs.specs.Sides.{side_of}
@@ -23,7 +22,7 @@ use Rattle.walk_spec.specs.Needs.{Regime, sizes_of, Need, stage1_base, stage2_ba
 use Rattle.walk_spec.specs.Steps.{End, stops, reaches, step_then}
 use Rattle.walk_spec.specs.Stage2.{fault2, step2, walk2, walk2_from, walk2_behind, is_refused2}
 use Rattle.walk_spec.specs.Stage1.{Asked, asked2, fault1, leaf1_of, judged1, step1, step1_by, entry1, walk1_from, is_readable, read1, read1_by, word_of, stage1_from, untagged}
-use Rattle.walk_spec.specs.BothStages.{Landing, landed, judged2, asked, walk, walk_by, stage1, stage1_on, stage1_off, stage1_behind, stage2_behind, is_refused1, is_refused_off, off_leaf}
+use Rattle.walk_spec.specs.BothStages.{Landing, landed, judged2, walk_by, stage1, stage1_on, stage1_off, stage1_behind, stage2_behind, is_refused1, is_refused_off, off_leaf}
 use Rattle.walk_laws.proofs.Sound.{IsOfFields, sound1, sound2}
 use Rattle.table_reads.specs.Places.{place_of, is_too_large}
 use Rattle.fault_codes.specs.declared.fault.Class.TheVariants.{Translation, AddressSize, AccessFlag, Permission}
@@ -107,7 +106,7 @@ cond_down : {L T : Type 0} (b : Bool) (f : Fault) (s : Lead L T) (t : T) → con
 cond_down true f s t h = absurd cc
 cond_down false f s t h = h
 
-cond_reached : {L T : Type 0} (b : Bool) (f : Fault) (s : Lead L T) (l : L) → cond b (Stopped f) s ≡ Reached l → s ≡ Reached l
+pub cond_reached : {L T : Type 0} (b : Bool) (f : Fault) (s : Lead L T) (l : L) → cond b (Stopped f) s ≡ Reached l → s ≡ Reached l
 cond_reached true f s l h = absurd cc
 cond_reached false f s l h = h
 
@@ -115,7 +114,7 @@ reached_not : {L T : Type 0} (b : Bool) (f : Fault) (l : L) (t : T) (P : Type 0)
 reached_not true f l t P h = absurd cc
 reached_not false f l t P h = absurd cc
 
-down_not : {L T : Type 0} (b : Bool) (f : Fault) (t : T) (l : L) (P : Type 0) → cond b (Stopped f) (Down t) ≡ Reached l → P
+pub down_not : {L T : Type 0} (b : Bool) (f : Fault) (t : T) (l : L) (P : Type 0) → cond b (Stopped f) (Down t) ≡ Reached l → P
 down_not true f t l P h = absurd cc
 down_not false f t l P h = absurd cc
 
@@ -196,10 +195,10 @@ module _ (q : Asked) (fields : IsOfFields q.regime) (side : q.regime.side ≡ si
       (λ h. (
         is,
         λ i.
-        let s = sound2 R x fields h in
-        steady_if R V (Keeps goal) x goal (is_too_large R.stage2 i.value) (done (stops (fault2 (asked2 R p x) AddressSize most_left)))
-        (walk2_from (asked2 R p x) R.stage2.start i.value) (λ _. refl)
-        (λ _. steady_from2 R V p x goal (accepted2 R.config x h) s.0.start R.stage2.start i.value (omega arith)),
+            let s = sound2 R x fields h in
+            steady_if R V (Keeps goal) x goal (is_too_large R.stage2 i.value) (done (stops (fault2 (asked2 R p x) AddressSize most_left)))
+            (walk2_from (asked2 R p x) R.stage2.start i.value) (λ _. refl)
+            (λ _. steady_from2 R V p x goal (accepted2 R.config x h) s.0.start R.stage2.start i.value (omega arith)),
       ))
 
   -- a word of stage 1 that was had, by which stage 1 goes on

@@ -1,10 +1,8 @@
-use Rattle.std.proofs.Common.{◌≡◌, ℕ, ◌+◌, Bool, true, false, cond, Some, None, Option, refl, sym, ap, ◌∙◌, subst, drop, take, List, inl, inr}
-use Rattle.fault_codes.specs.declared.fault.Stage.TheVariants.{S2}
+use Rattle.std.proofs.Common.{◌≡◌, true, Some, sym, ◌∙◌, subst, inl, inr}
 use Rattle.trails.specs.declared.item.Item.{Item}
 use Rattle.made_rows.specs.declared.gather.Stand.{Stand}
-use Rattle.made_rows.specs.declared.making.NewRow.{NewRow}
 use Rattle.made_rows.specs.Sized.{is_sized}
-use Rattle.made_rows.specs.NewRows.{maker_for, regime_for, IsKnown, mark_in, MadeFor, Passed, row_from, TellsMark}
+use Rattle.made_rows.specs.NewRows.{regime_for, mark_in, MadeFor, Passed}
 use Rattle.made_rows.proofs.Passing
 use Rattle.made_rows.proofs.gather.pass_word2.Goals as goal
 

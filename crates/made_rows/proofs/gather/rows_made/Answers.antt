@@ -1,8 +1,7 @@
-use Rattle.std.proofs.Common.{◌≡◌, ℕ, Bool, true, false, List, [], ◌∷◌, ◌++◌, append-nil, fold, refl, sym, ap, ◌∙◌, subst, Some, None, Option}
+use Rattle.std.proofs.Common.{◌≡◌, List, [], ◌++◌, append-nil, fold, refl, sym, ap, ◌∙◌, subst, None}
 use Rattle.trails.specs.declared.item.Item.{Item}
 use Rattle.trails.specs.declared.outcome.Access.{Access}
 use Rattle.sysregs.specs.declared.regs.Regs.{Regs}
-use Rattle.made_rows.specs.declared.gather.Stand.{Stand}
 use Rattle.made_rows.specs.declared.making.NewRow.{NewRow}
 use Rattle.walk_spec.specs.Stage1.{untagged}
 use Rattle.machine_spec.specs.Made.{leaf_rows}
