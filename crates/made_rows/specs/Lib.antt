@@ -1,0 +1,16 @@
+pub use Rattle.sysregs.specs.Registers
+pub use Rattle.table_reads.specs.Numbers
+pub use Rattle.table_reads.specs.Places
+pub use Rattle.walk_spec.specs.Needs
+pub use Rattle.walk_spec.specs.Stage1
+pub use Rattle.walk_spec.specs.BothStages
+pub use Rattle.walk_spec.specs.Ask
+pub use Rattle.walk_spec.specs.Steps
+pub use Rattle.translate.specs.Replayed
+pub use Rattle.machine_spec.specs.Made
+pub use Rattle.machine_spec.specs.Marks
+pub mod Met
+pub mod Sized
+pub mod Pieces
+pub mod Words
+pub mod NewRows

@@ -1,0 +1,10 @@
+//! The rows that a step makes, told from its trail.
+#![tactic(auto)]
+
+mod gather;
+mod making;
+mod word;
+
+pub use gather::{Stand, Walked, rows_made};
+pub use making::NewRow;
+pub use word::{Means, Word};
