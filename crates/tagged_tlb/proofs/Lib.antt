@@ -4,6 +4,7 @@ pub mod Ties
 pub mod Adds
 pub mod Touches
 pub mod Order
+pub mod Stands
 pub mod Finds
 pub mod Deepest
 pub mod Heads

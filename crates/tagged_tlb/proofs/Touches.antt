@@ -13,7 +13,7 @@ use Rattle.tagged_tlb.proofs.Lists.{filter-without, filter-other, filter-more, f
 use Rattle.tagged_tlb.specs.Rows.{same_kind}
 use Rattle.tagged_tlb.proofs.Ties.{apart_set, apart_kind, set_tied, kept_tied}
 
-itself : (r : Row) → is_row r r ≡ true
+pub itself : (r : Row) → is_row r r ≡ true
 itself r = and_from (r.made.step == r.made.step) (r.made.order == r.made.order) (eq-eqb r.made.step r.made.step refl) (eq-eqb r.made.order r.made.order refl)
 
 eqb_turned : (a b : ℕ) → (a == b) ≡ (b == a)

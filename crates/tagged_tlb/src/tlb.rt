@@ -1,5 +1,5 @@
 //! The sets of one kind of rows.
-ghost use Rattle.std.specs.Prelude.{◌≡◌, ℕ, ◌<◌, ◌≤◌, ◌^◌, List, [], ◌∷◌, ◌++◌, not, length, get_or, map, filter, replicate, IfOk, take, option_map, false};
+ghost use Rattle.std.specs.Prelude.{◌≡◌, ℕ, ◌<◌, ◌≤◌, ◌^◌, List, [], ◌∷◌, ◌++◌, not, length, get_or, map, filter, replicate, IfOk, take, option_map, false, IfSome};
 ghost use Rattle.trace_lang.specs.Traces.{Header};
 ghost use Rattle.tlbi_ops.specs.Covers.{covers};
 ghost use Rattle.tagged_tlb.specs.declared.row.Row as declared_row;
@@ -7,14 +7,15 @@ ghost use Rattle.tagged_tlb.specs.declared.row.Kind as declared_kind;
 ghost use Rattle.tagged_tlb.specs.Shapes.{shape, shape_of};
 ghost use Rattle.tagged_tlb.specs.Rows.{matching, deepest};
 ghost use Rattle.tagged_tlb.specs.Sets.{Cache, added, to_end};
-ghost use Rattle.tagged_tlb.specs.Found.{found_rows, slot_row, AreWithin, IsWithin, MayBeWithin};
+ghost use Rattle.tagged_tlb.specs.Found.{found_rows, seen_row, slot_row, AllSeen, AreWithin, IsWithin, MayBeWithin};
+ghost use Rattle.tagged_tlb.specs.Stands.{Stands};
 ghost use Rattle.tagged_tlb.specs.Tied.{IsTied, IsAdded, IsAt, AreToldApart, AreSmall, row_at, is_sought};
 ghost use Rattle.tagged_tlb.specs.Classes;
 ghost use Rattle.tagged_tlb.specs.Classes.{AreMarked, AreEmpty};
 
 use crate::chooser::Chooser;
-use crate::found::{Found, Slot};
-use crate::row::{Row, Sought};
+use crate::found::{Found, Seen, Slot};
+use crate::row::{Made, Row, Sought};
 use crate::set::Set;
 use std::alloc::{AllocError, Global};
 use std::marker::Model;
@@ -81,6 +82,8 @@ fn search<const SETS: usize, const WAYS: usize>(
     requires sets { length sets.now ≡ SETS }
     requires marked { AreMarked classes sets.now }
     ensures within { AreWithin sets.now result }
+    ensures stand { (d : declared_row.Row) → (kind : declared_kind.Kind) → (live : List declared_row.Row) → AreToldApart live →
+        IsTied kind SETS live sets.now → AllSeen (λ s. Stands kind SETS s.slot.set s.made live (seen_row d sets.now s)) result }
     ensures best { (d : declared_row.Row) → (kind : declared_kind.Kind) → (live : List declared_row.Row) → AreToldApart live → AreSmall live →
         IsTied kind SETS live sets.now → found_rows d sets.now result ≡ take 2 (matching (is_sought kind sought) live) }
 {
@@ -100,20 +103,26 @@ fn search_deepest<const SETS: usize, const WAYS: usize>(
     sets: &[Set<WAYS>],
     classes: u64,
     sought: Sought,
-) -> Option<Slot>
+) -> Option<Seen>
     requires some { 0 < SETS }
     requires sets { length sets.now ≡ SETS }
     requires marked { AreMarked classes sets.now }
     ensures within { MayBeWithin sets.now result }
+    ensures stands { (d : declared_row.Row) → (kind : declared_kind.Kind) → (live : List declared_row.Row) → IsTied kind SETS live sets.now →
+        IfSome result (λ s. Stands kind SETS s.slot.set s.made live (seen_row d sets.now s)) }
     ensures least { (d : declared_row.Row) → (kind : declared_kind.Kind) → (live : List declared_row.Row) → AreToldApart live → AreSmall live →
-        IsTied kind SETS live sets.now → option_map (slot_row d sets.now) result ≡ deepest (is_sought kind sought) live }
+        IsTied kind SETS live sets.now → option_map (seen_row d sets.now) result ≡ deepest (is_sought kind sought) live }
 {
     for class in 0..end_of(classes) {
         if is_marked(classes, class) {
             let start = sought.at >> class;
             let set = (start % SETS as u64) as usize;
             match sets[set].first_way(&sought, class, start) {
-                Some(way) => return Some(Slot { set, way }),
+                Some(way) => {
+                    let made = sets[set].made(way);
+                    let slot = Slot { set, way };
+                    return Some(Seen { slot, made });
+                }
                 None => {}
             }
         }
@@ -186,10 +195,27 @@ impl<const SETS: usize, const WAYS: usize> Tlb<SETS, WAYS> {
         set.touch(slot.way);
     }
 
+    /// The row of a set that was made so goes last. Where the set has none, nothing changes.
+    pub fn touch_made(&mut self, set: usize, made: Made)
+        requires { 0 < SETS }
+        ensures { (kind : declared_kind.Kind) → (live : List declared_row.Row) → (row : declared_row.Row) → AreToldApart live →
+            IsTied kind SETS live self.old → Stands kind SETS set made live row → IsTied kind SETS (to_end live row) self.new }
+    {
+        if set >= self.sets.len() {
+            return;
+        }
+        match self.sets[set].way_of(made) {
+            Some(way) => self.touch(Slot { set, way }),
+            None => {}
+        }
+    }
+
     /// The rows that match: none, one, or the two that were made first.
     pub fn find(&self, sought: &Sought) -> Found
         requires { 0 < SETS }
         ensures within { AreWithin self.now result }
+        ensures stand { (d : declared_row.Row) → (kind : declared_kind.Kind) → (live : List declared_row.Row) → AreToldApart live →
+            IsTied kind SETS live self.now → AllSeen (λ s. Stands kind SETS s.slot.set s.made live (seen_row d self.now s)) result }
         ensures best { (d : declared_row.Row) → (kind : declared_kind.Kind) → (live : List declared_row.Row) → AreToldApart live → AreSmall live →
             IsTied kind SETS live self.now → found_rows d self.now result ≡ take 2 (matching (is_sought kind sought.now) live) }
     {
@@ -197,11 +223,13 @@ impl<const SETS: usize, const WAYS: usize> Tlb<SETS, WAYS> {
     }
 
     /// The row of the smallest region that matches.
-    pub fn deepest(&self, sought: &Sought) -> Option<Slot>
+    pub fn deepest(&self, sought: &Sought) -> Option<Seen>
         requires { 0 < SETS }
         ensures within { MayBeWithin self.now result }
+        ensures stands { (d : declared_row.Row) → (kind : declared_kind.Kind) → (live : List declared_row.Row) → IsTied kind SETS live self.now →
+            IfSome result (λ s. Stands kind SETS s.slot.set s.made live (seen_row d self.now s)) }
         ensures least { (d : declared_row.Row) → (kind : declared_kind.Kind) → (live : List declared_row.Row) → AreToldApart live → AreSmall live →
-            IsTied kind SETS live self.now → option_map (slot_row d self.now) result ≡ deepest (is_sought kind sought.now) live }
+            IsTied kind SETS live self.now → option_map (seen_row d self.now) result ≡ deepest (is_sought kind sought.now) live }
     {
         search_deepest::<SETS, WAYS>(self.sets.as_slice(), self.classes, *sought)
     }
