@@ -75,7 +75,7 @@ module _ (k : Kind) (n : ℕ) (live : List Row) (d : Row) (sets : List (List Row
 
 -- A ROW OF THE LIST BY ITS MAKING
 
-other_in : (r s : Row) (rows : List Row) → IsOther r rows → In s rows → is_row r s ≡ false
+pub other_in : (r s : Row) (rows : List Row) → IsOther r rows → In s rows → is_row r s ≡ false
 other_in r s [] o i = absurd i
 other_in r s (x ∷ rows) o (inl e) = subst (λ (v : Row). is_row r v ≡ false) (sym e) o.0
 other_in r s (x ∷ rows) o (inr i) = other_in r s rows o.1 i

@@ -40,7 +40,7 @@ other_at y [] k d o h = absurd (omega (arith, h))
 other_at y (s ∷ ys) zero d o h = o.0
 other_at y (s ∷ ys) (suc k) d o h = other_at y ys k d o.1 (omega (arith, h))
 
-all_kept : (y : Row) (ys : List Row) → IsOther y ys → filter (λ x. not (is_row y x)) ys ≡ ys
+pub all_kept : (y : Row) (ys : List Row) → IsOther y ys → filter (λ x. not (is_row y x)) ys ≡ ys
 all_kept y [] o = refl
 all_kept y (s ∷ ys) o = rw o.0 (ap (λ v. s ∷ v) (all_kept y ys o.1))
 
