@@ -14,5 +14,9 @@ loop-service-preserved g c = λ size live served fits told f are.
     let h = c.loop-service.invariant size live served fits told f are in
     let none : Service = record { set = 0; made = record { step = 0; order = 0 }; kind = Leaf1 } in
     let one : Service = get_or all i none in
-    let n = next size live served h.0 one (drop (i + 1) all) (subst (IsLeft size live served h.0) (drop_more all i none c.loop-service-test.true) h.2) in
-    (to_end h.0 n.0, c.touch.ensures size h.0 n.0 fits h.2.told h.1 (subst (λ (v : Service). IsService size h.0 v n.0) (get_or_default all i none _ c.loop-service-test.true) n.1), n.2)
+    let n = next size live served h.0 one (drop (i + 1) all) (subst (IsLeft size live served h.0) (drop_more all i none c.loop-service-test.true) h.2) in (
+      to_end h.0 n.0,
+      c.touch.ensures size h.0 n.0 fits h.2.told h.1
+          (subst (λ (v : Service). IsService size h.0 v n.0) (get_or_default all i none _ c.loop-service-test.true) n.1),
+      n.2,
+    )
