@@ -9,3 +9,4 @@ pub mod Finds
 pub mod Deepest
 pub mod Heads
 pub mod Classes
+pub mod Staged

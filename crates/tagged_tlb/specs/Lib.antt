@@ -10,3 +10,4 @@ pub mod Stands
 pub mod Slots
 pub mod Found
 pub mod Classes
+pub mod Stages

@@ -17,28 +17,32 @@ use crate::chooser::Chooser;
 use crate::found::{Found, Seen, Slot};
 use crate::row::{Made, Row, Sought};
 use crate::set::Set;
+use crate::stages::{Stages, may_take, with_stage};
 use std::alloc::{AllocError, Global};
 use std::marker::Model;
 use tlbi_ops::Inval;
 use trails::Item;
 
-/// SETS sets of at most WAYS rows. `classes` has a bit for each class of which a row may be there.
+/// SETS sets of at most WAYS rows. `classes` has a bit for each class of which a row may be there, and `stages` says the same of
+/// stages.
 #[derive(Drop)]
 pub struct Tlb<const SETS: usize, const WAYS: usize> {
     sets: Vec<Set<WAYS>>,
     classes: u64,
+    stages: Stages,
 }
 
 impl<const SETS: usize, const WAYS: usize> Model for Tlb<SETS, WAYS> {
     ghost use Rattle.std.specs.Prelude.{◌≡◌, List, vec_len};
     ghost use Rattle.tagged_tlb.specs.declared.row.Row.{Row};
     ghost use Rattle.tagged_tlb.specs.Classes.{AreMarked};
+    ghost use Rattle.tagged_tlb.specs.Stages.{AreStaged};
 
     ghost Value = { List (List Row) };
 
     ghost view = { λ t. t.sets.items };
 
-    ghost invariant = { λ t. (vec_len t.sets ≡ SETS) × AreMarked t.classes t.sets.items };
+    ghost invariant = { λ t. (vec_len t.sets ≡ SETS) × AreMarked t.classes t.sets.items × AreStaged t.stages t.sets.items };
 }
 
 /// Whether a row of a class may be there.
@@ -141,7 +145,15 @@ impl<const SETS: usize, const WAYS: usize> Tlb<SETS, WAYS> {
             let set = Set::opened(alloc)?;
             sets.push_reserved(set);
         }
-        Ok(Tlb { sets, classes: 0 })
+        let stages = Stages {
+            stage1: false,
+            stage2: false,
+        };
+        Ok(Tlb {
+            sets,
+            classes: 0,
+            stages,
+        })
     }
 
     /// The rows that an invalidation covers go, told by the sets.
@@ -156,12 +168,15 @@ impl<const SETS: usize, const WAYS: usize> Tlb<SETS, WAYS> {
         }
     }
 
-    /// The rows that an invalidation covers go. A cache without rows costs nothing.
+    /// The rows that an invalidation covers go. A cache without rows costs nothing, nor does one without rows of the stages that
+    /// the operation takes.
     pub fn kill(&mut self, inval: &Inval)
         ensures { (kind : declared_kind.Kind) → (live : List declared_row.Row) → IsTied kind SETS live self.old →
             IsTied kind SETS (filter (λ r. not (covers inval.now r.tag)) live) self.new }
     {
-        self.kill_rows(inval);
+        if may_take(self.stages, inval) {
+            self.kill_rows(inval);
+        }
     }
 
     /// A row of a class below 64 is added where none would serve the same. Says whether a full set lost one.
@@ -176,12 +191,14 @@ impl<const SETS: usize, const WAYS: usize> Tlb<SETS, WAYS> {
     {
         let at = (row.region.start % SETS as u64) as usize;
         let class = row.region.class;
+        let stage = row.tag.stage;
         let set = &mut self.sets[at];
         if set.has(&row) {
             return false;
         }
         let lost = set.fill(row, by);
         self.classes |= 1 << class;
+        self.stages = with_stage(self.stages, stage);
         lost
     }
 

@@ -1,9 +1,9 @@
 -- Rows that come, move and go stay told apart, and their classes small.
-use Rattle.std.proofs.Common.{◌≡◌, ◌⊎◌, ℕ, zero, suc, ◌<◌, Bool, true, false, not, cond, List, [], ◌∷◌, ◌++◌, length, inl, inr, refl, ap, sym, ◌∙◌}
+use Rattle.std.proofs.Common.{◌≡◌, ◌⊎◌, ℕ, zero, suc, ◌<◌, Bool, true, false, not, cond, List, [], ◌∷◌, ◌++◌, length, inl, inr, refl, sym}
 use Rattle.std.proofs.Common.{subst, arith}
 use Rattle.std.specs.Prelude.{filter, fold, ◌+◌, ◌==◌, ◌&&◌, ◌||◌, nat_le, nat_lt}
 use Rattle.std.specs.List.{list_any}
-use Rattle.std.proofs.lemmas.Bool.{cases_Bool, both_ways, and_parts, or_parts, eqb-true, eq-eqb, ltb-true}
+use Rattle.std.proofs.lemmas.Bool.{cases_Bool, and_parts, eqb-true, ltb-true}
 use Rattle.trace_lang.specs.declared.header.Policy.{Policy}
 use Rattle.trace_lang.specs.declared.header.Policy.TheVariants.{Lru, Fifo, Random}
 use Rattle.trace_lang.specs.Traces.{Header}
@@ -12,7 +12,7 @@ use Rattle.tlbi_ops.specs.Covers.{covers}
 use Rattle.tagged_tlb.specs.declared.row.Row.{Row}
 use Rattle.tagged_tlb.specs.Rows.{is_older}
 use Rattle.tagged_tlb.specs.Shapes.{Shape, shape_of}
-use Rattle.tagged_tlb.specs.Sets.{Cache, victim, without, same_set, same_key, placed, added, is_row, to_end, touched}
+use Rattle.tagged_tlb.specs.Sets.{Cache, victim, without, same_set, same_key, added, is_row, to_end, touched}
 use Rattle.tagged_tlb.specs.Stands.{In}
 use Rattle.tagged_tlb.specs.Tied.{IsOther, AreToldApart, AreSmall}
 use Rattle.tagged_tlb.proofs.Order.{told_filter}
