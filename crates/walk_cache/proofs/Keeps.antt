@@ -11,20 +11,16 @@ use Rattle.tlbi_ops.specs.declared.inval.Inval.{Inval}
 use Rattle.tlbi_ops.specs.Covers.{covers}
 use Rattle.tagged_tlb.specs.declared.row.Row.{Row}
 use Rattle.tagged_tlb.specs.Rows.{is_older}
-use Rattle.tagged_tlb.specs.Shapes.{Shape, shape_of}
-use Rattle.tagged_tlb.specs.Sets.{Cache, victim, without, same_set, same_key, added, is_row, to_end, touched}
+use Rattle.tagged_tlb.specs.Shapes.{Shape, shape_of, keeps_rows}
+use Rattle.tagged_tlb.specs.Sets.{Cache, victim, without, same_set, same_key, added, is_row, to_end, touched, filled}
 use Rattle.tagged_tlb.specs.Stands.{In}
 use Rattle.tagged_tlb.specs.Tied.{IsOther, AreToldApart, AreSmall}
 use Rattle.tagged_tlb.proofs.Order.{told_filter}
+use Rattle.tagged_tlb.proofs.Stands.{other_in, in_whole}
 use Rattle.machine_spec.specs.Machine.{killed}
 use Rattle.walk_cache.proofs.Moves.{told_more, told_end}
 
 -- WHICH ROWS ARE LEFT
-
-in_if : {X : Type 0} (x y : X) (xs ys : List X) (b : Bool) → (In x ys → In x xs) → In x (cond b (y ∷ ys) ys) → In x (y ∷ xs)
-in_if x y xs ys true rest (inl e) = inl e
-in_if x y xs ys true rest (inr i) = inr (rest i)
-in_if x y xs ys false rest i = inr (rest i)
 
 in_first : {X : Type 0} (p : X → Bool) (x y : X) (xs : List X) (b : Bool) → (In x (without p xs zero) → In x xs)
     → In x (cond b xs (y ∷ without p xs zero)) → In x (y ∷ xs)
@@ -128,21 +124,12 @@ later_other x r h = elim (cases_Bool (is_row x r)) [
   | inr f2 ↦ f2
 ]
 
-told_if : (y : Row) (ys : List Row) (b : Bool) → IsOther y ys → AreToldApart ys → AreToldApart (cond b (y ∷ ys) ys)
-told_if y ys true o t = (o, t)
-told_if y ys false o t = t
-
 other_from : (y : Row) (ys : List Row) → ((x : Row) → In x ys → is_row y x ≡ false) → IsOther y ys
 other_from y [] h = tt
 other_from y (x ∷ ys) h = (h x (inl refl), other_from y ys (λ z i. h z (inr i)))
 
-other_to : (y x : Row) (ys : List Row) → IsOther y ys → In x ys → is_row y x ≡ false
-other_to y x [] o i = absurd i
-other_to y x (z ∷ ys) o (inl e) = subst (λ (v : Row). is_row y v ≡ false) (sym e) o.0
-other_to y x (z ∷ ys) o (inr i) = other_to y x ys o.1 i
-
 other_without : (p : Row → Bool) (y : Row) (ys : List Row) (n : ℕ) → IsOther y ys → IsOther y (without p ys n)
-other_without p y ys n o = other_from y (without p ys n) (λ x i. other_to y x ys o (in_without p x ys n i))
+other_without p y ys n o = other_from y (without p ys n) (λ x i. other_in y x ys o (in_without p x ys n i))
 
 told_first : (p : Row → Bool) (y : Row) (ys : List Row) (b : Bool) → AreToldApart ys → IsOther y (without p ys zero) → AreToldApart (without p ys zero)
     → AreToldApart (cond b ys (y ∷ without p ys zero))
@@ -203,3 +190,62 @@ module _ (h : Header) (core : ℕ) (r : Row) where
         | inl j ↦ small_at l.rows s x j
         | inr e ↦ subst (λ (v : Row). v.region.class < 64) (sym e) c
       ])
+
+-- A STEP
+
+-- what rows that serve leave was there
+in_end_back : (olds rows : List Row) (r x : Row) → ((y : Row) → In y rows → In y olds) → In r olds → In x (to_end rows r) → In x olds
+in_end_back olds rows r x w m i = elim (in_more x r (filter (λ y. not (is_row r y)) rows) i) [
+  | inl j ↦ w x (in_whole (λ y. not (is_row r y)) x rows j)
+  | inr e ↦ subst (λ (v : Row). In v olds) (sym e) m
+]
+
+in_ends : (olds rows served : List Row) → ((y : Row) → In y rows → In y olds) → ((y : Row) → In y served → In y olds) → (x : Row)
+    → In x (fold to_end rows served) → In x olds
+in_ends olds rows [] w m x i = w x i
+in_ends olds rows (r ∷ served) w m x i =
+    in_ends olds (to_end rows r) served (λ y j. in_end_back olds rows r y w (m r (inl refl)) j) (λ y j. m y (inr j)) x i
+
+pub in_touched : (policy : Policy) (rows served : List Row) → ((y : Row) → In y served → In y rows) → (x : Row) → In x (touched policy rows served)
+    → In x rows
+in_touched Lru rows served m x i = in_ends rows rows served (λ y j. j) m x i
+in_touched Fifo rows served m x i = i
+in_touched (Random start) rows served m x i = i
+
+module _ (h : Header) (core : ℕ) where
+  told_comes : (made : List Row) (l : Cache) → AreToldApart l.rows → AreToldApart made
+      → ((y : Row) → In y made → (x : Row) → In x l.rows → is_row x y ≡ false) → AreToldApart (fold (added h core) l made).rows
+  told_comes [] l t tm o = t
+  told_comes (r ∷ made) l t tm o =
+      told_comes made (added h core l r) (told_added h core r l t (o r (inl refl))) tm.1 (λ y iy x ix. elim (in_added h core r l x ix) [
+        | inl j ↦ o y (inr iy) x j
+        | inr e ↦ subst (λ (v : Row). is_row v y ≡ false) (sym e) (other_in r y made tm.0 iy)
+      ])
+
+  small_comes : (made : List Row) (l : Cache) → AreSmall l.rows → AreSmall made → AreSmall (fold (added h core) l made).rows
+  small_comes [] l s c = s
+  small_comes (r ∷ made) l s c = small_comes made (added h core l r) (small_added h core r l s c.0) c.1
+
+  module _ (l : Cache) (served made : List Row) where
+    abbrev step : Bool → Cache
+    step b = cond b (fold (added h core) (record l { rows = touched h.policy l.rows served }) made) l
+
+    told_step : (b : Bool) → AreToldApart l.rows → AreToldApart made → ((y : Row) → In y served → In y l.rows)
+        → ((y : Row) → In y made → (x : Row) → In x l.rows → is_row x y ≡ false) → AreToldApart (step b).rows
+    told_step true t tm m o =
+        told_comes made (record l { rows = touched h.policy l.rows served }) (told_touched h.policy l.rows served t) tm
+        (λ y iy x ix. o y iy x (in_touched h.policy l.rows served m x ix))
+    told_step false t tm m o = t
+
+    small_step : (b : Bool) → AreSmall l.rows → AreSmall served → AreSmall made → AreSmall (step b).rows
+    small_step true s c cm = small_comes made (record l { rows = touched h.policy l.rows served }) (small_touched h.policy l.rows served s c) cm
+    small_step false s c cm = s
+
+    -- rows stay told apart behind a step whose rows are others than those before
+    pub told_filled : AreToldApart l.rows → AreToldApart made → ((y : Row) → In y served → In y l.rows)
+        → ((y : Row) → In y made → (x : Row) → In x l.rows → is_row x y ≡ false) → AreToldApart (filled h core l served made).rows
+    told_filled t tm m o = told_step (keeps_rows h.size) t tm m o
+
+    -- and their classes small
+    pub small_filled : AreSmall l.rows → AreSmall served → AreSmall made → AreSmall (filled h core l served made).rows
+    small_filled s c cm = small_step (keeps_rows h.size) s c cm
