@@ -112,6 +112,14 @@ services_stay size live live2 h (s ∷ services) [] a = a
 services_stay size live live2 h (s ∷ services) (r ∷ served) a =
     (record { held = h r a.0.held; kind_is = a.0.kind_is; set_is = a.0.set_is; made_is = a.0.made_is }, services_stay size live live2 h services served a.1)
 
+-- one service more
+pub services_more : (size : Size) (live : List Row) (services : List Service) (served : List Row) (s : Service) (r : Row)
+    → AreServices size live services served → IsService size live s r → AreServices size live (services ++ s ∷ []) (served ++ r ∷ [])
+services_more size live [] [] s r a h = (h, tt)
+services_more size live [] (x ∷ served) s r a h = absurd a
+services_more size live (y ∷ services) [] s r a h = absurd a
+services_more size live (y ∷ services) (x ∷ served) s r a h = (a.0, services_more size live services served s r a.1 h)
+
 -- what is left of a list of services, and the list as it is
 pub record IsLeft (size : Size) (first all now : List Row) (services : List Service) : Type 0 where
   pub told : AreToldApart now

@@ -46,7 +46,7 @@ module _ (h : Header) (core : ℕ) (l : Cache) (held : Held) (by : Chooser) (f :
     policy_is = f.policy_is;
     tied = tied;
     at = f.at;
-    without = λ e. absurd (both_ways (keeps_rows h.size) e keeps);
+    empty = λ e. absurd (both_ways (keeps_rows h.size) e keeps);
   }
 
 -- WITHOUT ROWS
@@ -54,7 +54,7 @@ module _ (h : Header) (core : ℕ) (l : Cache) (held : Held) (by : Chooser) (f :
 module _ (h : Header) (core : ℕ) (l : Cache) (v : CachesState) (f : AreCachesOf h core l v) (none : v.size ≡ NoRows) where
   pub none_is : l ≡ no_rows
   none_is =
-      let e = f.without (ap keeps_rows (f.size_is ∙ none)) in
+      let e = f.empty (ap keeps_rows (f.size_is ∙ none)) in
       ap (λ rows. record { rows = rows; evictions = l.evictions }) e.0 ∙ ap (λ n. record { rows = []; evictions = n }) e.1
 
   same : AreCachesOf h core no_rows v

@@ -63,7 +63,7 @@ pub record AreCachesOf (h : Header) (core : ℕ) (l : Cache) (v : CachesState) :
   pub policy_is : h.policy ≡ v.chooser.policy
   pub tied : AreTied h.size l.rows v.sets
   pub at : IsAt core l.evictions v.chooser
-  pub without : keeps_rows h.size ≡ false → (l.rows ≡ []) × (l.evictions ≡ 0)
+  pub empty : keeps_rows h.size ≡ false → (l.rows ≡ []) × (l.evictions ≡ 0)
 
 -- what a row that came leaves: the sets, where the generator stands, and whether a row left
 pub record IsAddedTo (h : Header) (core : ℕ) (l : Cache) (r : Row) (lost : Bool) (by : Chooser) (sets : SetsByKind) : Type 0 where
