@@ -13,14 +13,10 @@ use Rattle.tagged_tlb.specs.Shapes.{shape_of}
 use Rattle.machine_spec.specs.Header.{Header}
 use Rattle.machine_spec.specs.Invalidations.{issued_by, completes}
 use Rattle.tagged_tlb.specs.declared.row.Row.{Row}
+pub use Rattle.tagged_tlb.specs.Stands.{In}
 use Rattle.tagged_tlb.specs.Sets.{Cache, victim, same_set, same_key, is_row, filled}
 use Rattle.machine_spec.specs.Served.{Place, Reply, Halt, came, clash, served}
 use Rattle.machine_spec.specs.Machine.{World, most_held, made_by, visit_of, core_numbered, regs_in, after_event, opened, world_after}
-
--- an element of a list
-abbrev pub In : {X : Type 0} → (element : X) (list : List X) → Type 0
-In x [] = ⊥
-In x (y ∷ list) = (x ≡ y) ⊎ In x list
 
 -- INVALIDATIONS THAT TAKE EFFECT
 

@@ -13,6 +13,7 @@ pub use Rattle.tagged_tlb.specs.Shapes
 pub use Rattle.tagged_tlb.specs.Rows
 pub use Rattle.machine_spec.specs.Made
 pub use Rattle.tagged_tlb.specs.Sets
+pub use Rattle.tagged_tlb.specs.Stands
 pub use Rattle.machine_spec.specs.Served
 pub use Rattle.machine_spec.specs.Machine
 pub mod Headline

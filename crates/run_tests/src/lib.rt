@@ -1,4 +1,4 @@
-//! Tests of runs: invalidations, the trace language, a core, the machine, and the report of a run.
+//! Tests of runs: invalidations, the trace language, rows in caches, a core, the machine, and the report of a run.
 #![tactic(auto)]
 
 #[cfg(test)]
@@ -13,3 +13,5 @@ mod of_tagged_tlb;
 mod of_tlbi_ops;
 #[cfg(test)]
 mod of_trace_lang;
+#[cfg(test)]
+mod of_walk_cache;

@@ -64,9 +64,9 @@ fn order_at(tlb: &Tlb<2, 2>, at: u64) -> Option<u32> {
 
 /// The row of the smallest region that matches an address serves. Says how many items its trail has.
 fn serve(tlb: &mut Tlb<2, 2>, at: u64) -> Option<usize> {
-    let slot = tlb.deepest(&sought(at))?;
-    let items = tlb.trail(slot).len();
-    tlb.touch(slot);
+    let seen = tlb.deepest(&sought(at))?;
+    let items = tlb.trail(seen.slot).len();
+    tlb.touch(seen.slot);
     Some(items)
 }
 

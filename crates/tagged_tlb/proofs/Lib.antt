@@ -4,7 +4,9 @@ pub mod Ties
 pub mod Adds
 pub mod Touches
 pub mod Order
+pub mod Stands
 pub mod Finds
 pub mod Deepest
 pub mod Heads
 pub mod Classes
+pub mod Staged

@@ -13,7 +13,7 @@ use Rattle.tagged_tlb.proofs.Lists.{filter-without, filter-other, filter-more, f
 use Rattle.tagged_tlb.specs.Rows.{same_kind}
 use Rattle.tagged_tlb.proofs.Ties.{apart_set, apart_kind, set_tied, kept_tied}
 
-itself : (r : Row) → is_row r r ≡ true
+pub itself : (r : Row) → is_row r r ≡ true
 itself r = and_from (r.made.step == r.made.step) (r.made.order == r.made.order) (eq-eqb r.made.step r.made.step refl) (eq-eqb r.made.order r.made.order refl)
 
 eqb_turned : (a b : ℕ) → (a == b) ≡ (b == a)
@@ -40,7 +40,7 @@ other_at y [] k d o h = absurd (omega (arith, h))
 other_at y (s ∷ ys) zero d o h = o.0
 other_at y (s ∷ ys) (suc k) d o h = other_at y ys k d o.1 (omega (arith, h))
 
-all_kept : (y : Row) (ys : List Row) → IsOther y ys → filter (λ x. not (is_row y x)) ys ≡ ys
+pub all_kept : (y : Row) (ys : List Row) → IsOther y ys → filter (λ x. not (is_row y x)) ys ≡ ys
 all_kept y [] o = refl
 all_kept y (s ∷ ys) o = rw o.0 (ap (λ v. s ∷ v) (all_kept y ys o.1))
 

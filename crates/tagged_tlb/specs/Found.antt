@@ -50,9 +50,9 @@ IsWithin sets s = (s.set < length sets) × (s.way < length (get_or sets s.set []
 abbrev pub AreWithin : (sets : List (List Row)) (found : Found) → Type 0
 AreWithin sets found = AllSeen (λ s. IsWithin sets s.slot) found
 
-abbrev pub MayBeWithin : (sets : List (List Row)) (slot : Option Slot) → Type 0
+abbrev pub MayBeWithin : (sets : List (List Row)) (seen : Option Seen) → Type 0
 MayBeWithin sets None = Unit {0}
-MayBeWithin sets (Some s) = IsWithin sets s
+MayBeWithin sets (Some s) = IsWithin sets s.slot
 
 -- the place of the first that passes, counted from a place on
 abbrev pub first_hit : {X : Type 0} → (test : X → Bool) (way : ℕ) (list : List X) → Option ℕ

@@ -6,6 +6,8 @@ pub mod Shapes
 pub mod Rows
 pub mod Sets
 pub mod Tied
+pub mod Stands
 pub mod Slots
 pub mod Found
 pub mod Classes
+pub mod Stages

@@ -12,6 +12,7 @@ use Rattle.tagged_tlb.specs.declared.row.Row.{Row}
 use Rattle.tagged_tlb.specs.declared.row.Sought.{Sought}
 use Rattle.tagged_tlb.specs.declared.head.Head.{Head}
 use Rattle.tagged_tlb.specs.Sets.{same_key}
+use Rattle.tagged_tlb.specs.Stands.{is_made}
 
 -- the row of a head
 abbrev pub row_of : (trails : List (List Item)) (head : Head) → Row
@@ -34,6 +35,10 @@ bare h = row_of [] h
 
 abbrev pub made_of : (head : Head) → Made
 made_of h = h.made
+
+-- the row of a head was made so
+abbrev pub was_made : (made : Made) (head : Head) → Bool
+was_made m h = is_made m (bare h)
 
 abbrev pub key_of_head : (row : Row) (head : Head) → Bool
 key_of_head r h = same_key r (bare h)

@@ -1,7 +1,7 @@
 //! The rows that match, of which the two that were made first count.
 ghost use Rattle.std.specs.Prelude.{◌≡◌};
 ghost use Rattle.tagged_tlb.specs.Rows.{is_older};
-ghost use Rattle.tagged_tlb.specs.Slots.{is_hit, made_of};
+ghost use Rattle.tagged_tlb.specs.Slots.{is_hit, made_of, was_made};
 ghost use Rattle.tagged_tlb.specs.Found.{met, looked, first_hit};
 
 use crate::head::{Head, hits};
@@ -105,6 +105,18 @@ pub(crate) fn first_way(heads: &[Head], sought: &Sought, class: u32, start: u64)
 {
     for (way, head) in heads.iter().enumerate() {
         if hits(sought, class, start, head) {
+            return Some(way);
+        }
+    }
+    None
+}
+
+/// The place of the first row of a set that was made so.
+pub(crate) fn way_of(heads: &[Head], made: Made) -> Option<usize>
+    ensures { result ≡ first_hit (was_made made) 0 heads.now }
+{
+    for (way, head) in heads.iter().enumerate() {
+        if made.step == head.made.step && made.order == head.made.order {
             return Some(way);
         }
     }

@@ -6,6 +6,7 @@ mod found;
 mod head;
 mod row;
 mod set;
+mod stages;
 mod tlb;
 
 pub use chooser::Chooser;

@@ -7,11 +7,12 @@ ghost use Rattle.tagged_tlb.specs.Sets.{victim, same_key};
 ghost use Rattle.tagged_tlb.specs.Tied.{IsAt};
 ghost use Rattle.tagged_tlb.specs.Slots.{hit, made_of_row, key_of_head, spares, IsFilled};
 ghost use Rattle.tagged_tlb.specs.Found.{looked, first_hit};
+ghost use Rattle.tagged_tlb.specs.Stands.{is_made};
 
 use crate::chooser::Chooser;
-use crate::found::{Found, first_way, look};
+use crate::found::{Found, first_way, look, way_of};
 use crate::head::{Head, has_key, head_of};
-use crate::row::{Row, Sought};
+use crate::row::{Made, Row, Sought};
 use std::alloc::{AllocError, Global};
 use std::marker::Model;
 use tlbi_ops::{Inval, covers};
@@ -107,6 +108,21 @@ impl<const WAYS: usize> Set<WAYS> {
         ensures { result ≡ first_hit (hit sought.now class start) 0 self.now }
     {
         first_way(self.heads.as_slice(), sought, class, start)
+    }
+
+    /// The place of the first row that was made so.
+    pub fn way_of(&self, made: Made) -> Option<usize>
+        ensures { result ≡ first_hit (is_made made) 0 self.now }
+    {
+        way_of(self.heads.as_slice(), made)
+    }
+
+    /// When the row at a place was made.
+    pub fn made(&self, way: usize) -> Made
+        requires { way < length self.now }
+        ensures { (d : declared_row.Row) → result ≡ (get_or self.now way d).made }
+    {
+        self.heads[way].made
     }
 
     /// The trail of the row at a place.

@@ -1,5 +1,5 @@
 //! The sets of one kind of rows.
-ghost use Rattle.std.specs.Prelude.{◌≡◌, ℕ, ◌<◌, ◌≤◌, ◌^◌, List, [], ◌∷◌, ◌++◌, not, length, get_or, map, filter, replicate, IfOk, take, option_map, false};
+ghost use Rattle.std.specs.Prelude.{◌≡◌, ℕ, ◌<◌, ◌≤◌, ◌^◌, List, [], ◌∷◌, ◌++◌, not, length, get_or, map, filter, replicate, IfOk, take, option_map, false, IfSome};
 ghost use Rattle.trace_lang.specs.Traces.{Header};
 ghost use Rattle.tlbi_ops.specs.Covers.{covers};
 ghost use Rattle.tagged_tlb.specs.declared.row.Row as declared_row;
@@ -7,37 +7,42 @@ ghost use Rattle.tagged_tlb.specs.declared.row.Kind as declared_kind;
 ghost use Rattle.tagged_tlb.specs.Shapes.{shape, shape_of};
 ghost use Rattle.tagged_tlb.specs.Rows.{matching, deepest};
 ghost use Rattle.tagged_tlb.specs.Sets.{Cache, added, to_end};
-ghost use Rattle.tagged_tlb.specs.Found.{found_rows, slot_row, AreWithin, IsWithin, MayBeWithin};
+ghost use Rattle.tagged_tlb.specs.Found.{found_rows, seen_row, slot_row, AllSeen, AreWithin, IsWithin, MayBeWithin};
+ghost use Rattle.tagged_tlb.specs.Stands.{Stands};
 ghost use Rattle.tagged_tlb.specs.Tied.{IsTied, IsAdded, IsAt, AreToldApart, AreSmall, row_at, is_sought};
 ghost use Rattle.tagged_tlb.specs.Classes;
 ghost use Rattle.tagged_tlb.specs.Classes.{AreMarked, AreEmpty};
 
 use crate::chooser::Chooser;
-use crate::found::{Found, Slot};
-use crate::row::{Row, Sought};
+use crate::found::{Found, Seen, Slot};
+use crate::row::{Made, Row, Sought};
 use crate::set::Set;
+use crate::stages::{Stages, may_take, with_stage};
 use std::alloc::{AllocError, Global};
 use std::marker::Model;
 use tlbi_ops::Inval;
 use trails::Item;
 
-/// SETS sets of at most WAYS rows. `classes` has a bit for each class of which a row may be there.
+/// SETS sets of at most WAYS rows. `classes` has a bit for each class of which a row may be there, and `stages` says the same of
+/// stages.
 #[derive(Drop)]
 pub struct Tlb<const SETS: usize, const WAYS: usize> {
     sets: Vec<Set<WAYS>>,
     classes: u64,
+    stages: Stages,
 }
 
 impl<const SETS: usize, const WAYS: usize> Model for Tlb<SETS, WAYS> {
     ghost use Rattle.std.specs.Prelude.{◌≡◌, List, vec_len};
     ghost use Rattle.tagged_tlb.specs.declared.row.Row.{Row};
     ghost use Rattle.tagged_tlb.specs.Classes.{AreMarked};
+    ghost use Rattle.tagged_tlb.specs.Stages.{AreStaged};
 
     ghost Value = { List (List Row) };
 
     ghost view = { λ t. t.sets.items };
 
-    ghost invariant = { λ t. (vec_len t.sets ≡ SETS) × AreMarked t.classes t.sets.items };
+    ghost invariant = { λ t. (vec_len t.sets ≡ SETS) × AreMarked t.classes t.sets.items × AreStaged t.stages t.sets.items };
 }
 
 /// Whether a row of a class may be there.
@@ -81,6 +86,8 @@ fn search<const SETS: usize, const WAYS: usize>(
     requires sets { length sets.now ≡ SETS }
     requires marked { AreMarked classes sets.now }
     ensures within { AreWithin sets.now result }
+    ensures stand { (d : declared_row.Row) → (kind : declared_kind.Kind) → (live : List declared_row.Row) → AreToldApart live →
+        IsTied kind SETS live sets.now → AllSeen (λ s. Stands kind SETS s.slot.set s.made live (seen_row d sets.now s)) result }
     ensures best { (d : declared_row.Row) → (kind : declared_kind.Kind) → (live : List declared_row.Row) → AreToldApart live → AreSmall live →
         IsTied kind SETS live sets.now → found_rows d sets.now result ≡ take 2 (matching (is_sought kind sought) live) }
 {
@@ -100,20 +107,26 @@ fn search_deepest<const SETS: usize, const WAYS: usize>(
     sets: &[Set<WAYS>],
     classes: u64,
     sought: Sought,
-) -> Option<Slot>
+) -> Option<Seen>
     requires some { 0 < SETS }
     requires sets { length sets.now ≡ SETS }
     requires marked { AreMarked classes sets.now }
     ensures within { MayBeWithin sets.now result }
+    ensures stands { (d : declared_row.Row) → (kind : declared_kind.Kind) → (live : List declared_row.Row) → IsTied kind SETS live sets.now →
+        IfSome result (λ s. Stands kind SETS s.slot.set s.made live (seen_row d sets.now s)) }
     ensures least { (d : declared_row.Row) → (kind : declared_kind.Kind) → (live : List declared_row.Row) → AreToldApart live → AreSmall live →
-        IsTied kind SETS live sets.now → option_map (slot_row d sets.now) result ≡ deepest (is_sought kind sought) live }
+        IsTied kind SETS live sets.now → option_map (seen_row d sets.now) result ≡ deepest (is_sought kind sought) live }
 {
     for class in 0..end_of(classes) {
         if is_marked(classes, class) {
             let start = sought.at >> class;
             let set = (start % SETS as u64) as usize;
             match sets[set].first_way(&sought, class, start) {
-                Some(way) => return Some(Slot { set, way }),
+                Some(way) => {
+                    let made = sets[set].made(way);
+                    let slot = Slot { set, way };
+                    return Some(Seen { slot, made });
+                }
                 None => {}
             }
         }
@@ -132,7 +145,15 @@ impl<const SETS: usize, const WAYS: usize> Tlb<SETS, WAYS> {
             let set = Set::opened(alloc)?;
             sets.push_reserved(set);
         }
-        Ok(Tlb { sets, classes: 0 })
+        let stages = Stages {
+            stage1: false,
+            stage2: false,
+        };
+        Ok(Tlb {
+            sets,
+            classes: 0,
+            stages,
+        })
     }
 
     /// The rows that an invalidation covers go, told by the sets.
@@ -147,12 +168,15 @@ impl<const SETS: usize, const WAYS: usize> Tlb<SETS, WAYS> {
         }
     }
 
-    /// The rows that an invalidation covers go. A cache without rows costs nothing.
+    /// The rows that an invalidation covers go. A cache without rows costs nothing, nor does one without rows of the stages that
+    /// the operation takes.
     pub fn kill(&mut self, inval: &Inval)
         ensures { (kind : declared_kind.Kind) → (live : List declared_row.Row) → IsTied kind SETS live self.old →
             IsTied kind SETS (filter (λ r. not (covers inval.now r.tag)) live) self.new }
     {
-        self.kill_rows(inval);
+        if may_take(self.stages, inval) {
+            self.kill_rows(inval);
+        }
     }
 
     /// A row of a class below 64 is added where none would serve the same. Says whether a full set lost one.
@@ -167,12 +191,14 @@ impl<const SETS: usize, const WAYS: usize> Tlb<SETS, WAYS> {
     {
         let at = (row.region.start % SETS as u64) as usize;
         let class = row.region.class;
+        let stage = row.tag.stage;
         let set = &mut self.sets[at];
         if set.has(&row) {
             return false;
         }
         let lost = set.fill(row, by);
         self.classes |= 1 << class;
+        self.stages = with_stage(self.stages, stage);
         lost
     }
 
@@ -186,10 +212,27 @@ impl<const SETS: usize, const WAYS: usize> Tlb<SETS, WAYS> {
         set.touch(slot.way);
     }
 
+    /// The row of a set that was made so goes last. Where the set has none, nothing changes.
+    pub fn touch_made(&mut self, set: usize, made: Made)
+        requires { 0 < SETS }
+        ensures { (kind : declared_kind.Kind) → (live : List declared_row.Row) → (row : declared_row.Row) → AreToldApart live →
+            IsTied kind SETS live self.old → Stands kind SETS set made live row → IsTied kind SETS (to_end live row) self.new }
+    {
+        if set >= self.sets.len() {
+            return;
+        }
+        match self.sets[set].way_of(made) {
+            Some(way) => self.touch(Slot { set, way }),
+            None => {}
+        }
+    }
+
     /// The rows that match: none, one, or the two that were made first.
     pub fn find(&self, sought: &Sought) -> Found
         requires { 0 < SETS }
         ensures within { AreWithin self.now result }
+        ensures stand { (d : declared_row.Row) → (kind : declared_kind.Kind) → (live : List declared_row.Row) → AreToldApart live →
+            IsTied kind SETS live self.now → AllSeen (λ s. Stands kind SETS s.slot.set s.made live (seen_row d self.now s)) result }
         ensures best { (d : declared_row.Row) → (kind : declared_kind.Kind) → (live : List declared_row.Row) → AreToldApart live → AreSmall live →
             IsTied kind SETS live self.now → found_rows d self.now result ≡ take 2 (matching (is_sought kind sought.now) live) }
     {
@@ -197,11 +240,13 @@ impl<const SETS: usize, const WAYS: usize> Tlb<SETS, WAYS> {
     }
 
     /// The row of the smallest region that matches.
-    pub fn deepest(&self, sought: &Sought) -> Option<Slot>
+    pub fn deepest(&self, sought: &Sought) -> Option<Seen>
         requires { 0 < SETS }
         ensures within { MayBeWithin self.now result }
+        ensures stands { (d : declared_row.Row) → (kind : declared_kind.Kind) → (live : List declared_row.Row) → IsTied kind SETS live self.now →
+            IfSome result (λ s. Stands kind SETS s.slot.set s.made live (seen_row d self.now s)) }
         ensures least { (d : declared_row.Row) → (kind : declared_kind.Kind) → (live : List declared_row.Row) → AreToldApart live → AreSmall live →
-            IsTied kind SETS live self.now → option_map (slot_row d self.now) result ≡ deepest (is_sought kind sought.now) live }
+            IsTied kind SETS live self.now → option_map (seen_row d self.now) result ≡ deepest (is_sought kind sought.now) live }
     {
         search_deepest::<SETS, WAYS>(self.sets.as_slice(), self.classes, *sought)
     }

@@ -2,6 +2,7 @@ use Rattle.std.proofs.Common.{◌≡◌, ℕ, ◌-◌, ◌+◌, ◌<◌, length,
 use Rattle.std.specs.Prelude.{◌%◌, ◌/◌, ◌^◌}
 use Rattle.tagged_tlb.specs.Slots.{hit}
 use Rattle.tagged_tlb.proofs.Finds.{first_class, next_here, no_class, no_classes, last_class, looked_within}
+use Rattle.tagged_tlb.proofs.Stands.{all_stand}
 use Rattle.tagged_tlb.proofs.tlb.search.Goals as goal
 use Rattle.tagged_tlb.proofs.tlb.search.Goals.{then-is_marked, else-is_marked}
 
@@ -37,3 +38,7 @@ returns-clause-best g c = λ d kind live told small f.
     last_class d c.args.sets.now kind g.row.SETS c.args.sought live told f c.loop-class.found small
     (no_classes d c.args.sets.now kind g.row.SETS c.args.sought live told f (64 - c.loop-class.class) c.loop-class.class c.args.classes c.loop-class.found gap
     c.requires.some c.requires.marked above (c.loop-class.invariant.0 d kind live told f))
+
+pub returns-clause-stand : goal.returns-clause-stand
+returns-clause-stand g c = λ d kind live told f.
+    all_stand kind g.row.SETS live d c.args.sets.now f c.loop-class.found c.loop-class.invariant.1 (c.loop-class.invariant.0 d kind live told f).seen

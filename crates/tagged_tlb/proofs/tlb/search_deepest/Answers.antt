@@ -1,8 +1,11 @@
-use Rattle.std.proofs.Common.{◌≡◌, ℕ, ◌-◌, ◌+◌, ◌<◌, length, sym, ◌∙◌, subst, arith}
+use Rattle.std.proofs.Common.{◌≡◌, ℕ, ◌-◌, ◌+◌, ◌<◌, [], length, get_or, ap, sym, ◌∙◌, subst, arith}
+use Rattle.std.proofs.lemmas.List.{get_or_default}
 use Rattle.std.specs.Prelude.{◌%◌, ◌/◌, ◌^◌}
 use Rattle.tagged_tlb.specs.Slots.{hit}
 use Rattle.tagged_tlb.specs.Tied.{is_sought}
 use Rattle.tagged_tlb.proofs.Deepest.{from_zero, none_here, none_of_class, none_of_classes, place_within, found_here, nothing, some_row}
+use Rattle.tagged_tlb.specs.Found.{seen_at}
+use Rattle.tagged_tlb.proofs.Stands.{stands}
 use Rattle.tagged_tlb.proofs.tlb.search_deepest.Goals as goal
 use Rattle.tagged_tlb.proofs.tlb.search_deepest.Goals.{then-is_marked+in-None, else-is_marked}
 
@@ -45,3 +48,26 @@ returns-clause-least g c = λ d kind live told small f.
     (none_of_classes (some_row c.args.sought.key kind) c.args.sets.now kind g.row.SETS c.args.sought live told f c.requires.some c.args.classes
     c.requires.marked
     (64 - c.loop-class.class) c.loop-class.class gap above (c.loop-class.invariant kind live told f)) small)
+
+pub made-made-requires : goal.made-made-requires
+made-made-requires g c =
+    let at : ℕ = c.args.sought.at / 2 ^ c.loop-class.class % g.row.SETS in
+    let lt : at < length c.args.sets.now = omega (arith, c.requires.some, c.requires.sets) in
+    let one = c.index-sets-set-in-Some.result in
+    let one_is = c.index-sets-set-in-Some.is ∙ get_or_default c.args.sets.now at one [] lt in (
+      omega arith,
+      subst (λ v. c.in-Some.way < length v) (sym one_is)
+          (place_within c.args.sets.now (hit c.args.sought c.loop-class.class (c.args.sought.at / 2 ^ c.loop-class.class)) at c.in-Some.way
+          c.index-sets-set.result lt c.index-sets-set.is (sym c.first_way.ensures ∙ c.in-Some.is)),
+    )
+
+pub returns-in-Some-clause-stands : goal.returns-in-Some-clause-stands
+returns-in-Some-clause-stands g c = λ d kind live f.
+    let at : ℕ = c.args.sought.at / 2 ^ c.loop-class.class % g.row.SETS in
+    let lt : at < length c.args.sets.now = omega (arith, c.requires.some, c.requires.sets) in
+    let one = c.index-sets-set-in-Some.result in
+    let one_is = c.index-sets-set-in-Some.is ∙ get_or_default c.args.sets.now at one [] lt in
+    let here = place_within c.args.sets.now (hit c.args.sought c.loop-class.class (c.args.sought.at / 2 ^ c.loop-class.class)) at c.in-Some.way
+    c.index-sets-set.result lt c.index-sets-set.is (sym c.first_way.ensures ∙ c.in-Some.is) in
+    stands kind g.row.SETS live d c.args.sets.now f (seen_at at c.in-Some.way c.made-made.result) (lt, here)
+    (sym (c.made-made.ensures d ∙ ap (λ xs. (get_or xs c.in-Some.way d).made) one_is))

@@ -1,7 +1,9 @@
-use Rattle.std.proofs.Common.{ℕ, length, ◌<◌, refl, sym, ◌∙◌, arith}
+use Rattle.std.proofs.Common.{ℕ, length, ◌<◌, refl, sym, ◌∙◌, subst, arith, set}
 use Rattle.std.specs.Prelude.{◌%◌}
 use Rattle.tagged_tlb.proofs.Adds.{was_there, was_filled}
 use Rattle.tagged_tlb.proofs.Classes.{filled_marked}
+use Rattle.tagged_tlb.specs.Stages.{AreStaged}
+use Rattle.tagged_tlb.proofs.Staged.{filled_staged}
 use Rattle.tagged_tlb.proofs.tlb.Tlb.add.Goals as goal
 
 pub returns-then-has-clause-added : goal.returns-then-has-clause-added
@@ -20,6 +22,9 @@ invariant_of-self-2 g c =
       filled_marked c.self.inside.classes c.args.row.region.class c.requires.class c.args.row refl c.self.inside.sets.items at c.index_mut-set.result.now
           c.fill-lost.new.self
           lt c.index_mut-set.ensures.value c.self.invariant.1 c.fill-lost.ensures.filled,
+      subst (λ s. AreStaged s (set c.self.inside.sets.items at c.fill-lost.new.self)) (sym c.with_stage-self-inside.ensures)
+          (filled_staged c.self.inside.stages c.args.row c.self.inside.sets.items at c.index_mut-set.result.now c.fill-lost.new.self lt
+          c.index_mut-set.ensures.value c.self.invariant.2 c.fill-lost.ensures.filled),
     )
 
 pub returns-clause-added : goal.returns-clause-added

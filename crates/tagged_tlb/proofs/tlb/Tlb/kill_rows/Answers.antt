@@ -4,6 +4,8 @@ use Rattle.std.proofs.lemmas.List.{length-map}
 use Rattle.tlbi_ops.specs.Covers.{covers}
 use Rattle.tagged_tlb.specs.declared.row.Row.{Row}
 use Rattle.tagged_tlb.specs.Classes.{AreMarked}
+use Rattle.tagged_tlb.specs.Stages.{AreStaged}
+use Rattle.tagged_tlb.proofs.Staged.{staged_kills}
 use Rattle.tagged_tlb.proofs.Classes.{marked_kills, marked_empty, kills_none, whole}
 use Rattle.tagged_tlb.proofs.tlb.Tlb.kill_rows.Goals as goal
 
@@ -17,6 +19,8 @@ invariant_of-self g c =
       c.self.invariant.0,
       rw (whole (vec_len c.self.inside.sets) c.kill_each-left.new.sets (drop (length c.kill_each-left.new.sets) items) all)
           (marked_empty 0 c.kill_each-left.new.sets (c.kill_each-left.ensures.none c.if-not-left.true)),
+      rw (whole (vec_len c.self.inside.sets) c.kill_each-left.new.sets (drop (length c.kill_each-left.new.sets) items) all)
+          (subst (AreStaged c.self.inside.stages) (sym killed) (staged_kills c.self.inside.stages keep items c.self.invariant.2)),
     )
 
 pub invariant_of-self-else-not-left : goal.invariant_of-self-else-not-left
@@ -29,6 +33,8 @@ invariant_of-self-else-not-left g c =
       c.self.invariant.0,
       rw (whole (vec_len c.self.inside.sets) c.kill_each-left.new.sets (drop (length c.kill_each-left.new.sets) items) all)
           (subst (AreMarked c.self.inside.classes) (sym killed) (marked_kills c.self.inside.classes keep items c.self.invariant.1)),
+      rw (whole (vec_len c.self.inside.sets) c.kill_each-left.new.sets (drop (length c.kill_each-left.new.sets) items) all)
+          (subst (AreStaged c.self.inside.stages) (sym killed) (staged_kills c.self.inside.stages keep items c.self.invariant.2)),
     )
 
 pub returns-else-self-ne0 : goal.returns-else-self-ne0

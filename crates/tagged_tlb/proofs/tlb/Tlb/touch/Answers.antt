@@ -3,6 +3,7 @@ use Rattle.std.proofs.lemmas.List.{get_or_default}
 use Rattle.tagged_tlb.specs.Found.{IsWithin}
 use Rattle.tagged_tlb.proofs.Touches.{touched_here}
 use Rattle.tagged_tlb.proofs.Classes.{touched_marked}
+use Rattle.tagged_tlb.proofs.Staged.{touched_staged}
 use Rattle.tagged_tlb.proofs.tlb.Tlb.touch.Goals as goal
 
 pub invariant_of-self : goal.invariant_of-self
@@ -14,6 +15,8 @@ invariant_of-self g c =
       c.self.invariant.0,
       touched_marked c.self.inside.classes c.self.inside.sets.items c.args.slot.set c.args.slot.way one c.touch.new.self stands.0 c.index_mut-set.ensures.value
           (subst (λ v. c.args.slot.way < length v) (sym one_is) stands.1) c.self.invariant.1 c.touch.ensures,
+      touched_staged c.self.inside.stages c.self.inside.sets.items c.args.slot.set c.args.slot.way one c.touch.new.self stands.0 c.index_mut-set.ensures.value
+          (subst (λ v. c.args.slot.way < length v) (sym one_is) stands.1) c.self.invariant.2 c.touch.ensures,
     )
 
 pub returns : goal.returns

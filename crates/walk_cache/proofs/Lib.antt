@@ -1,0 +1,5 @@
+pub mod EachKind
+pub mod Moves
+pub mod Sizes
+pub mod Fills
+pub mod Keeps

@@ -1,0 +1,11 @@
+pub use Rattle.trace_lang.specs.Traces
+pub use Rattle.tagged_tlb.specs.Shapes
+pub use Rattle.tagged_tlb.specs.Rows
+pub use Rattle.tagged_tlb.specs.Sets
+pub use Rattle.tagged_tlb.specs.Tied
+pub use Rattle.tagged_tlb.specs.Stands
+pub use Rattle.tagged_tlb.specs.Found
+pub use Rattle.machine_spec.specs.Machine
+pub mod ByKind
+pub mod Services
+pub mod Sized

@@ -1,0 +1,9 @@
+//! The caches of one core: a cache of each kind of rows, in the shapes of the core's size, and what chooses the row that leaves.
+#![tactic(auto)]
+
+mod caches;
+mod kinds;
+mod service;
+
+pub use caches::Caches;
+pub use service::Service;
