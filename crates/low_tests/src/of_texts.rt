@@ -65,7 +65,6 @@ fn numbers_stand_behind_heads(rt: HostRuntime) {
     line.tail(&tail);
     assert!(rt;
         line.bytes()
-            == b"head 0x0 at 0x 12345678 moment 4294967295\nword at 0x123456789 value 0xf0 moment 4294967295\n moment 4294967295\n"
-                .as_slice()
+            == b"head 0x0 at 0x 12345678 moment 4294967295\nword at 0x123456789 value 0xf0 moment 4294967295\n moment 4294967295\n".as_slice()
     );
 }
