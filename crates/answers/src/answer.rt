@@ -8,7 +8,6 @@ ghost use Rattle.answers.specs.Due.{answer_text, HasAnswerText};
 use explain_text::{Sink, WriteFailed, explain, put_absent, put_fault, put_items};
 use machine::Runner;
 use run_answer::play;
-use std::alloc::Global;
 use sysregs::Regs;
 use texts::{LINE, Line};
 use trails::{Access, Outcome, Trail};
@@ -40,18 +39,17 @@ pub enum Answer {
     },
 }
 
-/// Puts the last line of an EL1 read over an image before what stands.
-fn put_raw_outcome(line: &mut Line, outcome: &Outcome)
+/// Puts the last line of an EL1 read over an image.
+fn put_raw_outcome(line: &mut Line<LINE>, outcome: &Outcome)
     requires printable { HasLine outcome.now }
-    requires room { 160 + length line.old ≤ LINE }
-    ensures text { line.new ≡ raw_outcome_text outcome.now ++ line.old }
-    ensures room { length line.new ≤ 160 + length line.old }
+    requires room { length line.old + 160 ≤ LINE }
+    ensures { line.new ≡ line.old ++ raw_outcome_text outcome.now }
 {
     match outcome {
         Outcome::Mapped { pa, .. } => {
-            line.text(b"\n");
-            line.hex(*pa);
             line.text(b"mapped ");
+            line.hex(*pa);
+            line.text(b"\n");
         }
         Outcome::Faulted { fault } => put_fault(line, fault),
         Outcome::Absent {
@@ -70,17 +68,17 @@ fn raw_lines<O: Sink>(out: &mut O, va: u64, walked: &Walked) -> Result<(), Write
     ensures text { Wrote (O.written out.old) (O.written out.new) result (raw_text va walked.now.trail walked.now.outcome) }
     ensures cause { HasCause (O.faults out.old) (O.faults out.new) result }
 {
-    let mut line = Line::new();
-    put_raw_outcome(&mut line, &walked.outcome);
-    put_items(&mut line, walked.trail.items(), false);
-    line.text(b" el1 read\n");
-    line.hex(va);
+    let mut line = Line::<LINE>::new();
     line.text(b"access ");
+    line.hex(va);
+    line.text(b" el1 read\n");
+    put_items(&mut line, walked.trail.items(), false);
+    put_raw_outcome(&mut line, &walked.outcome);
     out.put(line.bytes())
 }
 
 /// Writes the text of an answer at once, or that of a run in pages while it runs.
-pub fn put_answer<O: Sink>(alloc: Global, out: &mut O, answer: Answer) -> Result<(), WriteFailed>
+pub fn put_answer<O: Sink>(out: &mut O, answer: Answer) -> Result<(), WriteFailed>
     requires { HasAnswerText answer }
     ensures text { Wrote (O.written out.old) (O.written out.new) result (answer_text answer) }
     ensures cause { HasCause (O.faults out.old) (O.faults out.new) result }
@@ -92,6 +90,6 @@ pub fn put_answer<O: Sink>(alloc: Global, out: &mut O, answer: Answer) -> Result
             access,
             walked,
         } => explain(out, &regs, &access, &walked.outcome, &walked.trail),
-        Answer::Run { mut machine } => play(alloc, out, &mut machine),
+        Answer::Run { mut machine } => play(out, &mut machine),
     }
 }

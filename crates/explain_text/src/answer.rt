@@ -15,22 +15,20 @@ use sysregs::fields::{asid, vmid};
 use texts::{LINE, Line};
 use trails::{Access, Outcome, Trail};
 
-/// Puts an access before what stands, without the word before it: ` 0x40201abc el1 read asid 0x1 vmid 0x0`. The form is
-/// this project's own rule.
-pub fn put_access(line: &mut Line, access: &Access, asid: u16, vmid: u16)
-    requires { 90 + length line.old ≤ LINE }
-    ensures text { line.new ≡ access_text [] access.now asid vmid ++ line.old }
-    ensures room { length line.new ≤ 90 + length line.old }
+/// Puts an access without the word before it: ` 0x40201abc el1 read asid 0x1 vmid 0x0`. The form is this project's own
+/// rule.
+pub fn put_access<const ROOM: usize>(line: &mut Line<ROOM>, access: &Access, asid: u16, vmid: u16)
+    requires { length line.old + 90 ≤ ROOM }
+    ensures text { line.new ≡ line.old ++ access_text [] access.now asid vmid }
+    ensures room { length line.new ≤ length line.old + 90 }
 {
-    line.hex_digits(vmid as u64);
-    line.literal(b" vmid 0x");
-    line.hex_digits(asid as u64);
-    line.literal(b" asid 0x");
-    line.when(access.pan, b" pan");
-    parts::kind(line, access.kind);
-    parts::el(line, access.el);
-    line.hex_digits(access.va);
     line.literal(b" 0x");
+    line.hex_digits(access.va);
+    parts::el(line, access.el);
+    parts::kind(line, access.kind);
+    line.when(access.pan, b" pan");
+    line.headed(b" asid 0x", asid as u64);
+    line.headed(b" vmid 0x", vmid as u64);
 }
 
 /// The line of an access without its end, as `access 0x40201abc el1 read asid 0x1 vmid 0x0`, with another word in place of
@@ -47,7 +45,7 @@ pub fn access_line<O: Sink>(
     ensures cause { HasCause (O.faults out.old) (O.faults out.new) result }
 {
     out.put(word.as_bytes())?;
-    let mut line = Line::new();
+    let mut line = Line::<LINE>::new();
     put_access(&mut line, access, asid, vmid);
     out.put(line.bytes())
 }
@@ -65,11 +63,11 @@ pub fn explain<O: Sink>(
     ensures text { Wrote (O.written out.old) (O.written out.new) result (explain_text regs.now access.now trail.now outcome.now) }
     ensures cause { HasCause (O.faults out.old) (O.faults out.new) result }
 {
-    let mut line = Line::new();
-    put_outcome(&mut line, outcome, false);
-    put_items(&mut line, trail.items(), false);
-    line.literal(b"\n");
-    put_access(&mut line, access, asid(regs), vmid(regs));
+    let mut line = Line::<LINE>::new();
     line.literal(b"access");
+    put_access(&mut line, access, asid(regs), vmid(regs));
+    line.literal(b"\n");
+    put_items(&mut line, trail.items(), false);
+    put_outcome(&mut line, outcome, false);
     out.put(line.bytes())
 }

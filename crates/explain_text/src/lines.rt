@@ -15,28 +15,28 @@ fn item_tail(in_run: bool, moment: u32) -> Tail
     ensures { result ≡ moment_text in_run moment ++ codes "\n" }
 {
     let mut tail = Tail::new();
-    tail.literal(b"\n");
     if in_run {
-        tail.decimal(moment);
         tail.literal(b" moment ");
+        tail.decimal(moment);
     }
+    tail.literal(b"\n");
     tail
 }
 
-/// Puts the line of an item with such a tail before what stands.
+/// Puts the line of an item with such a tail.
 #[inline(always)]
-fn put_tailed(line: &mut Line, item: &Item, tail: &Tail)
-    requires { 160 + length line.old ≤ LINE }
+fn put_tailed<const ROOM: usize>(line: &mut Line<ROOM>, item: &Item, tail: &Tail)
+    requires { length line.old + 160 ≤ ROOM }
     ensures text { (in_run : Bool) → tail.now ≡ moment_text in_run item.now.moment ++ codes "\n" →
-        line.new ≡ item_text in_run item.now ++ line.old }
-    ensures room { length line.new ≤ 160 + length line.old }
+        line.new ≡ line.old ++ item_text in_run item.now }
+    ensures room { length line.new ≤ length line.old + 160 }
 {
     if item.level < 0 || item.level > 3 {
-        line.tail(tail);
-        parts::value(line, item.what, item.value);
-        line.hex_digits(item.pa);
-        parts::level_at(line, item.level);
         parts::name(line, item.stage, item.what);
+        parts::level_at(line, item.level);
+        line.hex_digits(item.pa);
+        parts::value(line, item.what, item.value);
+        line.tail(tail);
         return;
     }
     let level = item.level as u8;
@@ -80,68 +80,70 @@ impl MomentTail {
     }
 }
 
-/// Puts the line of an item before what stands, as `s1 base level 0 at 0x1000` or `s1 word level 3 at 0x4008 value
-/// 0x5403`. A run tells its moment too. The form is this project's own rule.
-pub fn put_item(line: &mut Line, item: &Item, in_run: bool)
-    requires { 160 + length line.old ≤ LINE }
-    ensures text { line.new ≡ item_text in_run item.now ++ line.old }
-    ensures room { length line.new ≤ 160 + length line.old }
+/// Puts the line of an item, as `s1 base level 0 at 0x1000` or `s1 word level 3 at 0x4008 value 0x5403`. A run tells its
+/// moment too. The form is this project's own rule.
+pub fn put_item<const ROOM: usize>(line: &mut Line<ROOM>, item: &Item, in_run: bool)
+    requires { length line.old + 160 ≤ ROOM }
+    ensures text { line.new ≡ line.old ++ item_text in_run item.now }
+    ensures room { length line.new ≤ length line.old + 160 }
 {
     put_tailed(line, item, &item_tail(in_run, item.moment));
 }
 
-/// Puts the lines of items before what stands, from the last item to the first. A run tells their moments too.
-pub fn put_items(line: &mut Line, items: &[Item], in_run: bool)
-    requires { 160 * length items.now + length line.old ≤ LINE }
-    ensures text { line.new ≡ flat_map (item_text in_run) items.now ++ line.old }
-    ensures room { length line.new ≤ 160 * length items.now + length line.old }
+/// Puts the lines of items, in order. A run tells their moments too.
+pub fn put_items<const ROOM: usize>(line: &mut Line<ROOM>, items: &[Item], in_run: bool)
+    requires { length line.old + 160 * length items.now ≤ ROOM }
+    ensures text { line.new ≡ line.old ++ flat_map (item_text in_run) items.now }
+    ensures room { length line.new ≤ length line.old + 160 * length items.now }
 {
-    let Some(last) = items.last() else {
+    let Some(first) = items.first() else {
         return;
     };
-    let mut ending = MomentTail::new(in_run, last.moment);
-    let mut left = items.len();
-    while left > 0 {
-        left -= 1;
-        let item = &items[left];
+    let mut ending = MomentTail::new(in_run, first.moment);
+    for item in items {
         ending.turn_to(in_run, item.moment);
         put_tailed(line, item, &ending.tail);
     }
 }
 
-/// Puts the line of a fault before what stands, as `fault stage 1 level 3 permission fsc 0x0f`. The form is this project's
-/// own rule.
-pub fn put_fault(line: &mut Line, fault: &Fault)
+/// Puts the line of a fault, as `fault stage 1 level 3 permission fsc 0x0f`. The form is this project's own rule.
+pub fn put_fault<const ROOM: usize>(line: &mut Line<ROOM>, fault: &Fault)
     requires status { HasStatus fault.now }
-    requires room { 160 + length line.old ≤ LINE }
-    ensures text { line.new ≡ fault_text fault.now ++ line.old }
-    ensures room { length line.new ≤ 160 + length line.old }
+    requires room { length line.old + 160 ≤ ROOM }
+    ensures text { line.new ≡ line.old ++ fault_text fault.now }
+    ensures room { length line.new ≤ length line.old + 160 }
 {
-    line.literal(b"\n");
-    line.when(fault.s1ptw, b" s1ptw");
-    line.byte(fsc(fault));
-    line.literal(b" fsc ");
-    parts::class(line, fault.class);
-    line.literal(b" ");
-    parts::level(line, fault.level);
-    line.literal(b" level ");
-    parts::stage(line, fault.stage);
     line.literal(b"fault stage ");
+    parts::stage(line, fault.stage);
+    line.literal(b" level ");
+    parts::level(line, fault.level);
+    line.literal(b" ");
+    parts::class(line, fault.class);
+    line.literal(b" fsc ");
+    line.byte(fsc(fault));
+    line.when(fault.s1ptw, b" s1ptw");
+    line.literal(b"\n");
 }
 
-/// Puts the line of a word that memory lacks before what stands, as `absent stage 1 level 2 at 0x2008`: `pa` is its place
-/// in bytes. The form is this project's own rule.
-pub fn put_absent(line: &mut Line, stage: Stage, level: i8, pa: u64, s1ptw: bool)
-    requires { 160 + length line.old ≤ LINE }
-    ensures text { line.new ≡ absent_text stage level pa s1ptw ++ line.old }
-    ensures room { length line.new ≤ 160 + length line.old }
+/// Puts the line of a word that memory lacks, as `absent stage 1 level 2 at 0x2008`: `pa` is its place in bytes. The form
+/// is this project's own rule.
+pub fn put_absent<const ROOM: usize>(
+    line: &mut Line<ROOM>,
+    stage: Stage,
+    level: i8,
+    pa: u64,
+    s1ptw: bool,
+)
+    requires { length line.old + 160 ≤ ROOM }
+    ensures text { line.new ≡ line.old ++ absent_text stage level pa s1ptw }
+    ensures room { length line.new ≤ length line.old + 160 }
 {
-    line.literal(b"\n");
-    line.when(s1ptw, b" s1ptw");
-    line.hex_digits(pa);
-    parts::level_at(line, level);
-    parts::stage(line, stage);
     line.literal(b"absent stage ");
+    parts::stage(line, stage);
+    parts::level_at(line, level);
+    line.hex_digits(pa);
+    line.when(s1ptw, b" s1ptw");
+    line.literal(b"\n");
 }
 
 /// The line of an item, as `s1 base level 0 at 0x1000` or `s1 word level 3 at 0x4008 value 0x5403`. A run tells its
@@ -150,7 +152,7 @@ pub fn item_line<O: Sink>(out: &mut O, item: &Item, in_run: bool) -> Result<(), 
     ensures text { Wrote (O.written out.old) (O.written out.new) result (item_text in_run item.now) }
     ensures cause { HasCause (O.faults out.old) (O.faults out.new) result }
 {
-    let mut line = Line::new();
+    let mut line = Line::<LINE>::new();
     put_item(&mut line, item, in_run);
     out.put(line.bytes())
 }
@@ -172,7 +174,7 @@ pub fn fault_line<O: Sink>(out: &mut O, fault: &Fault) -> Result<(), WriteFailed
     ensures text { Wrote (O.written out.old) (O.written out.new) result (fault_text fault.now) }
     ensures cause { HasCause (O.faults out.old) (O.faults out.new) result }
 {
-    let mut line = Line::new();
+    let mut line = Line::<LINE>::new();
     put_fault(&mut line, fault);
     out.put(line.bytes())
 }
@@ -189,7 +191,7 @@ pub fn absent_line<O: Sink>(
     ensures text { Wrote (O.written out.old) (O.written out.new) result (absent_text stage level pa s1ptw) }
     ensures cause { HasCause (O.faults out.old) (O.faults out.new) result }
 {
-    let mut line = Line::new();
+    let mut line = Line::<LINE>::new();
     put_absent(&mut line, stage, level, pa, s1ptw);
     out.put(line.bytes())
 }

@@ -14,32 +14,37 @@ use permissions::{El, Perms};
 use texts::{LINE, Line};
 use trails::Outcome;
 
-/// Puts the line of an access that is mapped before what stands. `pa` is in bytes.
-fn put_mapped(line: &mut Line, pa: u64, perms: Perms, mem: MemType, share: Share)
-    requires { 160 + length line.old ≤ LINE }
-    ensures text { line.new ≡ mapped_text pa perms mem share ++ line.old }
-    ensures room { length line.new ≤ 160 + length line.old }
+/// Puts the line of an access that is mapped. `pa` is in bytes.
+fn put_mapped<const ROOM: usize>(
+    line: &mut Line<ROOM>,
+    pa: u64,
+    perms: Perms,
+    mem: MemType,
+    share: Share,
+)
+    requires { length line.old + 160 ≤ ROOM }
+    ensures text { line.new ≡ line.old ++ mapped_text pa perms mem share }
+    ensures room { length line.new ≤ length line.old + 160 }
 {
-    line.literal(b"\n");
-    parts::share(line, share);
+    line.headed(b"mapped 0x", pa);
+    line.literal(b" el0 ");
+    parts::rights(line, perms, El::El0);
+    line.literal(b" el1 ");
+    parts::rights(line, perms, El::El1);
     line.literal(b" ");
     parts::mem(line, mem);
     line.literal(b" ");
-    parts::rights(line, perms, El::El1);
-    line.literal(b" el1 ");
-    parts::rights(line, perms, El::El0);
-    line.literal(b" el0 ");
-    line.hex_digits(pa);
-    line.literal(b"mapped 0x");
+    parts::share(line, share);
+    line.literal(b"\n");
 }
 
-/// Puts the line of an outcome before what stands. In a run a word that memory lacks is printed as an external abort. The
+/// Puts the line of an outcome. In a run a word that memory lacks is printed as an external abort. The
 /// forms are this project's own rule.
-pub fn put_outcome(line: &mut Line, outcome: &Outcome, in_run: bool)
+pub fn put_outcome<const ROOM: usize>(line: &mut Line<ROOM>, outcome: &Outcome, in_run: bool)
     requires printable { HasText (printed in_run outcome.now) }
-    requires room { 160 + length line.old ≤ LINE }
-    ensures text { line.new ≡ outcome_text in_run outcome.now ++ line.old }
-    ensures room { length line.new ≤ 160 + length line.old }
+    requires room { length line.old + 160 ≤ ROOM }
+    ensures text { line.new ≡ line.old ++ outcome_text in_run outcome.now }
+    ensures room { length line.new ≤ length line.old + 160 }
 {
     match outcome {
         Outcome::Mapped { pa, perms, mem, sh } => put_mapped(line, *pa, *perms, *mem, *sh),
@@ -79,7 +84,7 @@ pub fn outcome_line<O: Sink>(
     ensures text { Wrote (O.written out.old) (O.written out.new) result (outcome_text in_run outcome.now) }
     ensures cause { HasCause (O.faults out.old) (O.faults out.new) result }
 {
-    let mut line = Line::new();
+    let mut line = Line::<LINE>::new();
     put_outcome(&mut line, outcome, in_run);
     out.put(line.bytes())
 }

@@ -1,6 +1,6 @@
-//! Parts of lines. Each is put before what stands.
+//! Parts of lines. Each is put behind what stands.
 ghost use Rattle.std.specs.Prelude.{codes, ◌≡◌, ◌≤◌, ◌<◌, ◌+◌, ◌++◌, [], ◌∷◌, length, decimal, if◌then◌else◌};
-ghost use Rattle.explain_text.specs.Texts.{level_text, stage_digit, class_text, what_text, value_text, moment_text};
+ghost use Rattle.explain_text.specs.Texts.{level_text, stage_digit, class_text, what_text, value_text};
 ghost use Rattle.explain_text.specs.Mapped.{letters_text, rights_text, hints_text, cache_text, device_text, normal_text, mem_text, share_text};
 ghost use Rattle.permissions.specs.AccessNames.{el_text, kind_text};
 
@@ -8,30 +8,30 @@ use attributes::{Cache, Device, MemType, Share};
 use bitflags::Flags;
 use fault_codes::{Class, Stage};
 use permissions::{El, Kind, Perms};
-use texts::{LINE, Line};
+use texts::Line;
 use trails::What;
 
 /// Puts a level in decimal, also one below 0.
 #[inline]
-pub fn level(line: &mut Line, level: i8)
-    requires { 21 + length line.old ≤ LINE }
-    ensures text { line.new ≡ level_text level ++ line.old }
-    ensures room { length line.new ≤ 21 + length line.old }
+pub fn level<const ROOM: usize>(line: &mut Line<ROOM>, level: i8)
+    requires { length line.old + 21 ≤ ROOM }
+    ensures text { line.new ≡ line.old ++ level_text level }
+    ensures room { length line.new ≤ length line.old + 21 }
 {
     if level >= 0 {
         line.decimal(level as u64);
     } else {
-        line.decimal((0 - level as i64) as u64);
         line.literal(b"-");
+        line.decimal((0 - level as i64) as u64);
     }
 }
 
 /// Puts a stage's digit.
 #[inline]
-pub fn stage(line: &mut Line, stage: Stage)
-    requires { 1 + length line.old ≤ LINE }
-    ensures text { line.new ≡ stage_digit stage ++ line.old }
-    ensures room { length line.new ≡ 1 + length line.old }
+pub fn stage<const ROOM: usize>(line: &mut Line<ROOM>, stage: Stage)
+    requires { length line.old + 1 ≤ ROOM }
+    ensures text { line.new ≡ line.old ++ stage_digit stage }
+    ensures room { length line.new ≡ length line.old + 1 }
 {
     match stage {
         Stage::S1 => line.literal(b"1"),
@@ -41,10 +41,10 @@ pub fn stage(line: &mut Line, stage: Stage)
 
 /// Puts the word for a class of faults.
 #[inline]
-pub fn class(line: &mut Line, class: Class)
-    requires { 12 + length line.old ≤ LINE }
-    ensures text { line.new ≡ class_text class ++ line.old }
-    ensures room { length line.new ≤ 12 + length line.old }
+pub fn class<const ROOM: usize>(line: &mut Line<ROOM>, class: Class)
+    requires { length line.old + 12 ≤ ROOM }
+    ensures text { line.new ≡ line.old ++ class_text class }
+    ensures room { length line.new ≤ length line.old + 12 }
 {
     match class {
         Class::Translation => line.literal(b"translation"),
@@ -58,10 +58,10 @@ pub fn class(line: &mut Line, class: Class)
 
 /// Puts an item's stage and what it is.
 #[inline]
-pub fn name(line: &mut Line, stage: Stage, what: What)
-    requires { 7 + length line.old ≤ LINE }
-    ensures text { line.new ≡ codes "s" ++ (stage_digit stage ++ (what_text what ++ line.old)) }
-    ensures room { length line.new ≡ 7 + length line.old }
+pub fn name<const ROOM: usize>(line: &mut Line<ROOM>, stage: Stage, what: What)
+    requires { length line.old + 7 ≤ ROOM }
+    ensures text { line.new ≡ line.old ++ (codes "s" ++ (stage_digit stage ++ what_text what)) }
+    ensures room { length line.new ≡ length line.old + 7 }
 {
     match stage {
         Stage::S1 => match what {
@@ -124,52 +124,38 @@ fn level_words(level: u8) -> [u8; 14]
 
 /// Puts a level and what stands before the digits of a place, as ` level 3 at 0x`.
 #[inline]
-pub fn level_at(line: &mut Line, at: i8)
-    requires { 34 + length line.old ≤ LINE }
-    ensures text { line.new ≡ codes " level " ++ (level_text at ++ (codes " at 0x" ++ line.old)) }
-    ensures room { length line.new ≤ 34 + length line.old }
+pub fn level_at<const ROOM: usize>(line: &mut Line<ROOM>, at: i8)
+    requires { length line.old + 34 ≤ ROOM }
+    ensures text { line.new ≡ line.old ++ (codes " level " ++ (level_text at ++ codes " at 0x")) }
+    ensures room { length line.new ≤ length line.old + 34 }
 {
     if at >= 0 && at <= 3 {
         line.literal(&level_words(at as u8));
         return;
     }
-    line.literal(b" at 0x");
-    level(line, at);
     line.literal(b" level ");
+    level(line, at);
+    line.literal(b" at 0x");
 }
 
 /// Puts what a word holds, and nothing for a base.
 #[inline]
-pub fn value(line: &mut Line, what: What, value: u64)
-    requires { 25 + length line.old ≤ LINE }
-    ensures text { line.new ≡ value_text what value ++ line.old }
-    ensures room { length line.new ≤ 25 + length line.old }
+pub fn value<const ROOM: usize>(line: &mut Line<ROOM>, what: What, value: u64)
+    requires { length line.old + 25 ≤ ROOM }
+    ensures text { line.new ≡ line.old ++ value_text what value }
+    ensures room { length line.new ≤ length line.old + 25 }
 {
     if let What::Word = what {
-        line.hex_digits(value);
-        line.literal(b" value 0x");
-    }
-}
-
-/// Puts when an item was read, where a run tells it.
-#[inline]
-pub fn moment(line: &mut Line, in_run: bool, moment: u32)
-    requires { 28 + length line.old ≤ LINE }
-    ensures text { line.new ≡ moment_text in_run moment ++ line.old }
-    ensures room { length line.new ≤ 28 + length line.old }
-{
-    if in_run {
-        line.decimal(moment as u64);
-        line.literal(b" moment ");
+        line.headed(b" value 0x", value);
     }
 }
 
 /// Puts an exception level behind a space.
 #[inline]
-pub fn el(line: &mut Line, el: El)
-    requires { 4 + length line.old ≤ LINE }
-    ensures text { line.new ≡ codes " " ++ (el_text el ++ line.old) }
-    ensures room { length line.new ≡ 4 + length line.old }
+pub fn el<const ROOM: usize>(line: &mut Line<ROOM>, el: El)
+    requires { length line.old + 4 ≤ ROOM }
+    ensures text { line.new ≡ line.old ++ (codes " " ++ el_text el) }
+    ensures room { length line.new ≡ length line.old + 4 }
 {
     match el {
         El::El0 => line.literal(b" el0"),
@@ -179,10 +165,10 @@ pub fn el(line: &mut Line, el: El)
 
 /// Puts what an access does behind a space.
 #[inline]
-pub fn kind(line: &mut Line, kind: Kind)
-    requires { 6 + length line.old ≤ LINE }
-    ensures text { line.new ≡ codes " " ++ (kind_text kind ++ line.old) }
-    ensures room { length line.new ≤ 6 + length line.old }
+pub fn kind<const ROOM: usize>(line: &mut Line<ROOM>, kind: Kind)
+    requires { length line.old + 6 ≤ ROOM }
+    ensures text { line.new ≡ line.old ++ (codes " " ++ kind_text kind) }
+    ensures room { length line.new ≤ length line.old + 6 }
 {
     match kind {
         Kind::Read => line.literal(b" read"),
@@ -201,20 +187,20 @@ fn letter(given: bool, name: u8) -> u8
 
 /// Puts the letters of rights to read, write and fetch.
 #[inline]
-fn letters(line: &mut Line, read: bool, write: bool, fetch: bool)
-    requires { 3 + length line.old ≤ LINE }
-    ensures text { line.new ≡ letters_text read write fetch ++ line.old }
-    ensures room { length line.new ≡ 3 + length line.old }
+fn letters<const ROOM: usize>(line: &mut Line<ROOM>, read: bool, write: bool, fetch: bool)
+    requires { length line.old + 3 ≤ ROOM }
+    ensures text { line.new ≡ line.old ++ letters_text read write fetch }
+    ensures room { length line.new ≡ length line.old + 3 }
 {
     line.literal(&[letter(read, b'r'), letter(write, b'w'), letter(fetch, b'x')]);
 }
 
 /// Puts the rights of an exception level.
 #[inline]
-pub fn rights(line: &mut Line, perms: Perms, el: El)
-    requires { 3 + length line.old ≤ LINE }
-    ensures text { line.new ≡ rights_text perms el ++ line.old }
-    ensures room { length line.new ≡ 3 + length line.old }
+pub fn rights<const ROOM: usize>(line: &mut Line<ROOM>, perms: Perms, el: El)
+    requires { length line.old + 3 ≤ ROOM }
+    ensures text { line.new ≡ line.old ++ rights_text perms el }
+    ensures room { length line.new ≡ length line.old + 3 }
 {
     match el {
         El::El0 => letters(
@@ -234,22 +220,22 @@ pub fn rights(line: &mut Line, perms: Perms, el: El)
 
 /// Puts the allocation hints of a cacheability.
 #[inline]
-fn hints(line: &mut Line, transient: bool, read: bool, write: bool)
-    requires { 6 + length line.old ≤ LINE }
-    ensures text { line.new ≡ hints_text transient read write ++ line.old }
-    ensures room { length line.new ≤ 6 + length line.old }
+fn hints<const ROOM: usize>(line: &mut Line<ROOM>, transient: bool, read: bool, write: bool)
+    requires { length line.old + 6 ≤ ROOM }
+    ensures text { line.new ≡ line.old ++ hints_text transient read write }
+    ensures room { length line.new ≤ length line.old + 6 }
 {
-    line.when(transient, b"+t");
-    line.when(write, b"+w");
     line.when(read, b"+r");
+    line.when(write, b"+w");
+    line.when(transient, b"+t");
 }
 
 /// Puts how Normal memory is cached at one level.
 #[inline]
-fn cache(line: &mut Line, cache: Cache)
-    requires { 8 + length line.old ≤ LINE }
-    ensures text { line.new ≡ cache_text cache ++ line.old }
-    ensures room { length line.new ≤ 8 + length line.old }
+fn cache<const ROOM: usize>(line: &mut Line<ROOM>, cache: Cache)
+    requires { length line.old + 8 ≤ ROOM }
+    ensures text { line.new ≡ line.old ++ cache_text cache }
+    ensures room { length line.new ≤ length line.old + 8 }
 {
     match cache {
         Cache::Nc => line.literal(b"nc"),
@@ -258,26 +244,26 @@ fn cache(line: &mut Line, cache: Cache)
             read,
             write,
         } => {
-            hints(line, transient, read, write);
             line.literal(b"wt");
+            hints(line, transient, read, write);
         }
         Cache::Wb {
             transient,
             read,
             write,
         } => {
-            hints(line, transient, read, write);
             line.literal(b"wb");
+            hints(line, transient, read, write);
         }
     }
 }
 
 /// Puts a kind of Device memory.
 #[inline]
-fn device(line: &mut Line, kind: Device)
-    requires { 13 + length line.old ≤ LINE }
-    ensures text { line.new ≡ device_text kind ++ line.old }
-    ensures room { length line.new ≤ 13 + length line.old }
+fn device<const ROOM: usize>(line: &mut Line<ROOM>, kind: Device)
+    requires { length line.old + 13 ≤ ROOM }
+    ensures text { line.new ≡ line.old ++ device_text kind }
+    ensures room { length line.new ≤ length line.old + 13 }
 {
     match kind {
         Device::NGnRnE => line.literal(b"device-nGnRnE"),
@@ -289,24 +275,24 @@ fn device(line: &mut Line, kind: Device)
 
 /// Puts Normal memory.
 #[inline]
-fn normal(line: &mut Line, outer: Cache, inner: Cache, tagged: bool)
-    requires { 43 + length line.old ≤ LINE }
-    ensures text { line.new ≡ normal_text outer inner tagged ++ line.old }
-    ensures room { length line.new ≤ 43 + length line.old }
+fn normal<const ROOM: usize>(line: &mut Line<ROOM>, outer: Cache, inner: Cache, tagged: bool)
+    requires { length line.old + 43 ≤ ROOM }
+    ensures text { line.new ≡ line.old ++ normal_text outer inner tagged }
+    ensures room { length line.new ≤ length line.old + 43 }
 {
-    line.when(tagged, b" tagged");
-    cache(line, inner);
-    line.literal(b" inner ");
-    cache(line, outer);
     line.literal(b"normal outer ");
+    cache(line, outer);
+    line.literal(b" inner ");
+    cache(line, inner);
+    line.when(tagged, b" tagged");
 }
 
 /// Puts a memory type.
 #[inline]
-pub fn mem(line: &mut Line, mem: MemType)
-    requires { 43 + length line.old ≤ LINE }
-    ensures text { line.new ≡ mem_text mem ++ line.old }
-    ensures room { length line.new ≤ 43 + length line.old }
+pub fn mem<const ROOM: usize>(line: &mut Line<ROOM>, mem: MemType)
+    requires { length line.old + 43 ≤ ROOM }
+    ensures text { line.new ≡ line.old ++ mem_text mem }
+    ensures room { length line.new ≤ length line.old + 43 }
 {
     match mem {
         MemType::Device { kind } => device(line, kind),
@@ -320,10 +306,10 @@ pub fn mem(line: &mut Line, mem: MemType)
 
 /// Puts a shareability.
 #[inline]
-pub fn share(line: &mut Line, share: Share)
-    requires { 3 + length line.old ≤ LINE }
-    ensures text { line.new ≡ share_text share ++ line.old }
-    ensures room { length line.new ≡ 3 + length line.old }
+pub fn share<const ROOM: usize>(line: &mut Line<ROOM>, share: Share)
+    requires { length line.old + 3 ≤ ROOM }
+    ensures text { line.new ≡ line.old ++ share_text share }
+    ensures room { length line.new ≡ length line.old + 3 }
 {
     match share {
         Share::Nsh => line.literal(b"nsh"),

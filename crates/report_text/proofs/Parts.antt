@@ -1,13 +1,13 @@
--- Parts of a text that were put before a text.
-use Rattle.std.proofs.Common.{◌≡◌, ℕ, List, [], ◌∷◌, ◌++◌, refl, sym, ◌∙◌, ap, append_assoc}
+-- Parts of a text that were put behind a text.
+use Rattle.std.proofs.Common.{◌≡◌, ℕ, List, [], ◌∷◌, ◌++◌, sym, ◌∙◌, append_assoc, append-nil}
 use Rattle.texts.specs.Texts.{joined_text}
 
--- the parts, the last one put first
-abbrev pub put_before : (parts : List (List ℕ)) (old : List ℕ) → List ℕ
-put_before [] old = old
-put_before (p ∷ ps) old = p ++ put_before ps old
+-- the parts, the first one put first
+abbrev pub put_behind : (old : List ℕ) (parts : List (List ℕ)) → List ℕ
+put_behind old [] = old
+put_behind old (p ∷ ps) = put_behind (old ++ p) ps
 
--- is their text before it
-pub parts_before : (parts : List (List ℕ)) (old : List ℕ) → put_before parts old ≡ joined_text parts ++ old
-parts_before [] old = refl
-parts_before (p ∷ ps) old = ap (λ (t : List ℕ). p ++ t) (parts_before ps old) ∙ sym (append_assoc p (joined_text ps) old)
+-- is their text behind it
+pub parts_behind : (old : List ℕ) (parts : List (List ℕ)) → put_behind old parts ≡ old ++ joined_text parts
+parts_behind old [] = sym (append-nil old)
+parts_behind old (p ∷ ps) = parts_behind (old ++ p) ps ∙ append_assoc old p (joined_text ps)

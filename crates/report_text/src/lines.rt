@@ -5,55 +5,62 @@ ghost use Rattle.report_text.specs.Report.{event_text, second_text, answer_text,
 
 use crate::counts::Counts;
 use explain_text::{put_access, put_items, put_outcome};
-use texts::{LINE, Line};
+use texts::Line;
 use trails::{Access, Answer, Event, StepSlot, Trail};
 
-/// Puts the second trail of a conflict before what stands, behind the line `or`.
-fn put_second(line: &mut Line, second: &Option<Trail>)
-    requires { 6800 + length line.old ≤ LINE }
-    ensures text { line.new ≡ second_text second.now ++ line.old }
-    ensures room { length line.new ≤ 6800 + length line.old }
+/// Puts the second trail of a conflict, behind the line `or`.
+fn put_second<const ROOM: usize>(line: &mut Line<ROOM>, second: &Option<Trail>)
+    requires { length line.old + 6800 ≤ ROOM }
+    ensures text { line.new ≡ line.old ++ second_text second.now }
+    ensures room { length line.new ≤ length line.old + 6800 }
 {
     if let Some(trail) = second {
-        put_items(line, trail.items(), true);
         line.literal(b"or\n");
+        put_items(line, trail.items(), true);
     }
 }
 
-/// Puts the lines of an answer before what stands.
-fn put_answer(line: &mut Line, answer: &Answer)
+/// Puts the lines of an answer.
+fn put_answer<const ROOM: usize>(line: &mut Line<ROOM>, answer: &Answer)
     requires printable { HasText (printed true answer.now.outcome) }
-    requires room { 13760 + length line.old ≤ LINE }
-    ensures text { line.new ≡ answer_text answer.now ++ line.old }
-    ensures room { length line.new ≤ 13760 + length line.old }
+    requires room { length line.old + 13760 ≤ ROOM }
+    ensures text { line.new ≡ line.old ++ answer_text answer.now }
+    ensures room { length line.new ≤ length line.old + 13760 }
 {
-    put_outcome(line, &answer.outcome, true);
-    put_second(line, &answer.second);
     put_items(line, answer.first.items(), true);
+    put_second(line, &answer.second);
+    put_outcome(line, &answer.outcome, true);
 }
 
-/// Puts the line of an event before what stands.
+/// Puts the line of an event.
 #[inline]
-fn put_event(line: &mut Line, number: u64, core: u8, word: &str, access: &Access, answer: &Answer)
+fn put_event<const ROOM: usize>(
+    line: &mut Line<ROOM>,
+    number: u64,
+    core: u8,
+    word: &str,
+    access: &Access,
+    answer: &Answer,
+)
     requires word { length word.now ≤ 8 }
-    requires room { 160 + length line.old ≤ LINE }
-    ensures text { line.new ≡ event_text number core word.now access.now answer.now.asid answer.now.vmid ++ line.old }
-    ensures room { length line.new ≤ 160 + length line.old }
+    requires room { length line.old + 160 ≤ ROOM }
+    ensures text { line.new ≡ line.old ++ event_text number core word.now access.now answer.now.asid answer.now.vmid }
+    ensures room { length line.new ≤ length line.old + 160 }
 {
-    line.literal(b"\n");
-    put_access(line, access, answer.asid, answer.vmid);
-    line.text(word.as_bytes());
-    line.literal(b" ");
-    line.decimal(core as u64);
-    line.literal(b" core ");
-    line.decimal(number);
     line.literal(b"event ");
+    line.decimal(number);
+    line.literal(b" core ");
+    line.decimal(core as u64);
+    line.literal(b" ");
+    line.text(word.as_bytes());
+    put_access(line, access, answer.asid, answer.vmid);
+    line.literal(b"\n");
 }
 
-/// Puts the lines of an event that is answered before what stands.
+/// Puts the lines of an event that is answered.
 #[inline]
-fn put_answered(
-    line: &mut Line,
+fn put_answered<const ROOM: usize>(
+    line: &mut Line<ROOM>,
     number: u64,
     core: u8,
     word: &str,
@@ -62,18 +69,20 @@ fn put_answered(
 )
     requires word { length word.now ≤ 8 }
     requires printable { HasText (printed true answer.now.outcome) }
-    requires room { 14000 + length line.old ≤ LINE }
-    ensures { line.new ≡ (event_text number core word.now access.now answer.now.asid answer.now.vmid ++ answer_text answer.now) ++ line.old }
+    requires room { length line.old + 14000 ≤ ROOM }
+    ensures text { line.new ≡ line.old ++ (event_text number core word.now access.now answer.now.asid answer.now.vmid ++ answer_text answer.now) }
+    ensures room { length line.new ≤ length line.old + 14000 }
 {
-    put_answer(line, answer);
     put_event(line, number, core, word, access, answer);
+    put_answer(line, answer);
 }
 
-/// Puts the lines of a step before what stands. Only an access and a prefetch have some.
-pub fn put_step_lines(line: &mut Line, number: u64, step: &StepSlot)
+/// Puts the lines of a step. Only an access and a prefetch have some.
+pub fn put_step_lines<const ROOM: usize>(line: &mut Line<ROOM>, number: u64, step: &StepSlot)
     requires printable { HasTextInRun step.now.answer }
-    requires room { 14000 + length line.old ≤ LINE }
-    ensures { line.new ≡ step_text number step.now ++ line.old }
+    requires room { length line.old + 14000 ≤ ROOM }
+    ensures text { line.new ≡ line.old ++ step_text number step.now }
+    ensures room { length line.new ≤ length line.old + 14000 }
 {
     if !step.is_answered {
         return;
@@ -96,43 +105,43 @@ pub fn put_step_lines(line: &mut Line, number: u64, step: &StepSlot)
     }
 }
 
-/// Puts the front of the summary line before what stands.
-fn put_outcome_counts(line: &mut Line, counts: &Counts)
-    requires { 160 + length line.old ≤ LINE }
-    ensures { line.new ≡ outcomes_text counts.now ++ line.old }
+/// Puts the front of the summary line.
+fn put_outcome_counts<const ROOM: usize>(line: &mut Line<ROOM>, counts: &Counts)
+    requires { length line.old + 160 ≤ ROOM }
+    ensures text { line.new ≡ line.old ++ outcomes_text counts.now }
+    ensures room { length line.new ≤ length line.old + 160 }
 {
-    line.decimal(counts.conflicts);
-    line.literal(b" conflicts ");
-    line.decimal(counts.faulted);
-    line.literal(b" faulted ");
-    line.decimal(counts.mapped);
-    line.literal(b" mapped ");
-    line.decimal(counts.prefetches);
-    line.literal(b" prefetches ");
-    line.decimal(counts.accesses);
     line.literal(b"summary accesses ");
+    line.decimal(counts.accesses);
+    line.literal(b" prefetches ");
+    line.decimal(counts.prefetches);
+    line.literal(b" mapped ");
+    line.decimal(counts.mapped);
+    line.literal(b" faulted ");
+    line.decimal(counts.faulted);
+    line.literal(b" conflicts ");
+    line.decimal(counts.conflicts);
 }
 
-/// Puts the end of the summary line before what stands.
-fn put_mark_counts(line: &mut Line, counts: &Counts)
-    requires { 90 + length line.old ≤ LINE }
-    ensures text { line.new ≡ marks_text counts.now ++ line.old }
-    ensures room { length line.new ≤ 90 + length line.old }
+/// Puts the end of the summary line.
+fn put_mark_counts<const ROOM: usize>(line: &mut Line<ROOM>, counts: &Counts)
+    requires { length line.old + 90 ≤ ROOM }
+    ensures { line.new ≡ line.old ++ marks_text counts.now }
 {
-    line.literal(b"\n");
-    line.decimal(counts.evicted);
-    line.literal(b" evicted ");
-    line.decimal(counts.stale_answers);
-    line.literal(b" stale ");
-    line.decimal(counts.old_answers);
     line.literal(b" old ");
+    line.decimal(counts.old_answers);
+    line.literal(b" stale ");
+    line.decimal(counts.stale_answers);
+    line.literal(b" evicted ");
+    line.decimal(counts.evicted);
+    line.literal(b"\n");
 }
 
-/// Puts the summary line before what stands.
-pub fn put_summary_line(line: &mut Line, counts: &Counts)
-    requires { 250 + length line.old ≤ LINE }
-    ensures { line.new ≡ summary_text counts.now ++ line.old }
+/// Puts the summary line.
+pub fn put_summary_line<const ROOM: usize>(line: &mut Line<ROOM>, counts: &Counts)
+    requires { length line.old + 250 ≤ ROOM }
+    ensures { line.new ≡ line.old ++ summary_text counts.now }
 {
-    put_mark_counts(line, counts);
     put_outcome_counts(line, counts);
+    put_mark_counts(line, counts);
 }

@@ -7,49 +7,44 @@ ghost use Rattle.trails.specs.Printed.{HasTextInRun};
 ghost use Rattle.report_text.specs.Reports.{IsReportOf, GoesOn};
 
 use crate::counts::Counts;
-use crate::page::{Page, put_step, put_summary};
+use crate::page::{PAGE, put_step, put_summary};
 use explain_text::{Sink, WriteFailed};
-use std::alloc::Global;
 use std::marker::Model;
 use texts::Line;
 use trails::StepSlot;
 
-/// The room of a page in bytes: what waits before it is handed on, and then the lines of one step.
-const ROOM: usize = 64 * 1024;
-
 /// The report of a run, which is written while its steps are done: for each access and prefetch its lines, and at the end
-/// the summary line. It goes out in pieces of at least 32 KiB but for the last. Where memory is refused the pieces are
-/// shorter, down to a part of a line. The form is this project's own rule.
+/// the summary line. It goes out in pieces of at least 48 KiB but for the last. The form is this project's own rule.
 #[derive(Drop)]
 pub struct Report {
-    page: Page,
+    page: Line<PAGE>,
     counts: Counts,
     steps: u64,
-    line: Line,
 }
 
 impl Model for Report {
-    ghost use Rattle.std.specs.Prelude.{◌*◌, ◌^◌, ◌-◌};
+    ghost use Rattle.std.specs.Prelude.{◌+◌, ◌*◌, ◌^◌, ◌-◌, ◌≤◌, length};
+    ghost use Rattle.texts.specs.declared.line.TheConstants.{LINE};
+    ghost use Rattle.report_text.specs.declared.page.TheConstants.{PAGE};
     ghost use Rattle.report_text.specs.Bounds.{Within};
     ghost use Rattle.report_text.specs.Reports.{ReportState};
 
     ghost Value = { ReportState };
 
-    ghost view = { λ s. record { waits = s.page.bytes.items; counted = s.counts; steps = s.steps } };
+    ghost view = { λ s. record { waits = s.page; counted = s.counts; steps = s.steps } };
 
-    ghost invariant = { λ s. Within (3 * s.steps) ((2 ^ 32 - 1) * s.steps) s.counts };
+    ghost invariant = { λ s. (length s.page + LINE ≤ PAGE) × Within (3 * s.steps) ((2 ^ 32 - 1) * s.steps) s.counts };
 }
 
 impl Report {
     /// A report without steps.
-    pub fn new(alloc: Global) -> Report
+    pub fn new() -> Report
         ensures { (now : Option (List ℕ)) → IsReportOf now now result [] }
     {
         Report {
-            page: Page::with_room(alloc, ROOM),
+            page: Line::new(),
             counts: Counts::none(),
             steps: 0,
-            line: Line::new(),
         }
     }
 
@@ -65,7 +60,7 @@ impl Report {
         let number = self.steps;
         self.counts.step(step);
         self.steps += 1;
-        put_step(&mut self.page, &mut self.line, out, number, step)
+        put_step(&mut self.page, out, number, step)
     }
 
     /// Writes the summary line, and all that waits.
@@ -74,6 +69,6 @@ impl Report {
             Wrote before (O.written out.new) result (report_text log) }
         ensures cause { HasCause (O.faults out.old) (O.faults out.new) result }
     {
-        put_summary(&mut self.page, &mut self.line, out, &self.counts)
+        put_summary(&mut self.page, out, &self.counts)
     }
 }

@@ -142,12 +142,12 @@ pub fn ready(alloc: Global, trace: Trace) -> Result<Runner, NoMemory>
 }
 
 /// Runs a machine to the end of its trace. The report is written meanwhile, each step while it is at hand.
-pub fn play<O: Sink>(alloc: Global, out: &mut O, machine: &mut Runner) -> Result<(), WriteFailed>
+pub fn play<O: Sink>(out: &mut O, machine: &mut Runner) -> Result<(), WriteFailed>
     requires { IsReady machine.old }
     ensures text { Wrote (O.written out.old) (O.written out.new) result (run_text machine.old) }
     ensures cause { HasCause (O.faults out.old) (O.faults out.new) result }
 {
-    let mut report = Report::new(alloc);
+    let mut report = Report::new();
     let mut slot = StepSlot::new();
     for k in 0..machine.left() {
         machine.step(&mut slot);

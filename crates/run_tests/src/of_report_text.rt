@@ -242,11 +242,11 @@ fn six_steps(alloc: Global) -> Result<Vec<StepSlot>, AllocError>
 }
 
 /// Writes the report of a log.
-fn report<O: Sink>(alloc: Global, out: &mut O, log: &[StepSlot]) -> Result<(), WriteFailed>
+fn report<O: Sink>(out: &mut O, log: &[StepSlot]) -> Result<(), WriteFailed>
     requires printable { HaveTexts log.now }
-    requires length { length log.now ≤ 500 }
+    requires length { length log.now ≤ 700 }
 {
-    let mut report = Report::new(alloc);
+    let mut report = Report::new();
     for step in log {
         report.step(out, step)?;
     }
@@ -258,20 +258,20 @@ fn reports_a_run(rt: HostRuntime) -> Result<(), AllocError> {
     let alloc = rt.alloc();
     let log = six_steps(alloc)?;
     let mut out = QuietMemory::new(alloc);
-    assert!(rt; report(alloc, &mut out, log.as_slice()).is_ok());
+    assert!(rt; report(&mut out, log.as_slice()).is_ok());
     assert!(rt; out.bytes.as_slice() == TEXT.as_bytes());
     let mut out = QuietMemory::new(alloc);
-    assert!(rt; report(alloc, &mut out, &[]).is_ok());
+    assert!(rt; report(&mut out, &[]).is_ok());
     assert!(rt; out.bytes.as_slice() == NONE.as_bytes());
     Ok(())
 }
 
 /// A log whose report is handed on in three pieces: each access has 156 bytes.
 fn many_accesses(alloc: Global) -> Result<Vec<StepSlot>, AllocError>
-    ensures { IfOk result (λ log. HaveTexts log.items × (length log.items ≤ 500)) }
+    ensures { IfOk result (λ log. HaveTexts log.items × (length log.items ≤ 700)) }
 {
     let mut log = Vec::new(alloc);
-    for _made in 0..500u16 {
+    for _made in 0..700u16 {
         put(&mut log, first_access())?;
     }
     Ok(log)
@@ -283,12 +283,12 @@ fn tells_that_a_write_failed(rt: HostRuntime) -> Result<(), AllocError> {
     let alloc = rt.alloc();
     let log = many_accesses(alloc)?;
     let mut whole = QuietMemory::new(alloc);
-    assert!(rt; report(alloc, &mut whole, log.as_slice()).is_ok());
+    assert!(rt; report(&mut whole, log.as_slice()).is_ok());
     for (call, taken) in [(0, 0), (0, 9), (1, 40), (2, 5)] {
         let mut fails = Vec::new(alloc);
         fails.push((call, taken))?;
         let mut out = FailingMemory::new(alloc, fails);
-        assert!(rt; report(alloc, &mut out, log.as_slice()).is_err());
+        assert!(rt; report(&mut out, log.as_slice()).is_err());
         assert!(rt; (out.calls, out.faults) == (call + 1, 1));
         assert!(rt; whole.bytes.as_slice().starts_with(out.bytes.as_slice()));
     }

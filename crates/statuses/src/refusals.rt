@@ -1,7 +1,6 @@
 ghost use Rattle.std.specs.Prelude.{◌≡◌, ◌≤◌, ◌+◌, ◌++◌, length};
 ghost use Rattle.bitwords.specs.Causes.{HasCause};
 ghost use Rattle.explain_text.specs.Written.{Wrote};
-ghost use Rattle.texts.specs.declared.line.TheConstants.{LINE};
 ghost use Rattle.statuses.specs.ErrText.{field_name_text, registers_text, wrong_text, dump_text, line_why, word_why, trace_text, why_text, line_text, err_text};
 
 use crate::status::{Status, Why};
@@ -9,53 +8,53 @@ use dump_file::{DumpField, DumpRefusal};
 use explain_text::{Sink, WriteFailed};
 use reg_file::RegRefusal;
 use sysregs::Unsupported;
-use texts::Line;
+use texts::{LINE, Line};
 use trace_lang::TraceRefusal;
 
 /// `REG.FIELD`.
-fn field_name(line: &mut Line, at: &Unsupported)
-    requires { 13 + length line.old ≤ LINE }
-    ensures text { line.new ≡ field_name_text at.now ++ line.old }
-    ensures room { length line.new ≤ 13 + length line.old }
+fn field_name(line: &mut Line<LINE>, at: &Unsupported)
+    requires { length line.old + 13 ≤ LINE }
+    ensures text { line.new ≡ line.old ++ field_name_text at.now }
+    ensures room { length line.new ≤ length line.old + 13 }
 {
-    line.text(at.field.name().as_bytes());
-    line.text(b".");
     line.text(at.reg.name().as_bytes());
+    line.text(b".");
+    line.text(at.field.name().as_bytes());
 }
 
 /// Why a register file is refused.
-fn registers(line: &mut Line, why: &RegRefusal)
-    requires { 72 + length line.old ≤ LINE }
-    ensures text { line.new ≡ registers_text why.now ++ line.old }
-    ensures room { length line.new ≤ 72 + length line.old }
+fn registers(line: &mut Line<LINE>, why: &RegRefusal)
+    requires { length line.old + 72 ≤ LINE }
+    ensures text { line.new ≡ line.old ++ registers_text why.now }
+    ensures room { length line.new ≤ length line.old + 72 }
 {
     match why {
         RegRefusal::TooLarge { .. } => line.text(b"too large"),
         RegRefusal::NotToml => line.text(b"not toml"),
         RegRefusal::Unknown { key } => {
-            line.shown(key.text().as_bytes());
             line.text(b"unknown ");
+            line.shown(key.text().as_bytes());
         }
         RegRefusal::Missing { reg } => {
-            line.text(reg.key().as_bytes());
             line.text(b"missing ");
+            line.text(reg.key().as_bytes());
         }
         RegRefusal::BadValue { reg } => {
-            line.text(reg.key().as_bytes());
             line.text(b"bad value ");
+            line.text(reg.key().as_bytes());
         }
         RegRefusal::Unsupported { at } => {
-            field_name(line, at);
             line.text(b"unsupported ");
+            field_name(line, at);
         }
     }
 }
 
 /// What is wrong with the kind of a dump.
-fn wrong(line: &mut Line, field: DumpField)
-    requires { 16 + length line.old ≤ LINE }
-    ensures text { line.new ≡ wrong_text field ++ line.old }
-    ensures room { length line.new ≤ 16 + length line.old }
+fn wrong(line: &mut Line<LINE>, field: DumpField)
+    requires { length line.old + 16 ≤ LINE }
+    ensures text { line.new ≡ line.old ++ wrong_text field }
+    ensures room { length line.new ≤ length line.old + 16 }
 {
     match field {
         DumpField::Class => line.text(b"wrong class"),
@@ -67,10 +66,10 @@ fn wrong(line: &mut Line, field: DumpField)
 }
 
 /// Why a dump is refused.
-fn dump(line: &mut Line, why: DumpRefusal)
-    requires { 37 + length line.old ≤ LINE }
-    ensures text { line.new ≡ dump_text why ++ line.old }
-    ensures room { length line.new ≤ 37 + length line.old }
+fn dump(line: &mut Line<LINE>, why: DumpRefusal)
+    requires { length line.old + 37 ≤ LINE }
+    ensures text { line.new ≡ line.old ++ dump_text why }
+    ensures room { length line.new ≤ length line.old + 37 }
 {
     match why {
         DumpRefusal::NotElf => line.text(b"not elf"),
@@ -78,41 +77,41 @@ fn dump(line: &mut Line, why: DumpRefusal)
         DumpRefusal::BadTable => line.text(b"bad table"),
         DumpRefusal::TooMany => line.text(b"too many segments"),
         DumpRefusal::PastEnd { segment } => {
-            line.text(b" past end");
-            line.decimal(segment as u64);
             line.text(b"segment ");
+            line.decimal(segment as u64);
+            line.text(b" past end");
         }
     }
 }
 
 /// A refusal of a line of a trace.
-fn trace_line(line: &mut Line, number: u32, text: &[u8])
-    requires { 27 + length text.now + length line.old ≤ LINE }
-    ensures text { line.new ≡ line_why number text.now ++ line.old }
-    ensures room { length line.new ≤ 27 + length text.now + length line.old }
+fn trace_line(line: &mut Line<LINE>, number: u32, text: &[u8])
+    requires { length line.old + length text.now + 27 ≤ LINE }
+    ensures text { line.new ≡ line.old ++ line_why number text.now }
+    ensures room { length line.new ≤ length line.old + length text.now + 27 }
 {
-    line.text(text);
-    line.text(b": ");
-    line.decimal(number as u64);
     line.text(b"line ");
+    line.decimal(number as u64);
+    line.text(b": ");
+    line.text(text);
 }
 
 /// A refusal of a word of a line.
-fn trace_word(line: &mut Line, number: u32, text: &[u8], place: u32)
-    requires { 48 + length text.now + length line.old ≤ LINE }
-    ensures text { line.new ≡ word_why number text.now place ++ line.old }
-    ensures room { length line.new ≤ 48 + length text.now + length line.old }
+fn trace_word(line: &mut Line<LINE>, number: u32, text: &[u8], place: u32)
+    requires { length line.old + length text.now + 48 ≤ LINE }
+    ensures text { line.new ≡ line.old ++ word_why number text.now place }
+    ensures room { length line.new ≤ length line.old + length text.now + 48 }
 {
-    line.decimal(place as u64);
-    line.text(b" ");
     trace_line(line, number, text);
+    line.text(b" ");
+    line.decimal(place as u64);
 }
 
 /// Why a trace is refused.
-fn trace(line: &mut Line, why: &TraceRefusal)
-    requires { 60 + length line.old ≤ LINE }
-    ensures text { line.new ≡ trace_text why.now ++ line.old }
-    ensures room { length line.new ≤ 60 + length line.old }
+fn trace(line: &mut Line<LINE>, why: &TraceRefusal)
+    requires { length line.old + 60 ≤ LINE }
+    ensures text { line.new ≡ line.old ++ trace_text why.now }
+    ensures room { length line.new ≤ length line.old + 60 }
 {
     match *why {
         TraceRefusal::TooLarge { .. } => line.text(b"too large"),
@@ -124,8 +123,8 @@ fn trace(line: &mut Line, why: &TraceRefusal)
             trace_word(line, n, b"out of range", place)
         }
         TraceRefusal::Unsupported { line: n, at } => {
-            field_name(line, &at);
             trace_line(line, n, b"unsupported ");
+            field_name(line, &at);
         }
         TraceRefusal::NotAtEl1 { line: n } => trace_line(line, n, b"not at el1"),
         TraceRefusal::TooMany { line: n } => trace_line(line, n, b"too many"),
@@ -136,27 +135,27 @@ fn trace(line: &mut Line, why: &TraceRefusal)
 }
 
 /// What is refused, and why.
-fn refused(line: &mut Line, why: &Why)
-    requires { 83 + length line.old ≤ LINE }
-    ensures text { line.new ≡ why_text why.now ++ line.old }
-    ensures room { length line.new ≤ 83 + length line.old }
+fn refused(line: &mut Line<LINE>, why: &Why)
+    requires { length line.old + 83 ≤ LINE }
+    ensures text { line.new ≡ line.old ++ why_text why.now }
+    ensures room { length line.new ≤ length line.old + 83 }
 {
     match why {
         Why::Word { at } => {
-            field_name(line, at);
             line.text(b"raw: unsupported ");
+            field_name(line, at);
         }
         Why::Regs { why } => {
-            registers(line, why);
             line.text(b"registers: ");
+            registers(line, why);
         }
         Why::Dump { why } => {
-            dump(line, *why);
             line.text(b"dump: ");
+            dump(line, *why);
         }
         Why::Trace { why } => {
-            trace(line, why);
             line.text(b"trace: ");
+            trace(line, why);
         }
     }
 }
@@ -174,10 +173,10 @@ fn no_file_line<E: Sink>(err: &mut E, name: &str) -> Result<(), WriteFailed>
     ensures text { Wrote (E.written err.old) (E.written err.new) result (err_text (Status.NoFile name.now)) }
     ensures cause { HasCause (E.faults err.old) (E.faults err.new) result }
 {
-    let mut line = Line::new();
-    line.text(b"\n");
-    line.shown(name.as_bytes());
+    let mut line = Line::<LINE>::new();
     line.text(b"vmsa: no file ");
+    line.shown(name.as_bytes());
+    line.text(b"\n");
     err.put(line.bytes())
 }
 
@@ -186,10 +185,10 @@ fn refused_line<E: Sink>(err: &mut E, why: &Why) -> Result<(), WriteFailed>
     ensures text { Wrote (E.written err.old) (E.written err.new) result (err_text (Status.Refused why.now)) }
     ensures cause { HasCause (E.faults err.old) (E.faults err.new) result }
 {
-    let mut line = Line::new();
-    line.text(b"\n");
-    refused(&mut line, why);
+    let mut line = Line::<LINE>::new();
     line.text(b"vmsa: ");
+    refused(&mut line, why);
+    line.text(b"\n");
     err.put(line.bytes())
 }
 

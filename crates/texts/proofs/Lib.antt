@@ -4,3 +4,4 @@ pub mod Shown
 pub mod Values
 pub mod Pairs
 mod Hex
+mod Behind

@@ -1,8 +1,7 @@
 -- The digits of a number, the last one first, before a text that stands.
-use Rattle.std.proofs.Common.{◌≡◌, ℕ, ◌+◌, ◌-◌, ◌/◌, ◌%◌, ◌<◌, ◌≤◌, ◌^◌, zero, suc, List, [], ◌∷◌, ◌++◌, Bool, true, false, length, drop, sym, ◌∙◌, ap, refl, arith, eqb, subst, append_assoc}
+use Rattle.std.proofs.Common.{◌≡◌, ℕ, ◌+◌, ◌-◌, ◌/◌, ◌%◌, ◌<◌, ◌≤◌, ◌^◌, zero, suc, List, [], ◌∷◌, ◌++◌, Bool, true, false, sym, ◌∙◌, ap, refl, arith, eqb, subst, append_assoc}
 use Rattle.std.specs.Fmt.{digits, digits_onto, digit_glyph}
 use Rattle.std.proofs.Math.Nat.{div-lt_iff_lt-mul, pow-suc}
-use Rattle.std.proofs.lemmas.List.{length-drop, drop-drop, drop-append-le}
 
 -- the digits in a radix, with room for so many, before a text
 unfoldable pub onto : ℕ → ℕ → ℕ → List ℕ → List ℕ
@@ -46,15 +45,3 @@ digits_start most radix n acc h =
 pub room_left : (radix k n : ℕ) → 0 < radix → 0 < k → n < radix ^ k → n / radix < radix ^ (k - 1)
 room_left radix k n p h l = let one : k ≡ suc (k - 1) =
     omega arith in (div-lt_iff_lt-mul p).1 (let b : n < radix ^ suc (k - 1) = subst (λ (x : ℕ). n < radix ^ x) one l in rw pow-suc at b)
-
--- what stands behind a place of an array
-pub drop_room : (k r e : ℕ) (m n : List ℕ) → length m ≡ length n → e ≤ r + k → length (drop r m) ≤ k + length (drop e n)
-drop_room k r e m n a h = simp length-drop (omega arith)
-
--- how much stands before a place where so much has room besides
-pub room_before : (k s : ℕ) (m : List ℕ) → length m ≡ 16384 → s ≤ 16384 → k + length (drop s m) ≤ 16384 → k ≤ s
-room_before k s m a b h = let left : length (drop s m) ≡ 16384 - s = simp length-drop (omega (arith, a)) in omega (arith, left)
-
--- behind the first places of a text that stands before another
-pub within_first : (r s : ℕ) (new first old : List ℕ) → s ≤ length first → drop r new ≡ first ++ old → drop (r + s) new ≡ drop s first ++ old
-within_first r s new first old h is = sym (drop-drop s r new) ∙ ap (drop s) is ∙ drop-append-le s first old h

@@ -1,5 +1,5 @@
 -- Numbers in texts. The forms are this project's own rule.
-use Rattle.std.specs.Prelude.{◌≡◌, ℕ, zero, suc, ◌<◌, ◌*◌, ◌/◌, ◌%◌, List, [], ◌∷◌, ◌++◌, false, length, take, drop, codes, flat_map}
+use Rattle.std.specs.Prelude.{◌≡◌, ℕ, zero, suc, ◌≤◌, ◌<◌, ◌-◌, ◌*◌, ◌/◌, ◌%◌, ◌^◌, max, List, [], ◌∷◌, ◌++◌, false, length, take, drop, codes, flat_map}
 use Rattle.std.specs.Fmt.{digits, digit_glyph}
 
 -- the parts of a text, one behind the other
@@ -18,6 +18,10 @@ pair_text r n = digit_glyph false (n / r) ∷ digit_glyph false (n % r) ∷ []
 abbrev pub last_digits : (count radix number : ℕ) (text : List ℕ) → List ℕ
 last_digits zero r n text = text
 last_digits (suc k) r n text = last_digits k r (n / r) (digit_glyph false (n % r) ∷ text)
+
+-- so many hexadecimal digits has a number without leading zeros
+abbrev pub HasDigits : (count number : ℕ) → Type 0
+HasDigits count n = (0 < count) × (count ≤ 16) × (16 ^ (count - 1) ≤ max n 1) × (n < 16 ^ count)
 
 -- a table has the digits of all numbers of two digits, two each
 abbrev pub ArePairs : (radix : ℕ) (table : List ℕ) → Type 0

@@ -1,9 +1,9 @@
-//! Numbers as digits, which are written into a room from its end to its front, two at a time.
-ghost use Rattle.std.specs.Prelude.{◌≡◌, ◌++◌, ◌≤◌, ◌<◌, ◌+◌, ◌-◌, ◌*◌, ◌%◌, ◌^◌, drop, length, false, max};
+//! Numbers as digits, which are written into a room behind what stands there, two at a time.
+ghost use Rattle.std.specs.Prelude.{◌≡◌, ◌++◌, ◌≤◌, ◌<◌, ◌+◌, ◌-◌, ◌*◌, ◌%◌, ◌^◌, [], take, drop, length, false};
 ghost use Rattle.std.specs.Fmt.{digits, digit_glyph};
-ghost use Rattle.texts.specs.Texts.{pair_text, last_digits, ArePairs};
+ghost use Rattle.texts.specs.Texts.{pair_text, last_digits, HasDigits, ArePairs};
 
-use crate::room::array_before;
+use crate::room::{array_after, array_before, text_after};
 
 /// The glyphs of the digits in any radix up to 16.
 const GLYPHS: [u8; 16] = *b"0123456789abcdef";
@@ -46,16 +46,22 @@ fn pair<const N: usize>(pairs: &[u8; N], radix: u64, n: u64) -> &[u8; 2]
     pair
 }
 
-/// Writes a number of at most `most` decimal digits so that it ends before `end`. Answers where it starts.
+/// The most decimal digits of a number.
+const DECIMAL: usize = 20;
+
+/// The most hexadecimal digits of a number.
+const HEX: usize = 16;
+
+/// Writes a number of at most `most` decimal digits so that it ends before `end`, the last digits first. Answers where it
+/// starts.
 #[inline(always)]
 #[tactic(auto, using(crate::proofs::Pairs::decimal_pairs))]
-pub fn decimal_before(bytes: &mut [u8], end: usize, n: u64, most: usize) -> usize
+fn decimal_before(bytes: &mut [u8], end: usize, n: u64, most: usize) -> usize
     requires most { (0 < most) × (most ≤ 64) × (n < 10 ^ most) }
     requires end { (most ≤ end) × (end ≤ length bytes.old) }
     ensures size { length bytes.new ≡ length bytes.old }
     ensures text { drop result bytes.new ≡ digits 10 false n ++ drop end bytes.old }
-    ensures room { length (drop result bytes.new) ≤ most + length (drop end bytes.old) }
-    ensures within { result ≤ end }
+    ensures within { (result ≤ end) × (end ≤ result + most) }
 {
     let mut start = end;
     let mut rest = n;
@@ -69,6 +75,22 @@ pub fn decimal_before(bytes: &mut [u8], end: usize, n: u64, most: usize) -> usiz
     array_before::<1>(bytes, start, &[glyph(rest as u8)])
 }
 
+/// Writes a number of at most `most` decimal digits behind the first `end` bytes. Bytes behind it are written too, `most` in
+/// all. Answers where the number ends.
+#[inline(always)]
+pub fn decimal_after(bytes: &mut [u8], end: usize, n: u64, most: usize) -> usize
+    requires most { (0 < most) × (most ≤ DECIMAL) × (n < 10 ^ most) }
+    requires end { end + most ≤ length bytes.old }
+    ensures size { length bytes.new ≡ length bytes.old }
+    ensures text { take result bytes.new ≡ take end bytes.old ++ digits 10 false n }
+    ensures ends { (end ≤ result) × (result ≤ end + most) }
+{
+    let mut room = [0u8; 2 * DECIMAL];
+    let start = decimal_before(&mut room, DECIMAL, n, most);
+    text_after(bytes, end, &room[start..start + most]);
+    end + (DECIMAL - start)
+}
+
 /// Writes the last two hexadecimal digits of a number so that they end before `end`. Answers where they start.
 #[inline(always)]
 #[tactic(auto, using(crate::proofs::Pairs::hex_pairs))]
@@ -76,6 +98,7 @@ fn two_before(bytes: &mut [u8], end: usize, n: u64) -> usize
     requires { (2 ≤ end) × (end ≤ length bytes.old) }
     ensures size { length bytes.new ≡ length bytes.old }
     ensures text { drop result bytes.new ≡ pair_text 16 (n % 256) ++ drop end bytes.old }
+    ensures front { take result bytes.new ≡ take result bytes.old }
     ensures starts { result + 2 ≡ end }
 {
     array_before::<2>(bytes, end, pair::<512>(&HEX_PAIRS, 16, n % 256))
@@ -87,6 +110,7 @@ fn eight_before(bytes: &mut [u8], end: usize, n: u64) -> usize
     requires { (8 ≤ end) × (end ≤ length bytes.old) }
     ensures size { length bytes.new ≡ length bytes.old }
     ensures text { drop result bytes.new ≡ last_digits 8 16 n (drop end bytes.old) }
+    ensures front { take result bytes.new ≡ take result bytes.old }
     ensures starts { result + 8 ≡ end }
 {
     let start = two_before(bytes, end, n);
@@ -95,28 +119,60 @@ fn eight_before(bytes: &mut [u8], end: usize, n: u64) -> usize
     two_before(bytes, start, n / 256 / 256 / 256)
 }
 
-/// How many hexadecimal digits a number has.
+/// How many hexadecimal digits a number has, by its first bit that is set.
 #[inline(always)]
 fn hex_count(n: u64) -> usize
-    ensures range { (0 < result) × (result ≤ 16) }
-    ensures count { (16 ^ (result - 1) ≤ max n 1) × (n < 16 ^ result) }
+    ensures { HasDigits result n }
 {
-    16 - (n.max(1).leading_zeros() / 4) as usize
+    (63 - (n | 1).leading_zeros()) as usize / 4 + 1
 }
 
-/// Writes a number in hexadecimal digits without leading zeros so that it ends before `end`. Digits in front of it are
-/// written too, up to eight or sixteen. Answers where the number starts.
+/// Writes a number of so many hexadecimal digits so that it ends before `end`. Eight or sixteen digits are written, so that
+/// up to seven zeros stand in front of it.
 #[inline(always)]
-pub fn hex_before(bytes: &mut [u8], end: usize, n: u64) -> usize
-    requires { (16 ≤ end) × (end ≤ length bytes.old) }
+fn hex_before(bytes: &mut [u8], end: usize, n: u64, count: usize)
+    requires count { HasDigits count n }
+    requires end { (count + 7 ≤ end) × (end ≤ length bytes.old) }
     ensures size { length bytes.new ≡ length bytes.old }
-    ensures text { drop result bytes.new ≡ digits 16 false n ++ drop end bytes.old }
-    ensures within { (result ≤ end) × (end ≤ result + 16) }
+    ensures text { drop (end - count) bytes.new ≡ digits 16 false n ++ drop end bytes.old }
+    ensures front { take (end - (count + 7)) bytes.new ≡ take (end - (count + 7)) bytes.old }
 {
-    let count = hex_count(n);
     let start = eight_before(bytes, end, n);
     if count > 8 {
         eight_before(bytes, start, n / (1 << 32));
     }
-    end - count
+}
+
+/// Writes a number in hexadecimal digits without leading zeros behind the first `end` bytes. Bytes behind it are written too,
+/// HEX in all. Answers where the number ends.
+#[inline(always)]
+pub fn hex_after(bytes: &mut [u8], end: usize, n: u64) -> usize
+    requires { end + HEX ≤ length bytes.old }
+    ensures size { length bytes.new ≡ length bytes.old }
+    ensures text { take result bytes.new ≡ take end bytes.old ++ digits 16 false n }
+    ensures ends { (end ≤ result) × (result ≤ end + HEX) }
+{
+    let count = hex_count(n);
+    let mut room = [0u8; 3 * HEX];
+    hex_before(&mut room, 2 * HEX, n, count);
+    let start = 2 * HEX - count;
+    text_after(bytes, end, &room[start..start + HEX]);
+    end + count
+}
+
+/// Writes a head and a number in hexadecimal digits without leading zeros behind the first `end` bytes. The digits come
+/// first, so that the head takes the place of the zeros in front of them. Answers where the number ends.
+#[inline(always)]
+pub fn headed_after<const N: usize>(bytes: &mut [u8], end: usize, head: &[u8; N], n: u64) -> usize
+    requires head { 7 ≤ N }
+    requires end { end + N + HEX ≤ length bytes.old }
+    ensures size { length bytes.new ≡ length bytes.old }
+    ensures text { take result bytes.new ≡ take end bytes.old ++ (head.now ++ digits 16 false n) }
+    ensures ends { (end + N ≤ result) × (result ≤ end + N + HEX) }
+{
+    let count = hex_count(n);
+    let after = end + N + count;
+    hex_before(bytes, after, n, count);
+    array_after::<N>(bytes, end, head);
+    after
 }

@@ -1,10 +1,10 @@
-ghost use Rattle.std.specs.Prelude.{◌≡◌, ◌++◌, ℕ, ◌≤◌, ◌<◌, ◌+◌, ◌*◌, ◌^◌, List, [], drop, take, length, map, false, decimal, if◌then◌else◌};
+ghost use Rattle.std.specs.Prelude.{◌≡◌, ◌++◌, ℕ, ◌≤◌, ◌<◌, ◌+◌, ◌*◌, ◌^◌, List, [], take, length, map, false, decimal, if◌then◌else◌};
 ghost use Rattle.std.specs.Fmt.{digits, digit_glyph};
 ghost use Rattle.texts.specs.Texts.{hex_text, byte_text, pair_text, ArePairs};
 ghost use Rattle.texts.specs.Shown.{shown, shown_byte};
 
-use crate::digits::{decimal_before, glyph, hex_before};
-use crate::room::{array_before, text_before};
+use crate::digits::{decimal_after, glyph, headed_after, hex_after};
+use crate::room::{array_after, text_after};
 use std::marker::Model;
 
 /// The most bytes of a line, which may have line ends in it: there is room for all lines of one step of a run, two trails
@@ -14,43 +14,42 @@ pub const LINE: usize = 16 * 1024;
 /// How many bytes of a name are shown.
 pub const SHOWN: usize = 64;
 
-/// A text of at most LINE bytes that stands at the end of an array and grows at its front.
+/// A text of at most ROOM bytes, which may have line ends in it. It stands at the front of an array and grows at its end.
 #[derive(Drop)]
-pub struct Line {
-    bytes: [u8; LINE],
-    start: usize,
+pub struct Line<const ROOM: usize> {
+    bytes: [u8; ROOM],
+    end: usize,
 }
 
-impl Model for Line {
-    ghost use Rattle.std.specs.Prelude.{List, ℕ, drop, ◌≤◌};
-    ghost use Rattle.texts.specs.declared.line.TheConstants.{LINE};
+impl<const ROOM: usize> Model for Line<ROOM> {
+    ghost use Rattle.std.specs.Prelude.{List, ℕ, take, ◌≤◌};
 
     ghost Value = { List ℕ };
 
-    ghost view = { λ s. drop s.start s.bytes };
+    ghost view = { λ s. take s.end s.bytes };
 
-    ghost invariant = { λ s. s.start ≤ LINE };
+    ghost invariant = { λ s. s.end ≤ ROOM };
 }
 
 /// How many bytes a tail has at most.
 pub const TAIL: usize = 24;
 
-/// The end of a line, which many lines may have: it is put as a whole. It stands at the end of an array, as a line does.
+/// The end of a line, which many lines may have: it is put as a whole. It stands at the front of an array, as a line does.
 #[derive(Drop)]
 pub struct Tail {
     bytes: [u8; TAIL],
-    start: usize,
+    end: usize,
 }
 
 impl Model for Tail {
-    ghost use Rattle.std.specs.Prelude.{List, ℕ, drop, ◌≤◌};
+    ghost use Rattle.std.specs.Prelude.{List, ℕ, take, ◌≤◌};
     ghost use Rattle.texts.specs.declared.line.TheConstants.{TAIL};
 
     ghost Value = { List ℕ };
 
-    ghost view = { λ s. drop s.start s.bytes };
+    ghost view = { λ s. take s.end s.bytes };
 
-    ghost invariant = { λ s. s.start ≤ TAIL };
+    ghost invariant = { λ s. s.end ≤ TAIL };
 }
 
 impl Tail {
@@ -61,41 +60,41 @@ impl Tail {
     {
         Tail {
             bytes: [0; TAIL],
-            start: TAIL,
+            end: 0,
         }
     }
 
-    /// Puts a text before what stands.
+    /// Puts a text behind what stands.
     #[inline(always)]
     pub fn literal<const N: usize>(&mut self, text: &[u8; N])
-        requires { N + length self.old ≤ TAIL }
-        ensures text { self.new ≡ text.now ++ self.old }
-        ensures room { length self.new ≡ N + length self.old }
+        requires { length self.old + N ≤ TAIL }
+        ensures text { self.new ≡ self.old ++ text.now }
+        ensures room { length self.new ≡ length self.old + N }
     {
-        self.start = array_before::<N>(&mut self.bytes, self.start, text);
+        self.end = array_after::<N>(&mut self.bytes, self.end, text);
     }
 
-    /// Puts a number in decimal before what stands.
+    /// Puts a number in decimal behind what stands.
     #[inline]
     pub fn decimal(&mut self, n: u32)
-        requires { 10 + length self.old ≤ TAIL }
-        ensures text { self.new ≡ decimal n ++ self.old }
-        ensures room { length self.new ≤ 10 + length self.old }
+        requires { length self.old + 10 ≤ TAIL }
+        ensures text { self.new ≡ self.old ++ decimal n }
+        ensures room { length self.new ≤ length self.old + 10 }
     {
-        self.start = decimal_before(&mut self.bytes, self.start, n as u64, 10);
+        self.end = decimal_after(&mut self.bytes, self.end, n as u64, 10);
     }
 }
 
-/// Writes a tail so that it ends before `end`. Bytes in front of it are written too, up to TAIL in all. Answers where it
-/// starts.
+/// Writes a tail behind the first `end` bytes. Bytes behind it are written too, TAIL in all. Answers where it ends.
 #[inline(always)]
-fn tail_before(bytes: &mut [u8], end: usize, tail: &Tail) -> usize
-    requires { (TAIL ≤ end) × (end ≤ length bytes.old) }
+fn tail_after(bytes: &mut [u8], end: usize, tail: &Tail) -> usize
+    requires { end + TAIL ≤ length bytes.old }
     ensures size { length bytes.new ≡ length bytes.old }
-    ensures text { drop result bytes.new ≡ tail.now ++ drop end bytes.old }
-    ensures within { (result ≤ end) × (end ≤ result + TAIL) }
+    ensures text { take result bytes.new ≡ take end bytes.old ++ tail.now }
+    ensures ends { (end ≤ result) × (result ≤ end + TAIL) }
 {
-    array_before::<TAIL>(bytes, end, &tail.bytes) + tail.start
+    array_after::<TAIL>(bytes, end, &tail.bytes);
+    end + tail.end
 }
 
 #[inline]
@@ -122,15 +121,15 @@ fn shown_name(name: &[u8], room: &mut [u8; SHOWN]) -> usize
     count
 }
 
-impl Line {
+impl<const ROOM: usize> Line<ROOM> {
     /// A line without text.
     #[inline]
-    pub fn new() -> Line
+    pub fn new() -> Line<ROOM>
         ensures { result ≡ [] }
     {
         Line {
-            bytes: [0; LINE],
-            start: LINE,
+            bytes: [0; ROOM],
+            end: 0,
         }
     }
 
@@ -139,7 +138,7 @@ impl Line {
     pub fn clear(&mut self)
         ensures { self.new ≡ [] }
     {
-        self.start = LINE;
+        self.end = 0;
     }
 
     /// The text so far.
@@ -147,45 +146,45 @@ impl Line {
     pub fn bytes(&self) -> &[u8]
         ensures { result.now ≡ self.now }
     {
-        &self.bytes[self.start..]
+        &self.bytes[..self.end]
     }
 
-    /// Puts a text before what stands.
+    /// Puts a text behind what stands.
     #[inline]
     pub fn text(&mut self, text: &[u8])
-        requires { length text.now + length self.old ≤ LINE }
-        ensures text { self.new ≡ text.now ++ self.old }
-        ensures room { length self.new ≡ length text.now + length self.old }
+        requires { length self.old + length text.now ≤ ROOM }
+        ensures text { self.new ≡ self.old ++ text.now }
+        ensures room { length self.new ≡ length self.old + length text.now }
     {
-        self.start = text_before(&mut self.bytes, self.start, text);
+        self.end = text_after(&mut self.bytes, self.end, text);
     }
 
     /// Puts a text whose size is known when this is compiled, which makes it a few moves.
     #[inline(always)]
     pub fn literal<const N: usize>(&mut self, text: &[u8; N])
-        requires { N + length self.old ≤ LINE }
-        ensures text { self.new ≡ text.now ++ self.old }
-        ensures room { length self.new ≡ N + length self.old }
+        requires { length self.old + N ≤ ROOM }
+        ensures text { self.new ≡ self.old ++ text.now }
+        ensures room { length self.new ≡ length self.old + N }
     {
-        self.start = array_before::<N>(&mut self.bytes, self.start, text);
+        self.end = array_after::<N>(&mut self.bytes, self.end, text);
     }
 
     /// Puts a tail.
     #[inline(always)]
     pub fn tail(&mut self, tail: &Tail)
-        requires { TAIL + length self.old ≤ LINE }
-        ensures text { self.new ≡ tail.now ++ self.old }
-        ensures room { length self.new ≤ TAIL + length self.old }
+        requires { length self.old + TAIL ≤ ROOM }
+        ensures text { self.new ≡ self.old ++ tail.now }
+        ensures room { length self.new ≤ length self.old + TAIL }
     {
-        self.start = tail_before(&mut self.bytes, self.start, tail);
+        self.end = tail_after(&mut self.bytes, self.end, tail);
     }
 
     /// Puts a text that is shown or not.
     #[inline]
     pub fn when(&mut self, is_shown: bool, text: &[u8])
-        requires { length text.now + length self.old ≤ LINE }
-        ensures text { self.new ≡ (if is_shown then text.now else []) ++ self.old }
-        ensures room { length self.new ≤ length text.now + length self.old }
+        requires { length self.old + length text.now ≤ ROOM }
+        ensures text { self.new ≡ self.old ++ (if is_shown then text.now else []) }
+        ensures room { length self.new ≤ length self.old + length text.now }
     {
         if is_shown {
             self.text(text);
@@ -195,9 +194,9 @@ impl Line {
     /// Puts a byte as `0x` and two hexadecimal digits.
     #[inline]
     pub fn byte(&mut self, n: u8)
-        requires { 4 + length self.old ≤ LINE }
-        ensures text { self.new ≡ byte_text n ++ self.old }
-        ensures room { length self.new ≡ 4 + length self.old }
+        requires { length self.old + 4 ≤ ROOM }
+        ensures text { self.new ≡ self.old ++ byte_text n }
+        ensures room { length self.new ≡ length self.old + 4 }
     {
         self.literal::<4>(&[b'0', b'x', glyph(n / 16), glyph(n % 16)]);
     }
@@ -205,48 +204,59 @@ impl Line {
     /// Puts a number as hexadecimal digits without leading zeros, and without `0x`.
     #[inline]
     pub fn hex_digits(&mut self, n: u64)
-        requires { 16 + length self.old ≤ LINE }
-        ensures text { self.new ≡ digits 16 false n ++ self.old }
-        ensures room { length self.new ≤ 16 + length self.old }
+        requires { length self.old + 16 ≤ ROOM }
+        ensures text { self.new ≡ self.old ++ digits 16 false n }
+        ensures room { length self.new ≤ length self.old + 16 }
     {
-        self.start = hex_before(&mut self.bytes, self.start, n);
+        self.end = hex_after(&mut self.bytes, self.end, n);
     }
 
     /// Puts a number as `0x` and hexadecimal digits without leading zeros.
     #[inline]
     pub fn hex(&mut self, n: u64)
-        requires { 18 + length self.old ≤ LINE }
-        ensures text { self.new ≡ hex_text n ++ self.old }
-        ensures room { length self.new ≤ 18 + length self.old }
+        requires { length self.old + 18 ≤ ROOM }
+        ensures text { self.new ≡ self.old ++ hex_text n }
+        ensures room { length self.new ≤ length self.old + 18 }
     {
-        self.hex_digits(n);
         self.literal::<2>(b"0x");
+        self.hex_digits(n);
     }
 
     /// Puts a number in decimal.
     #[inline]
     pub fn decimal(&mut self, n: u64)
-        requires { 20 + length self.old ≤ LINE }
-        ensures text { self.new ≡ decimal n ++ self.old }
-        ensures room { length self.new ≤ 20 + length self.old }
+        requires { length self.old + 20 ≤ ROOM }
+        ensures text { self.new ≡ self.old ++ decimal n }
+        ensures room { length self.new ≤ length self.old + 20 }
     {
-        self.start = decimal_before(&mut self.bytes, self.start, n, 20);
+        self.end = decimal_after(&mut self.bytes, self.end, n, 20);
     }
 
-    /// Puts a head, a number in hexadecimal digits without leading zeros, and a tail.
+    /// Puts a head of at least 7 bytes and a number in hexadecimal digits without leading zeros.
+    #[inline]
+    pub fn headed<const N: usize>(&mut self, head: &[u8; N], n: u64)
+        requires head { 7 ≤ N }
+        requires room { length self.old + N + 16 ≤ ROOM }
+        ensures text { self.new ≡ self.old ++ (head.now ++ digits 16 false n) }
+        ensures room { length self.new ≤ length self.old + N + 16 }
+    {
+        self.end = headed_after::<N>(&mut self.bytes, self.end, head, n);
+    }
+
+    /// Puts a head of at least 7 bytes, a number in hexadecimal digits without leading zeros, and a tail.
     #[inline(always)]
     pub fn number<const N: usize>(&mut self, head: &[u8; N], n: u64, tail: &Tail)
-        requires { N + 40 + length self.old ≤ LINE }
-        ensures text { self.new ≡ head.now ++ (digits 16 false n ++ (tail.now ++ self.old)) }
-        ensures room { length self.new ≤ N + 40 + length self.old }
+        requires head { 7 ≤ N }
+        requires room { length self.old + N + 40 ≤ ROOM }
+        ensures text { self.new ≡ self.old ++ (head.now ++ (digits 16 false n ++ tail.now)) }
+        ensures room { length self.new ≤ length self.old + N + 40 }
     {
-        let start = tail_before(&mut self.bytes, self.start, tail);
-        let start = hex_before(&mut self.bytes, start, n);
-        self.start = array_before::<N>(&mut self.bytes, start, head);
+        let end = headed_after::<N>(&mut self.bytes, self.end, head, n);
+        self.end = tail_after(&mut self.bytes, end, tail);
     }
 
-    /// Puts a head, a number, a text between, a second number, and a tail. Both numbers are hexadecimal digits without
-    /// leading zeros.
+    /// Puts a head, a number, a text between, a second number, and a tail. The head and the text between have at least 7
+    /// bytes, and both numbers are hexadecimal digits without leading zeros.
     #[inline(always)]
     pub fn two_numbers<const N: usize, const M: usize>(
         &mut self,
@@ -256,22 +266,21 @@ impl Line {
         second: u64,
         tail: &Tail,
     )
-        requires { N + M + 56 + length self.old ≤ LINE }
-        ensures text { self.new ≡ head.now ++ (digits 16 false first ++ (between.now ++ (digits 16 false second ++ (tail.now ++ self.old)))) }
-        ensures room { length self.new ≤ N + M + 56 + length self.old }
+        requires heads { (7 ≤ N) × (7 ≤ M) }
+        requires room { length self.old + N + M + 56 ≤ ROOM }
+        ensures text { self.new ≡ self.old ++ (head.now ++ (digits 16 false first ++ (between.now ++ (digits 16 false second ++ tail.now)))) }
+        ensures room { length self.new ≤ length self.old + N + M + 56 }
     {
-        let start = tail_before(&mut self.bytes, self.start, tail);
-        let start = hex_before(&mut self.bytes, start, second);
-        let start = array_before::<M>(&mut self.bytes, start, between);
-        let start = hex_before(&mut self.bytes, start, first);
-        self.start = array_before::<N>(&mut self.bytes, start, head);
+        let end = headed_after::<N>(&mut self.bytes, self.end, head, first);
+        let end = headed_after::<M>(&mut self.bytes, end, between, second);
+        self.end = tail_after(&mut self.bytes, end, tail);
     }
 
     /// Puts a name as it is shown: its first SHOWN bytes, with `?` for each that is not visible.
     pub fn shown(&mut self, name: &[u8])
-        requires { SHOWN + length self.old ≤ LINE }
-        ensures text { self.new ≡ shown name.now ++ self.old }
-        ensures room { length self.new ≤ SHOWN + length self.old }
+        requires { length self.old + SHOWN ≤ ROOM }
+        ensures text { self.new ≡ self.old ++ shown name.now }
+        ensures room { length self.new ≤ length self.old + SHOWN }
     {
         let mut room = [0u8; SHOWN];
         let count = shown_name(name, &mut room);

@@ -1,5 +1,5 @@
-//! Texts that are written into a room from its end to its front.
-ghost use Rattle.std.specs.Prelude.{◌≡◌, ◌++◌, ◌≤◌, ◌+◌, drop, length};
+//! Texts that are written into a room, behind or before what stands there.
+ghost use Rattle.std.specs.Prelude.{◌≡◌, ◌++◌, ◌≤◌, ◌+◌, take, drop, length};
 
 /// Fills a room with a text of its size, which is known when this is compiled, so that it is a few moves.
 #[inline(always)]
@@ -13,12 +13,27 @@ fn fill<const N: usize>(room: &mut [u8], text: &[u8; N])
     *room = *text;
 }
 
+/// Writes a text of a size that is known when this is compiled behind the first `end` bytes. Answers where it ends.
+#[inline(always)]
+pub fn array_after<const N: usize>(bytes: &mut [u8], end: usize, text: &[u8; N]) -> usize
+    requires { end + N ≤ length bytes.old }
+    ensures size { length bytes.new ≡ length bytes.old }
+    ensures text { take result bytes.new ≡ take end bytes.old ++ text.now }
+    ensures behind { drop result bytes.new ≡ drop result bytes.old }
+    ensures ends { result ≡ end + N }
+{
+    let after = end + N;
+    fill::<N>(&mut bytes[end..after], text);
+    after
+}
+
 /// Writes a text of a size that is known when this is compiled so that it ends before `end`. Answers where it starts.
 #[inline(always)]
 pub fn array_before<const N: usize>(bytes: &mut [u8], end: usize, text: &[u8; N]) -> usize
     requires { (N ≤ end) × (end ≤ length bytes.old) }
     ensures size { length bytes.new ≡ length bytes.old }
     ensures text { drop result bytes.new ≡ text.now ++ drop end bytes.old }
+    ensures front { take result bytes.new ≡ take result bytes.old }
     ensures starts { result + N ≡ end }
 {
     let start = end - N;
@@ -26,16 +41,15 @@ pub fn array_before<const N: usize>(bytes: &mut [u8], end: usize, text: &[u8; N]
     start
 }
 
-/// Writes a text so that it ends before `end`. Answers where it starts.
-#[inline]
-pub fn text_before(bytes: &mut [u8], end: usize, text: &[u8]) -> usize
-    requires { (length text.now ≤ end) × (end ≤ length bytes.old) }
+/// Writes a text behind the first `end` bytes. Answers where it ends.
+#[inline(always)]
+pub fn text_after(bytes: &mut [u8], end: usize, text: &[u8]) -> usize
+    requires { end + length text.now ≤ length bytes.old }
     ensures size { length bytes.new ≡ length bytes.old }
-    ensures text { drop result bytes.new ≡ text.now ++ drop end bytes.old }
-    ensures room { length (drop result bytes.new) ≡ length text.now + length (drop end bytes.old) }
-    ensures starts { result + length text.now ≡ end }
+    ensures text { take result bytes.new ≡ take end bytes.old ++ text.now }
+    ensures ends { result ≡ end + length text.now }
 {
-    let start = end - text.len();
-    bytes[start..end].copy_from_slice(text);
-    start
+    let after = end + text.len();
+    bytes[end..after].copy_from_slice(text);
+    after
 }

@@ -32,17 +32,12 @@ fn due<F: Files>(alloc: Global, words: &[String], files: &mut F) -> Result<Answe
 }
 
 /// Writes what is due.
-fn tell<O: Sink, E: Sink>(
-    alloc: Global,
-    out: &mut O,
-    err: &mut E,
-    due: Result<Answer, Status>,
-) -> Status
+fn tell<O: Sink, E: Sink>(out: &mut O, err: &mut E, due: Result<Answer, Status>) -> Status
     requires { IfOk due HasAnswerText }
     ensures { Tells (writing_of O.written O.faults out.old out.new) (writing_of E.written E.faults err.old err.new) (due_of due) result }
 {
     match due {
-        Ok(answer) => match put_answer(alloc, out, answer) {
+        Ok(answer) => match put_answer(out, answer) {
             Ok(()) => Status::Done,
             Err(_) => Status::WriteFault,
         },
@@ -75,5 +70,5 @@ pub fn vmsa<F: Files, O: Sink, E: Sink>(
     ensures complete { IsComplete (reading_of F.holds F.faults F.missing files.old files.new) (writing_of O.written O.faults out.old out.new)
         (writing_of E.written E.faults err.old err.new) (command_of (map string_bytes words.now)) result }
 {
-    tell(alloc, out, err, due(alloc, words, files))
+    tell(out, err, due(alloc, words, files))
 }

@@ -1,4 +1,4 @@
-//! The lines of a trace's text. Each is built from its end, in a line that is used again: it takes the place of what stands.
+//! The lines of a trace's text. Each takes the place of what stands in a line that is used again.
 ghost use Rattle.std.specs.Prelude.{◌≡◌, ◌≤◌, ◌<◌, ◌^◌, ◌+◌, [], ◌∷◌, ◌++◌, length, codes, decimal, if◌then◌else◌};
 ghost use Rattle.sysregs.specs.Names.{reg_text};
 ghost use Rattle.sysregs.specs.Ops.{form_of, has_operand};
@@ -12,50 +12,60 @@ use sysregs::{Op, Reg};
 use texts::{LINE, Line};
 use trails::{Access, Barrier, Event, Origin};
 
-/// Leaves the end of a line alone.
-fn end(line: &mut Line)
-    ensures text { line.new ≡ codes "\n" }
-    ensures room { length line.new ≡ 1 }
+/// Begins a line anew with its first word.
+fn begin(line: &mut Line<LINE>, first: &[u8])
+    requires { length first.now ≤ LINE }
+    ensures text { line.new ≡ first.now }
+    ensures room { length line.new ≡ length first.now }
 {
     line.clear();
-    line.text(b"\n");
-}
-
-/// Puts a word behind a space before what stands.
-fn word(line: &mut Line, word: &[u8])
-    requires { length word.now + 1 + length line.old ≤ LINE }
-    ensures text { line.new ≡ codes " " ++ (word.now ++ line.old) }
-    ensures room { length line.new ≡ length word.now + 1 + length line.old }
-{
-    line.text(word);
-    line.text(b" ");
-}
-
-/// Puts a number as `0x` and hexadecimal digits behind a space before what stands.
-fn number(line: &mut Line, n: u64)
-    requires { 19 + length line.old ≤ LINE }
-    ensures text { line.new ≡ codes " " ++ (hex_text n ++ line.old) }
-    ensures room { length line.new ≤ 19 + length line.old }
-{
-    line.hex(n);
-    line.text(b" ");
-}
-
-/// Puts the first word of a line, and a number in decimal, before what stands.
-fn begin(line: &mut Line, first: &[u8], n: u8)
-    requires { length first.now + 21 + length line.old ≤ LINE }
-    ensures { line.new ≡ first.now ++ (codes " " ++ (decimal n ++ line.old)) }
-{
-    line.decimal(n as u64);
-    line.text(b" ");
     line.text(first);
 }
 
+/// Begins a line anew with its first word and the number of a core.
+fn begin_core(line: &mut Line<LINE>, first: &[u8], core: u8)
+    requires { length first.now + 21 ≤ LINE }
+    ensures text { line.new ≡ first.now ++ (codes " " ++ decimal core) }
+    ensures room { length line.new ≤ length first.now + 21 }
+{
+    begin(line, first);
+    line.text(b" ");
+    line.decimal(core as u64);
+}
+
+/// Ends a line.
+fn end(line: &mut Line<LINE>)
+    requires { length line.old + 1 ≤ LINE }
+    ensures { line.new ≡ line.old ++ codes "\n" }
+{
+    line.text(b"\n");
+}
+
+/// Puts a word behind a space.
+fn word(line: &mut Line<LINE>, word: &[u8])
+    requires { length line.old + length word.now + 1 ≤ LINE }
+    ensures text { line.new ≡ line.old ++ (codes " " ++ word.now) }
+    ensures room { length line.new ≡ length line.old + length word.now + 1 }
+{
+    line.text(b" ");
+    line.text(word);
+}
+
+/// Puts a number as `0x` and hexadecimal digits behind a space.
+fn number(line: &mut Line<LINE>, n: u64)
+    requires { length line.old + 19 ≤ LINE }
+    ensures text { line.new ≡ line.old ++ (codes " " ++ hex_text n) }
+    ensures room { length line.new ≤ length line.old + 19 }
+{
+    line.text(b" ");
+    line.hex(n);
+}
+
 /// Puts the operand of an operation that has one.
-fn operand(line: &mut Line, op: Op, operand: u64)
-    requires { 21 + length line.old ≤ LINE }
-    ensures text { line.new ≡ (if has_operand (form_of op).scope then codes " " ++ (hex_text operand ++ line.old) else line.old) }
-    ensures room { length line.new ≤ 21 + length line.old }
+fn operand(line: &mut Line<LINE>, op: Op, operand: u64)
+    requires { length line.old + 19 ≤ LINE }
+    ensures text { line.new ≡ line.old ++ (if has_operand (form_of op).scope then codes " " ++ hex_text operand else []) }
+    ensures room { length line.new ≤ length line.old + 19 }
 {
     if op.form().scope.has_operand() {
         number(line, operand);
@@ -63,72 +73,72 @@ fn operand(line: &mut Line, op: Op, operand: u64)
 }
 
 /// The line of a TLBI.
-fn tlbi_line(line: &mut Line, core: u8, from: Origin, op: Op, shared: bool, n: u64)
+fn tlbi_line(line: &mut Line<LINE>, core: u8, from: Origin, op: Op, shared: bool, n: u64)
     ensures text { line.new ≡ line_of (codes "tlbi" ∷ decimal core ∷ origin_text from ∷ op_word op shared
         ∷ (if has_operand (form_of op).scope then hex_text n ∷ [] else [])) }
 {
-    end(line);
-    operand(line, op, n);
-    line.when(shared, b"IS");
-    word(line, op.name().as_bytes());
+    begin_core(line, b"tlbi", core);
     word(line, origin_name(from));
-    begin(line, b"tlbi", core);
+    word(line, op.name().as_bytes());
+    line.when(shared, b"IS");
+    operand(line, op, n);
+    end(line);
 }
 
 /// The line of an access that begins with a word.
-fn access_line(line: &mut Line, first: &[u8], core: u8, access: Access)
+fn access_line(line: &mut Line<LINE>, first: &[u8], core: u8, access: Access)
     requires { length first.now ≤ 20 }
     ensures text { line.new ≡ line_of (first.now ∷ decimal core ∷ access_words access) }
     ensures words { access.va < 2 ^ 64 }
 {
-    end(line);
-    line.when(access.pan, b" pan");
-    number(line, access.va);
-    word(line, access.kind.name().as_bytes());
+    begin_core(line, first, core);
     word(line, access.el.name().as_bytes());
-    begin(line, first, core);
+    word(line, access.kind.name().as_bytes());
+    number(line, access.va);
+    line.when(access.pan, b" pan");
+    end(line);
 }
 
 /// The line of an event that has no words but the first and its core.
-fn short_line(line: &mut Line, first: &[u8], core: u8)
+fn short_line(line: &mut Line<LINE>, first: &[u8], core: u8)
     requires { length first.now ≤ 20 }
     ensures text { line.new ≡ line_of (first.now ∷ decimal core ∷ []) }
 {
+    begin_core(line, first, core);
     end(line);
-    begin(line, first, core);
 }
 
 /// The line of a store of a value at a place.
-fn store_line(line: &mut Line, core: u8, pa: u64, value: u64)
+fn store_line(line: &mut Line<LINE>, core: u8, pa: u64, value: u64)
     ensures text { line.new ≡ line_of (codes "store" ∷ decimal core ∷ hex_text pa ∷ hex_text value ∷ []) }
 {
-    end(line);
-    number(line, value);
+    begin_core(line, b"store", core);
     number(line, pa);
-    begin(line, b"store", core);
+    number(line, value);
+    end(line);
 }
 
 /// The line of a register write.
-fn msr_line(line: &mut Line, core: u8, reg: Reg, value: u64)
+fn msr_line(line: &mut Line<LINE>, core: u8, reg: Reg, value: u64)
     ensures text { line.new ≡ line_of (codes "msr" ∷ decimal core ∷ reg_text reg ∷ hex_text value ∷ []) }
 {
-    end(line);
-    number(line, value);
+    begin_core(line, b"msr", core);
     word(line, reg.name().as_bytes());
-    begin(line, b"msr", core);
+    number(line, value);
+    end(line);
 }
 
 /// The line of a DSB.
-fn dsb_line(line: &mut Line, core: u8, kind: Barrier)
+fn dsb_line(line: &mut Line<LINE>, core: u8, kind: Barrier)
     ensures text { line.new ≡ line_of (codes "dsb" ∷ decimal core ∷ barrier_text kind ∷ []) }
 {
-    end(line);
+    begin_core(line, b"dsb", core);
     word(line, barrier_name(kind));
-    begin(line, b"dsb", core);
+    end(line);
 }
 
 /// The line of an event.
-pub fn event_line(line: &mut Line, event: &Event)
+pub fn event_line(line: &mut Line<LINE>, event: &Event)
     ensures text { line.new ≡ line_of (event_words event.now) }
     ensures words { HasWords event.now }
 {
@@ -152,43 +162,43 @@ pub fn event_line(line: &mut Line, event: &Event)
 }
 
 /// The line that says how many cores there are.
-pub fn cores_line(line: &mut Line, cores: u8)
+pub fn cores_line(line: &mut Line<LINE>, cores: u8)
     ensures { line.new ≡ line_of (codes "cores" ∷ decimal cores ∷ []) }
 {
     short_line(line, b"cores", cores)
 }
 
 /// The line of a range of memory: its start and its length in bytes.
-pub fn range_line(line: &mut Line, base: u64, size: u64)
+pub fn range_line(line: &mut Line<LINE>, base: u64, size: u64)
     ensures { line.new ≡ line_of (range_words (base, size)) }
 {
-    end(line);
-    number(line, size);
+    begin(line, b"memory");
     number(line, base);
-    line.text(b"memory");
+    number(line, size);
+    end(line);
 }
 
 /// The line of the size of the caches.
-pub fn caches_line(line: &mut Line, size: Size)
+pub fn caches_line(line: &mut Line<LINE>, size: Size)
     ensures { line.new ≡ line_of (codes "caches" ∷ size_text size ∷ []) }
 {
-    end(line);
+    begin(line, b"caches");
     word(line, size_name(size));
-    line.text(b"caches");
+    end(line);
 }
 
 /// The line of the policy of the caches.
-pub fn policy_line(line: &mut Line, policy: Policy)
+pub fn policy_line(line: &mut Line<LINE>, policy: Policy)
     ensures { line.new ≡ line_of (codes "policy" ∷ policy_words policy) }
 {
-    end(line);
+    begin(line, b"policy");
     match policy {
         Policy::Lru => word(line, b"lru"),
         Policy::Fifo => word(line, b"fifo"),
         Policy::Random { start } => {
-            number(line, start);
             word(line, b"random");
+            number(line, start);
         }
     }
-    line.text(b"policy");
+    end(line);
 }

@@ -9,7 +9,7 @@ use crate::Trace;
 use crate::lines::{caches_line, cores_line, event_line, policy_line, range_line};
 use bitwords::NoMemory;
 use std::alloc::Global;
-use texts::Line;
+use texts::{LINE, Line};
 use trails::Event;
 
 /// Puts a line behind the text that stands.
@@ -22,7 +22,11 @@ fn put(text: &mut Vec<u8>, line: &[u8]) -> Result<(), NoMemory>
     }
 }
 
-fn put_ranges(text: &mut Vec<u8>, line: &mut Line, ranges: &[(u64, u64)]) -> Result<(), NoMemory>
+fn put_ranges(
+    text: &mut Vec<u8>,
+    line: &mut Line<LINE>,
+    ranges: &[(u64, u64)],
+) -> Result<(), NoMemory>
     ensures { IfOk result (λ _. text.new.items ≡ text.old.items ++ flat_map (λ r. line_of (range_words r)) ranges.now) }
 {
     for range in ranges {
@@ -32,7 +36,7 @@ fn put_ranges(text: &mut Vec<u8>, line: &mut Line, ranges: &[(u64, u64)]) -> Res
     Ok(())
 }
 
-fn put_header(text: &mut Vec<u8>, line: &mut Line, trace: &Trace) -> Result<(), NoMemory>
+fn put_header(text: &mut Vec<u8>, line: &mut Line<LINE>, trace: &Trace) -> Result<(), NoMemory>
     ensures { IfOk result (λ _. text.new.items ≡ text.old.items ++ header_text trace.now.header) }
 {
     cores_line(line, trace.cores());
@@ -44,7 +48,7 @@ fn put_header(text: &mut Vec<u8>, line: &mut Line, trace: &Trace) -> Result<(), 
     put(text, line.bytes())
 }
 
-fn put_events(text: &mut Vec<u8>, line: &mut Line, events: &[Event]) -> Result<(), NoMemory>
+fn put_events(text: &mut Vec<u8>, line: &mut Line<LINE>, events: &[Event]) -> Result<(), NoMemory>
     ensures text { IfOk result (λ _. text.new.items ≡ text.old.items ++ flat_map (λ e. line_of (event_words e)) events.now) }
     ensures words { IfOk result (λ _. All HasWords events.now) }
 {
@@ -63,7 +67,7 @@ pub fn print(alloc: Global, trace: &Trace) -> Result<Vec<u8>, NoMemory>
     ensures again { IsBuilt trace.now.header → HasNoPrefetch trace.now → IfOk result (λ v. trace_of v.items ≡ Ok trace.now) }
 {
     let mut text = Vec::new(alloc);
-    let mut line = Line::new();
+    let mut line = Line::<LINE>::new();
     put_header(&mut text, &mut line, trace)?;
     put_events(&mut text, &mut line, trace.events())?;
     put(&mut text, b"end\n")?;

@@ -1,9 +1,8 @@
-use Rattle.std.proofs.Common.{rules, arith, ◌≡◌, max}
-use Rattle.texts.proofs.Hex.{counted}
+use Rattle.texts.proofs.Hex.{has_digits, some_bit}
 use Rattle.texts.proofs.digits.hex_count.Goals as goal
 
-pub returns-clause-count : goal.returns-clause-count
-returns-clause-count c =
-    let is : c.max.result ≡ max c.args.n 1 = search rules in
-    let q = counted c.max.result (omega arith) (omega arith) in
-    (omega (arith, is, q.0), omega (arith, is, q.1))
+pub overflow_sub-result : goal.overflow_sub-result
+overflow_sub-result c = some_bit c.args.n c.ranges.n.fits
+
+pub returns : goal.returns
+returns c = has_digits c.args.n c.ranges.n.fits

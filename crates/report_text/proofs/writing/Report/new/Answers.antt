@@ -3,4 +3,4 @@ use Rattle.report_text.proofs.Steps.{nothing_yet}
 use Rattle.report_text.proofs.writing.Report.new.Goals as goal
 
 pub returns : goal.returns
-returns c = λ now. record { text = nothing_yet now _ c.with_room.ensures; counted = c.none.ensures; steps = refl }
+returns c = λ now. record { text = nothing_yet now _ c.new.ensures; counted = c.none.ensures; steps = refl }
