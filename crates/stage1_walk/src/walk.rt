@@ -14,7 +14,7 @@ use crate::supply::Supply1;
 use crate::under::Under1;
 use permissions::TableBits;
 use sysregs::Config;
-use table_reads::{left_below, level, place};
+use table_reads::{left_below, level, place, place_below};
 use trails::{Access, Stop, Trail};
 use walk_spec::{Entry1, Leaf1, Table1};
 
@@ -67,10 +67,11 @@ pub fn walk1_under<const G: u32, S: Supply1>(
     ensures text { IfErr result HasTextStop }
     ensures walked { Walked1 S.gives (asked_under under.now) left table supply.old trail.old trail.new result supply.new }
 {
+    let mut place = place::<G>(&under.sizes, left, table.address, under.address);
     loop {
         let entry = Entry1 {
             table,
-            place: place::<G>(&under.sizes, left, table.address, under.address),
+            place,
             address: under.address,
             left,
         };
@@ -79,6 +80,7 @@ pub fn walk1_under<const G: u32, S: Supply1>(
             Some(next) => {
                 table = next;
                 left -= 1;
+                place = place_below::<G>(left, table.address, under.address);
             }
             None => return end_by::<G>(under, &entry, last_place(trail), word),
         }

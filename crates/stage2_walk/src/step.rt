@@ -13,35 +13,25 @@ ghost use Rattle.stage2_walk.specs.SoundSteps.{IsSoundStep, IsSoundLeaf, GoesDow
 
 use crate::under::Under2;
 use attributes::types::{s2_attr, share};
-use descriptors::{Kind2, decode2, table2};
+use descriptors::{Kind2, means2, table2};
 use fault_codes::Class;
-use geometry::{case_table, goes_to, leaf_class};
+use geometry::{goes_to, leaf_class};
 use permissions::perms2;
 use sysregs::Config;
 use table_reads::{Lead, fault, is_too_large, level};
 use trails::Stop;
 use walk_spec::{Fields2, Leaf2};
 
-/// What a word means with `LEFT` levels left, and that it keeps to its bounds.
+/// What a word means, and that it keeps to its bounds.
 #[inline(always)]
 #[tactic(auto, using(descriptors::proofs::Bounds::bounded2))]
-fn meaning_at<const G: u32, const LEFT: u32>(word: u64, config: &Config) -> Kind2
-    requires granule { G ≡ granule_of config.now.tg2 }
-    requires left { LEFT ≤ most_left }
-    ensures value { result ≡ means2_of config.now LEFT word }
-    ensures bounded { IsBounded2 LEFT result }
-{
-    decode2::<G, LEFT>(word, config)
-}
-
-/// What a word means, and that it keeps to its bounds.
 pub(crate) fn meaning<const G: u32>(left: u32, word: u64, config: &Config) -> Kind2
     requires granule { G ≡ granule_of config.now.tg2 }
     requires left { left ≤ most_left }
     ensures value { result ≡ means2_of config.now left word }
     ensures bounded { IsBounded2 left result }
 {
-    case_table!(level left; meaning_at::<G>(word, config))
+    means2::<G>(word, left, config)
 }
 
 /// What a block or page gives whose word stands at a place.
@@ -130,23 +120,24 @@ fn reach<const G: u32>(
     }
 }
 
-/// What a word leads to that stands at a place, with `LEFT` levels left.
+/// What a word leads to that stands at a place, with so many levels left.
 #[tactic(auto, unfolding(walk_spec::specs::Stage2::step2))]
 #[inline(always)]
-pub(crate) fn step_at<const G: u32, const LEFT: u32>(
+pub(crate) fn step_by<const G: u32>(
     under: &Under2,
+    left: u32,
     place: u64,
     word: u64,
 ) -> Lead<Leaf2, u64>
     requires granule { G ≡ granule_of under.now.config.now.tg2 }
     requires under { IsUnder under.now }
-    requires left { LEFT ≤ most_left }
-    ensures value { result ≡ step2 (asked_under under.now) LEFT place word }
-    ensures sound { IsSoundStep LEFT under.now.ipa result }
+    requires left { left ≤ most_left }
+    ensures value { result ≡ step2 (asked_under under.now) left place word }
+    ensures sound { IsSoundStep left under.now.ipa result }
 {
-    match meaning_at::<G, LEFT>(word, under.config) {
-        Kind2::Invalid => stop(under, Class::Translation, LEFT),
-        Kind2::Table { next } => down(under, LEFT, next),
+    match meaning::<G>(left, word, under.config) {
+        Kind2::Invalid => stop(under, Class::Translation, left),
+        Kind2::Table { next } => down(under, left, next),
         Kind2::Leaf {
             out,
             mem_attr,
@@ -168,25 +159,9 @@ pub(crate) fn step_at<const G: u32, const LEFT: u32>(
                 dbm,
                 contiguous,
             };
-            reach::<G>(under, LEFT, place, af, &fields)
+            reach::<G>(under, left, place, af, &fields)
         }
     }
-}
-
-/// What a word leads to that stands at a place, with so many levels left.
-pub(crate) fn step_by<const G: u32>(
-    under: &Under2,
-    left: u32,
-    place: u64,
-    word: u64,
-) -> Lead<Leaf2, u64>
-    requires granule { G ≡ granule_of under.now.config.now.tg2 }
-    requires under { IsUnder under.now }
-    requires left { left ≤ most_left }
-    ensures value { result ≡ step2 (asked_under under.now) left place word }
-    ensures sound { IsSoundStep left under.now.ipa result }
-{
-    case_table!(level left; step_at::<G>(under, place, word))
 }
 
 /// The table that a word leads down to, with so many levels left; None where it leads to a leaf or a fault.
@@ -205,6 +180,7 @@ pub(crate) fn table_below<const G: u32>(under: &Under2, left: u32, word: u64) ->
 }
 
 /// What a word gives that leads down to no table.
+#[inline(always)]
 pub(crate) fn end_by<const G: u32>(
     under: &Under2,
     left: u32,

@@ -14,7 +14,7 @@ use crate::sizes::sizes2;
 use crate::step::{end_by, table_below};
 use crate::under::Under2;
 use sysregs::Config;
-use table_reads::{Supply, left_below, level, place, read};
+use table_reads::{Supply, left_below, level, place, place_below, read};
 use trails::{Stop, Trail};
 use walk_spec::Leaf2;
 
@@ -69,13 +69,14 @@ pub fn walk2_under<const G: u32, S: Supply>(
     ensures sound { IfOk result (IsSoundLeaf under.now.ipa) }
     ensures walked { WalkedLeft (S.memory supply.old) (Rose (S.faults supply.old) (S.faults supply.new)) under.now left table trail.old trail.new result }
 {
+    let mut place = place::<G>(&under.sizes, left, table, under.ipa);
     loop {
-        let place = place::<G>(&under.sizes, left, table, under.ipa);
         let word = read_word(under, left, place, supply, trail)?;
         match table_below::<G>(under, left, word) {
             Some(next) => {
                 table = next;
                 left -= 1;
+                place = place_below::<G>(left, table, under.ipa);
             }
             None => return end_by::<G>(under, left, place, word),
         }

@@ -1,4 +1,4 @@
-use Rattle.std.proofs.Common.{rules, arith, ◌≡◌, ◌≤◌, ◌+◌, length, length-append, Err, refl, ap}
+use Rattle.std.proofs.Common.{rules, arith, ◌≡◌, ◌≤◌, ◌+◌, length, length-append, Err, refl, sym, ap, ◌∙◌}
 use Rattle.trails.specs.Lengths.{most_per_word}
 use Rattle.stage1_walk.proofs.OnEntries.{entry_here, last_given, word_stopped, word_last, word_goes}
 use Rattle.stage1_walk.proofs.walk.walk1_under.Goals as goal
@@ -6,7 +6,7 @@ use Rattle.stage1_walk.proofs.walk.walk1_under.Goals as goal
 pub returns-in_err-word-clause-walked : goal.returns-in_err-word-clause-walked
 returns-in_err-word-clause-walked g c =
     let gave = c.in_err-word.ensures.gave in
-    let here = entry_here c.args.under.now c.loop-word.left c.loop-word.table c.place.result c.requires.under c.place.ensures.value in
+    let here = entry_here c.args.under.now c.loop-word.left c.loop-word.table _ c.requires.under c.loop-word.invariant.place.0 in
     let e : c.from_residual.result ≡ Err c.in_err-word.field-0.0 = search rules in
     c.loop-word.invariant.walked _ _ _ (word_stopped _ _ _ _ _ here _ _ _ _ _ _ gave e)
 
@@ -18,9 +18,11 @@ loop-word-preserved g c =
     omega (arith, ap length gave.grown, length-append c.loop-word.trail gave.more, gave.most) in
     let s = c.in-Some.ensures in
     let last = last_given c.loop-word.trail c.word_of.new.trail gave.more _ gave.grown gave.word in
-    let here = entry_here c.args.under.now c.loop-word.left c.loop-word.table c.place.result c.requires.under c.place.ensures.value in record {
+    let here = entry_here c.args.under.now c.loop-word.left c.loop-word.table _ c.requires.under c.loop-word.invariant.place.0 in record {
       left = omega (arith, i.left);
       table = (s.2, s.3);
+      place = (c.place_below-place.ensures.value _ (c.requires.under.granule ∙ sym c.requires.granule) (omega (arith, i.left, c.requires.left, s.1)),
+        c.place_below-place.ensures.aligned);
       most = omega (arith, i.most, n, s.1);
       walked = λ new r after w. i.walked new r after (word_goes _ _ _ _ _ here _ _ _ _ _ _ gave last.1 _ _ _ _ (s.0 last.0) s.1 w);
     }
@@ -28,5 +30,5 @@ loop-word-preserved g c =
 pub returns-in-None-clause-walked : goal.returns-in-None-clause-walked
 returns-in-None-clause-walked g c =
     let gave = c.in_ok-word.ensures.gave in
-    let here = entry_here c.args.under.now c.loop-word.left c.loop-word.table c.place.result c.requires.under c.place.ensures.value in
+    let here = entry_here c.args.under.now c.loop-word.left c.loop-word.table _ c.requires.under c.loop-word.invariant.place.0 in
     c.loop-word.invariant.walked _ _ _ (word_last _ _ _ _ _ here _ _ _ _ _ _ gave c.last_place.ensures _ _ refl c.end_by.ensures.value)

@@ -2,6 +2,7 @@ use Rattle.std.proofs.Common.{◌≡◌, ◌+◌, ◌*◌, ◌≤◌, ◌<◌, �
 use Rattle.trails.specs.Lengths.{most_per_word}
 use Rattle.trails.specs.declared.item.Item.{Item}
 use Rattle.trails.specs.declared.outcome.Stop.{Stop}
+use Rattle.table_reads.specs.Places.{place_of}
 use Rattle.walk_spec.specs.declared.leaf.Leaf1.{Leaf1}
 use Rattle.stage1_walk.specs.Under.{asked_under}
 use Rattle.stage1_walk.specs.Gave.{Walked1}
@@ -12,6 +13,7 @@ abbrev pub invariant-loop-word : goal.invariant-loop-word
 invariant-loop-word g l = record {
   left : l.left ≤ l.fn.left;
   table : (l.table.address < 2 ^ 52) × (l.table.address % 8 ≡ 0);
+  place : (l.place ≡ place_of l.fn.under.sizes l.left l.table.address l.fn.under.address) × (l.place % 8 ≡ 0);
   most : length l.trail + most_per_word * (l.left + 1) ≤ length l.fn.trail + most_per_word * (l.fn.left + 1);
   walked : (new : List Item) (r : Result Leaf1 Stop) (after : g.row.S.Denot) →
       Walked1 g.S.Supply1.gives (asked_under l.fn.under) l.left l.table l.supply l.trail new r after
