@@ -1,26 +1,32 @@
 ghost use Rattle.std.specs.Prelude.{◌≡◌, ◌≤◌, ◌<◌, ◌^◌, ◌%◌, if◌then◌else◌, None, IfOk, IfErr};
-ghost use Rattle.walk_spec.specs.Walked.{HasLineStop};
 ghost use Rattle.geometry.specs.Tables.{most_left};
 ghost use Rattle.sysregs.specs.Registers.{granule_of};
-ghost use Rattle.fault_codes.specs.Status.{HasLevel};
+ghost use Rattle.fault_codes.specs.Status.{HasStatus, HasLevel};
 ghost use Rattle.fault_codes.specs.declared.fault.Class.TheVariants.{Permission, AddressSize};
 ghost use Rattle.descriptors.specs.Meaning.{means2_of};
 ghost use Rattle.descriptors.specs.Bounds.{IsBounded2};
 ghost use Rattle.table_reads.specs.Places;
 ghost use Rattle.walk_spec.specs.Stage2.{fault2, leaf2_of, step2, step2_by};
 ghost use Rattle.stage2_walk.specs.Under.{IsUnder, asked_under};
-ghost use Rattle.stage2_walk.specs.SoundSteps.{IsSoundStep, IsSoundLeaf, GoesDown, EndsIn, kind_of};
+ghost use Rattle.stage2_walk.specs.SoundSteps.{IsSoundStep, IsSoundLeaf, GoesDown, IsLast, EndsIn, kind_of};
 
 use crate::under::Under2;
 use attributes::types::{s2_attr, share};
 use descriptors::{Kind2, means2, table2};
-use fault_codes::Class;
+use fault_codes::{Class, Fault};
 use geometry::{goes_to, leaf_class};
 use permissions::perms2;
 use sysregs::Config;
 use table_reads::{Lead, fault, is_too_large, level};
-use trails::Stop;
 use walk_spec::{Fields2, Leaf2};
+
+/// The last word that a walk reads, which leads down to no table: its value, its place in bytes, and how many levels are left.
+#[derive(Clone, Copy)]
+pub struct Last2 {
+    pub word: u64,
+    pub place: u64,
+    pub left: u32,
+}
 
 /// What a word means, and that it keeps to its bounds.
 #[inline(always)]
@@ -179,25 +185,19 @@ pub(crate) fn table_below<const G: u32>(under: &Under2, left: u32, word: u64) ->
     }
 }
 
-/// What a word gives that leads down to no table.
+/// What the last word gives that a walk reads.
 #[inline(always)]
-pub(crate) fn end_by<const G: u32>(
-    under: &Under2,
-    left: u32,
-    place: u64,
-    word: u64,
-) -> Result<Leaf2, Stop>
+pub fn end2<const G: u32>(under: &Under2, last: &Last2) -> Result<Leaf2, Fault>
     requires granule { G ≡ granule_of under.now.config.now.tg2 }
     requires under { IsUnder under.now }
-    requires left { left ≤ most_left }
-    requires end { GoesDown (λ p. step2 (asked_under under.now) left p word) left None }
-    ensures value { EndsIn (step2 (asked_under under.now) left place word) result }
-    ensures line { IfErr result HasLineStop }
+    requires last { IsLast (asked_under under.now) last.now }
+    ensures value { EndsIn (step2 (asked_under under.now) last.now.left last.now.place last.now.word) result }
+    ensures status { IfErr result HasStatus }
     ensures sound { IfOk result (IsSoundLeaf under.now.ipa) }
 {
-    match step_by::<G>(under, left, place, word) {
+    match step_by::<G>(under, last.left, last.place, last.word) {
         Lead::Down { .. } => unreachable!(),
         Lead::Reached { leaf } => Ok(leaf),
-        Lead::Stopped { fault } => Err(Stop::Fault { fault }),
+        Lead::Stopped { fault } => Err(fault),
     }
 }

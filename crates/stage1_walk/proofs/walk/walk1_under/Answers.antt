@@ -21,8 +21,10 @@ loop-word-preserved g c =
     let here = entry_here c.args.under.now c.loop-word.left c.loop-word.table _ c.requires.under c.loop-word.invariant.place.0 in record {
       left = omega (arith, i.left);
       table = (s.2, s.3);
-      place = (c.place_below-place.ensures.value _ (c.requires.under.granule ∙ sym c.requires.granule) (omega (arith, i.left, c.requires.left, s.1)),
-        c.place_below-place.ensures.aligned);
+      place = (
+        c.place_below-place.ensures.value _ (c.requires.under.granule ∙ sym c.requires.granule) (omega (arith, i.left, c.requires.left, s.1)),
+        c.place_below-place.ensures.aligned,
+      );
       most = omega (arith, i.most, n, s.1);
       walked = λ new r after w. i.walked new r after (word_goes _ _ _ _ _ here _ _ _ _ _ _ gave last.1 _ _ _ _ (s.0 last.0) s.1 w);
     }

@@ -5,7 +5,7 @@ use Rattle.trails.specs.declared.outcome.Stop.{Stop}
 use Rattle.table_reads.specs.Places.{place_of}
 use Rattle.walk_spec.specs.declared.leaf.Leaf2.{Leaf2}
 use Rattle.stage2_walk.specs.Clauses.{WalkedLeft}
-use Rattle.stage2_walk.proofs.walk.walk2_under.Given as goal
+use Rattle.stage2_walk.proofs.walk.walk2_down.Given as goal
 
 -- a walk from the table that is reached is the rest of the walk from the first one
 abbrev pub invariant-loop-word : goal.invariant-loop-word
