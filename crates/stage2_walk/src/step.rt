@@ -8,15 +8,16 @@ ghost use Rattle.descriptors.specs.Bounds.{IsBounded2};
 ghost use Rattle.table_reads.specs.Places;
 ghost use Rattle.walk_spec.specs.Stage2.{fault2, leaf2_of, step2, step2_by};
 ghost use Rattle.stage2_walk.specs.Under.{IsUnder, asked_under};
-ghost use Rattle.stage2_walk.specs.SoundSteps.{IsSoundStep, IsSoundLeaf, GoesDown, IsLast, EndsIn, kind_of};
+ghost use Rattle.stage2_walk.specs.SoundSteps.{IsSoundStep, IsSoundLeaf, GoesDown, IsLast, IsTarget, leaf_at, EndsIn, kind_of};
 
 use crate::under::Under2;
 use attributes::types::{s2_attr, share};
+use bitwords::{field, flag};
 use descriptors::{Kind2, means2, table2};
 use fault_codes::{Class, Fault};
-use geometry::{goes_to, leaf_class};
+use geometry::{case_table, goes_to, leaf_class};
 use permissions::perms2;
-use sysregs::Config;
+use sysregs::{Config, Tg};
 use table_reads::{Lead, fault, is_too_large, level};
 use walk_spec::{Fields2, Leaf2};
 
@@ -185,19 +186,70 @@ pub(crate) fn table_below<const G: u32>(under: &Under2, left: u32, word: u64) ->
     }
 }
 
+/// Where the last word of a walk sends the IPA, and the class of its entry or run.
+#[derive(Clone, Copy)]
+struct Target {
+    pa: u64,
+    class: u32,
+}
+
+/// Where the last word of a walk sends the IPA.
+#[inline(always)]
+fn target_of<const G: u32>(under: &Under2, last: &Last2) -> Result<Target, Fault>
+    requires granule { G ≡ granule_of under.now.config.now.tg2 }
+    requires under { IsUnder under.now }
+    requires last { IsLast (asked_under under.now) last.now }
+    ensures value { IsTarget (asked_under under.now) last.now (step2 (asked_under under.now) last.now.left last.now.place last.now.word) result }
+    ensures status { IfErr result HasStatus }
+    ensures eights { IfOk result (λ t. t.pa % 8 ≡ under.now.ipa % 8) }
+{
+    match step_by::<G>(under, last.left, last.place, last.word) {
+        Lead::Down { .. } => unreachable!(),
+        Lead::Reached { leaf } => Ok(Target {
+            pa: leaf.pa,
+            class: leaf.class,
+        }),
+        Lead::Stopped { fault } => Err(fault),
+    }
+}
+
+/// What the leaf of a word gives that leads to this target. But for the target the granule plays no part.
+#[inline(always)]
+fn leaf_at(under: &Under2, last: &Last2, target: &Target) -> Leaf2
+    requires left { last.now.left ≤ most_left }
+    ensures value { result ≡ leaf_at (asked_under under.now) last.now target.now.pa target.now.class }
+    ensures level { HasLevel Permission result.level }
+{
+    let word = last.word;
+    let dirty = under.config.ha2 & under.config.hd2;
+    let xn = field::<54, 53>(word) as u32;
+    Leaf2 {
+        pa: target.pa,
+        class: target.class,
+        level: level(last.left),
+        perms: perms2(
+            flag::<6>(word),
+            flag::<7>(word),
+            xn,
+            flag::<51>(word),
+            dirty,
+        ),
+        mem: s2_attr(field::<5, 2>(word) as u32),
+        sh: share(field::<9, 8>(word) as u32),
+    }
+}
+
 /// What the last word gives that a walk reads.
 #[inline(always)]
-pub fn end2<const G: u32>(under: &Under2, last: &Last2) -> Result<Leaf2, Fault>
-    requires granule { G ≡ granule_of under.now.config.now.tg2 }
+pub fn end2(under: &Under2, last: &Last2) -> Result<Leaf2, Fault>
     requires under { IsUnder under.now }
     requires last { IsLast (asked_under under.now) last.now }
     ensures value { EndsIn (step2 (asked_under under.now) last.now.left last.now.place last.now.word) result }
     ensures status { IfErr result HasStatus }
     ensures sound { IfOk result (IsSoundLeaf under.now.ipa) }
 {
-    match step_by::<G>(under, last.left, last.place, last.word) {
-        Lead::Down { .. } => unreachable!(),
-        Lead::Reached { leaf } => Ok(leaf),
-        Lead::Stopped { fault } => Err(fault),
+    match case_table!(granule under.config.tg2; target_of(under, last)) {
+        Ok(target) => Ok(leaf_at(under, last, &target)),
+        Err(fault) => Err(fault),
     }
 }

@@ -109,7 +109,7 @@ pub fn walk2_under<const G: u32, S: Supply>(
         Ok(last) => last,
         Err(stop) => return Err(stop),
     };
-    match end2::<G>(under, &last) {
+    match end2(under, &last) {
         Ok(leaf) => Ok(leaf),
         Err(fault) => Err(Stop::Fault { fault }),
     }

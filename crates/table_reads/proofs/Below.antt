@@ -1,12 +1,10 @@
 -- The index that an address has in a table below the start table.
-use Rattle.std.proofs.Common.{◌≡◌, ℕ, ◌+◌, ◌-◌, ◌*◌, ◌/◌, ◌%◌, ◌^◌, ◌<◌, ◌≤◌, arith, ap, sym, ◌∙◌}
+use Rattle.std.proofs.Common.{◌≡◌, ℕ, ◌+◌, ◌-◌, ◌/◌, ◌%◌, ◌^◌, ◌<◌, ◌≤◌, arith, sym}
 use Rattle.std.proofs.lemmas.Bool.Decides.{nat_tests}
 use Rattle.std.proofs.lemmas.Nat.{mod_below, pow_pos}
 use Rattle.std.proofs.Math.Pow.{pow_mono}
-use Rattle.geometry.specs.Tables.{IsGranule, stride, class_of, index_of, top_of}
+use Rattle.geometry.specs.Tables.{IsGranule, stride, class_of, top_of}
 use Rattle.geometry.proofs.Indices.{field_at}
-use Rattle.table_reads.specs.declared.sizes.Sizes.{Sizes}
-use Rattle.table_reads.specs.Places.{place_of}
 
 -- the bits of one level above a class
 pub index_is : (x k s : ℕ) → x / 2 ^ k % 2 ^ s ≡ x % 2 ^ (k + s) / 2 ^ k

@@ -9,10 +9,10 @@ ghost use Rattle.stage2_walk.specs.SoundSteps.{IsSoundLeaf, EndsIn};
 ghost use Rattle.translate.specs.Deep.{asked2_of, HasLast, Came2};
 
 use crate::parts::keep_root;
-use crate::tables::{end2_by, walk2_last};
+use crate::tables::walk2_last;
 use crate::under::Under;
 use fault_codes::Fault;
-use stage2_walk::{Last2, Under2, enter2};
+use stage2_walk::{Last2, Under2, end2, enter2};
 use table_reads::Supply;
 use trails::{Stop, Trail};
 use walk_spec::Leaf2;
@@ -71,5 +71,5 @@ pub(crate) fn stage2_end(under: &Under, ipa: u64, ptw: bool, last: &Last2) -> Re
         moment: under.moment(),
         s1ptw: ptw,
     };
-    end2_by(&walk, last)
+    end2(&walk, last)
 }

@@ -4,24 +4,22 @@ ghost use Rattle.bitwords.specs.Causes.{Rose};
 ghost use Rattle.geometry.specs.Tables.{left_below};
 ghost use Rattle.sysregs.specs.Registers.{config_of};
 ghost use Rattle.sysregs.specs.Sides.{side_of};
-ghost use Rattle.fault_codes.specs.Status.{HasStatus};
 ghost use Rattle.trails.specs.Lengths.{most_items, most_per_word};
 ghost use Rattle.trails.specs.Printed.{HasTextStop};
-ghost use Rattle.walk_spec.specs.Stage2.{step2, is_refused2};
+ghost use Rattle.walk_spec.specs.Stage2.{is_refused2};
 ghost use Rattle.walk_spec.specs.BothStages.{asked, is_refused1};
 ghost use Rattle.walk_spec.specs.Walked.{HasLineStop};
 ghost use Rattle.stage1_walk.specs.Clauses as Clauses1;
 ghost use Rattle.stage1_walk.specs.Gave.{Walked1};
 ghost use Rattle.stage1_walk.specs.Under as Unders1;
-ghost use Rattle.stage2_walk.specs.Under.{IsUnder, asked_under};
-ghost use Rattle.stage2_walk.specs.SoundSteps.{IsSoundLeaf, IsLast, EndsIn};
+ghost use Rattle.stage2_walk.specs.Under.{IsUnder};
+ghost use Rattle.stage2_walk.specs.SoundSteps.{IsSoundLeaf};
 ghost use Rattle.stage2_walk.specs.Clauses.{IsTableOf, CameDown, WalkedLeft, WalkedFrom};
 
 use crate::under::InForce;
-use fault_codes::Fault;
 use geometry::case_table;
 use stage1_walk::{From1, Supply1, Under1, walk1_under};
-use stage2_walk::{From2, Last2, Under2, end2, walk2_down, walk2_under};
+use stage2_walk::{From2, Last2, Under2, walk2_down, walk2_under};
 use sysregs::Tg;
 use table_reads::{Supply, left_below};
 use trails::{Access, Stop, Trail};
@@ -69,18 +67,6 @@ pub(crate) fn walk2_last<S: Supply>(
     ensures down { CameDown (S.memory supply.old) (Rose (S.faults supply.old) (S.faults supply.new)) under.now left table trail.old trail.new result }
 {
     case_table!(granule under.config.tg2; walk2_down::<_, S>(under, left, table, supply, trail))
-}
-
-/// What the last word of stage 2 gives, by the granule of stage 2.
-#[inline(always)]
-pub(crate) fn end2_by(under: &Under2, last: &Last2) -> Result<Leaf2, Fault>
-    requires under { IsUnder under.now }
-    requires last { IsLast (asked_under under.now) last.now }
-    ensures value { EndsIn (step2 (asked_under under.now) last.now.left last.now.place last.now.word) result }
-    ensures status { IfErr result HasStatus }
-    ensures sound { IfOk result (IsSoundLeaf under.now.ipa) }
-{
-    case_table!(granule under.config.tg2; end2(under, last))
 }
 
 /// Stage 2 from a table with so many levels left, by the granule of stage 2.
