@@ -18,13 +18,15 @@ end2-requires-clause-under c =
 pub end2-requires-clause-last : goal.end2-requires-clause-last
 end2-requires-clause-last c =
     let s = some_sized2 c.args.under.now.regs c.start2.result.now c.start2.ensures c.in-Some.sizes c.in-Some.is in
-    let a : record { config = c.config.result.now; sizes = c.in-Some.sizes; s1ptw = c.args.ptw; ipa = c.args.ipa } ≡ asked2_of c.args.under.now.regs c.args.ptw c.args.ipa =
+    let asked : Asked2 = record { config = c.config.result.now; sizes = c.in-Some.sizes; s1ptw = c.args.ptw; ipa = c.args.ipa } in
+    let a : asked ≡ asked2_of c.args.under.now.regs c.args.ptw c.args.ipa =
     λ i. record { config = c.config.ensures.same i; sizes = s.0 i; s1ptw = c.args.ptw; ipa = c.args.ipa } in
     subst (λ (q : Asked2). IsLast q c.args.last.now) (sym a) c.requires.last.word
 
 pub returns-clause-value : goal.returns-clause-value
 returns-clause-value c =
     let s = some_sized2 c.args.under.now.regs c.start2.result.now c.start2.ensures c.in-Some.sizes c.in-Some.is in
-    let a : record { config = c.config.result.now; sizes = c.in-Some.sizes; s1ptw = c.args.ptw; ipa = c.args.ipa } ≡ asked2_of c.args.under.now.regs c.args.ptw c.args.ipa =
+    let asked : Asked2 = record { config = c.config.result.now; sizes = c.in-Some.sizes; s1ptw = c.args.ptw; ipa = c.args.ipa } in
+    let a : asked ≡ asked2_of c.args.under.now.regs c.args.ptw c.args.ipa =
     λ i. record { config = c.config.ensures.same i; sizes = s.0 i; s1ptw = c.args.ptw; ipa = c.args.ipa } in
     subst (λ (q : Asked2). EndsIn (step2 q c.args.last.now.left c.args.last.now.place c.args.last.now.word) c.end2.result) a c.end2.ensures.value
