@@ -1,13 +1,13 @@
 ghost use Rattle.std.specs.Prelude.{◌≡◌, ◌≤◌, ◌<◌, ◌*◌, ◌^◌};
 ghost use Rattle.bitwords.specs.Fields.{bits_of};
-ghost use Rattle.geometry.specs.Tables.{IsGranule, most_left};
+ghost use Rattle.geometry.specs.Tables.{IsGranule, most_left, has_block};
 ghost use Rattle.sysregs.specs.Registers.{granule_of};
 ghost use Rattle.sysregs.specs.Sides.{tg_of};
 ghost use Rattle.descriptors.specs.Meaning.{address_in, shape_of, table_bits, leaf_bits, means1_of, means2_of, IsTableOf1, IsTableOf2};
 
 use crate::kinds::{Kind1, Kind2};
 use bitwords::{align_down, field, flag};
-use geometry::{block_allowed, entry_class};
+use geometry::{case_table, class_at};
 use permissions::{Bits1, TableBits};
 use sysregs::{Config, Side};
 
@@ -44,22 +44,32 @@ fn address<const G: u32>(w: u64, class: u32) -> u64
     }
 }
 
+/// Whether the level with so many levels left has blocks.
 #[inline(always)]
-fn shape_at<const G: u32, const LEFT: u32>(w: u64) -> Shape
+fn has_blocks<const G: u32>(left: u32) -> bool
     requires granule { IsGranule G }
-    requires left { LEFT ≤ most_left }
-    ensures { result ≡ shape_of G LEFT w }
+    requires left { left ≤ most_left }
+    ensures { result ≡ has_block G left }
+{
+    case_table!((G, left); (12, 1 | 2) => true, (14, 1) => true, (16, 1 | 2) => true; else false)
+}
+
+#[inline(always)]
+fn shape_by<const G: u32>(w: u64, left: u32) -> Shape
+    requires granule { IsGranule G }
+    requires left { left ≤ most_left }
+    ensures { result ≡ shape_of G left w }
 {
     if !flag::<0>(w) {
         return Shape::Nothing;
     }
     if flag::<1>(w) {
-        if LEFT == 0 {
+        if left == 0 {
             Shape::Mapping
         } else {
             Shape::Pointer
         }
-    } else if block_allowed::<G, LEFT>() {
+    } else if has_blocks::<G>(left) {
         Shape::Mapping
     } else {
         Shape::Nothing
@@ -127,22 +137,22 @@ fn leaf_bits(w: u64) -> Bits1
     }
 }
 
-/// What a stage 1 word means with `LEFT` levels left, in the tables of a side, which picks HPD.
-#[tactic(auto, unfolding(crate::specs::Meaning::means1_of))]
+/// What a stage 1 word means with so many levels left, in the tables of a side, which picks HPD.
+#[tactic(auto, unfolding(crate::specs::Meaning::means1_of), using(crate::proofs::Bounds::mapping_class))]
 #[inline(always)]
-pub fn decode1<const G: u32, const LEFT: u32>(w: u64, config: &Config, side: Side) -> Kind1
+pub fn means1<const G: u32>(w: u64, left: u32, config: &Config, side: Side) -> Kind1
     requires granule { G ≡ granule_of (tg_of config.now side) }
-    requires left { LEFT ≤ most_left }
-    ensures { result ≡ means1_of config.now side LEFT w }
+    requires left { left ≤ most_left }
+    ensures { result ≡ means1_of config.now side left w }
 {
-    match shape_at::<G, LEFT>(w) {
+    match shape_by::<G>(w, left) {
         Shape::Nothing => Kind1::Invalid,
         Shape::Pointer => Kind1::Table {
             next: address::<G>(w, G),
             bits: table_bits(w, config.hpd(side)),
         },
         Shape::Mapping => Kind1::Leaf {
-            out: address::<G>(w, entry_class::<G, LEFT>()),
+            out: address::<G>(w, class_at::<G>(left)),
             attr_index: field::<4, 2>(w) as u32,
             bits: leaf_bits(w),
             sh: field::<9, 8>(w) as u32,
@@ -153,21 +163,30 @@ pub fn decode1<const G: u32, const LEFT: u32>(w: u64, config: &Config, side: Sid
     }
 }
 
-/// What a stage 2 word means with `LEFT` levels left.
-#[tactic(auto, unfolding(crate::specs::Meaning::means2_of))]
-#[inline(always)]
-pub fn decode2<const G: u32, const LEFT: u32>(w: u64, config: &Config) -> Kind2
-    requires granule { G ≡ granule_of config.now.tg2 }
+/// What a stage 1 word means with `LEFT` levels left, in the tables of a side.
+pub fn decode1<const G: u32, const LEFT: u32>(w: u64, config: &Config, side: Side) -> Kind1
+    requires granule { G ≡ granule_of (tg_of config.now side) }
     requires left { LEFT ≤ most_left }
-    ensures { result ≡ means2_of config.now LEFT w }
+    ensures { result ≡ means1_of config.now side LEFT w }
 {
-    match shape_at::<G, LEFT>(w) {
+    means1::<G>(w, LEFT, config, side)
+}
+
+/// What a stage 2 word means with so many levels left.
+#[tactic(auto, unfolding(crate::specs::Meaning::means2_of), using(crate::proofs::Bounds::mapping_class))]
+#[inline(always)]
+pub fn means2<const G: u32>(w: u64, left: u32, config: &Config) -> Kind2
+    requires granule { G ≡ granule_of config.now.tg2 }
+    requires left { left ≤ most_left }
+    ensures { result ≡ means2_of config.now left w }
+{
+    match shape_by::<G>(w, left) {
         Shape::Nothing => Kind2::Invalid,
         Shape::Pointer => Kind2::Table {
             next: address::<G>(w, G),
         },
         Shape::Mapping => Kind2::Leaf {
-            out: address::<G>(w, entry_class::<G, LEFT>()),
+            out: address::<G>(w, class_at::<G>(left)),
             mem_attr: field::<5, 2>(w) as u32,
             read: flag::<6>(w),
             write: flag::<7>(w),
@@ -178,4 +197,13 @@ pub fn decode2<const G: u32, const LEFT: u32>(w: u64, config: &Config) -> Kind2
             contiguous: flag::<52>(w),
         },
     }
+}
+
+/// What a stage 2 word means with `LEFT` levels left.
+pub fn decode2<const G: u32, const LEFT: u32>(w: u64, config: &Config) -> Kind2
+    requires granule { G ≡ granule_of config.now.tg2 }
+    requires left { LEFT ≤ most_left }
+    ensures { result ≡ means2_of config.now LEFT w }
+{
+    means2::<G>(w, LEFT, config)
 }

@@ -1,3 +1,4 @@
 pub mod Accepted
 pub mod OnEntries
 pub mod SideNumbers
+pub mod Above

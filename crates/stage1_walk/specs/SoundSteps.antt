@@ -9,7 +9,10 @@ use Rattle.descriptors.specs.declared.kinds.Kind1.{Kind1}
 use Rattle.descriptors.specs.declared.kinds.Kind1.TheVariants.{Leaf}
 use Rattle.walk_spec.specs.declared.leaf.Leaf1.{Leaf1}
 use Rattle.walk_spec.specs.declared.leaf.Fields1.{Fields1}
+use Rattle.permissions.specs.declared.bits.TableBits.{TableBits}
+use Rattle.permissions.specs.Rights.{joined}
 use Rattle.walk_spec.specs.declared.entry.Table1.{Table1}
+use Rattle.walk_spec.specs.declared.entry.Entry1.{Entry1}
 
 -- the next table has a level below, and can be read; a fault has a status code
 abbrev pub IsSoundStep : (left : ℕ) (step : Lead Leaf1 Table1) → Type 0
@@ -21,10 +24,14 @@ IsSoundStep left (Stopped f) = HasStatus f
 abbrev pub kind_of : (af : Bool) (fields : Fields1) → Kind1
 kind_of af f = Leaf f.out f.attr_index f.bits f.sh af f.global f.contiguous
 
--- a word leads down to this table, wherever it stands, or it doesn't
-abbrev pub GoesDown : (step : ℕ → Lead Leaf1 Table1) (left : ℕ) (table : Option Table1) → Type 0
-GoesDown step left (Some t) = ((place : ℕ) → Down t ≡ step place) × (0 < left) × (t.address < 2 ^ 52) × (t.address % 8 ≡ 0)
-GoesDown step left None = (place : ℕ) (t : Table1) → Down t ≡ step place → ⊥
+-- the table at an address to which a word of an entry leads, with its bits joined to those of the entry's own table
+abbrev pub below : (entry : Entry1) (bits : TableBits) (address : ℕ) → Table1
+below e bits address = record { address = address; bits = joined e.table.bits bits }
+
+-- a word of an entry leads down to the table at this address, wherever it stands, or it doesn't
+abbrev pub GoesDown : (step : ℕ → Lead Leaf1 Table1) (entry : Entry1) (bits : TableBits) (address : Option ℕ) → Type 0
+GoesDown step e bits (Some a) = ((place : ℕ) → Down (below e bits a) ≡ step place) × (0 < e.left) × (a < 2 ^ 52) × (a % 8 ≡ 0)
+GoesDown step e bits None = (place : ℕ) (t : Table1) → Down t ≡ step place → ⊥
 
 -- the answer where a word leads to a leaf or a fault
 abbrev pub EndsIn : (lead : Lead Leaf1 Table1) (result : Result Leaf1 Stop) → Type 0

@@ -1,13 +1,13 @@
 ghost use Rattle.std.specs.Prelude.{◌≡◌, ◌≤◌, ◌<◌, ◌^◌, ◌%◌, true, if◌then◌else◌, None, IfErr};
 ghost use Rattle.geometry.specs.Tables.{most_left};
 ghost use Rattle.sysregs.specs.Registers.{granule_of};
-ghost use Rattle.sysregs.specs.Sides.{tg_of};
+ghost use Rattle.sysregs.specs.Sides.{tg_of, hpd_of};
 ghost use Rattle.permissions.specs.Rights.{joined, is_uxn};
 ghost use Rattle.attributes.specs.Memory.{attr_byte};
 ghost use Rattle.fault_codes.specs.Status.{HasStatus};
 ghost use Rattle.fault_codes.specs.declared.fault.Class.TheVariants.{AddressSize};
 ghost use Rattle.table_reads.specs.Places;
-ghost use Rattle.descriptors.specs.Meaning.{means1_of};
+ghost use Rattle.descriptors.specs.Meaning.{table_bits, means1_of};
 ghost use Rattle.descriptors.specs.Bounds.{IsBounded1};
 ghost use Rattle.walk_spec.specs.Stage1.{fault1, leaf1_of, judged1, step1, step1_by};
 ghost use Rattle.stage1_walk.specs.Under.{IsUnder, regime_under, asked_under};
@@ -16,10 +16,10 @@ ghost use Rattle.trails.specs.Printed.{HasTextStop};
 
 use crate::under::Under1;
 use attributes::types::{mair, share};
-use bitwords::power;
-use descriptors::{Kind1, decode1, table1};
+use bitwords::{flag, power};
+use descriptors::{Kind1, means1, table1};
 use fault_codes::{Class, Fault, Stage};
-use geometry::{case_table, goes_to, leaf_class};
+use geometry::{goes_to, leaf_class};
 use permissions::{TableBits, allows1, perms1};
 use sysregs::{Config, Side};
 use table_reads::{Lead, Walker, is_too_large, level};
@@ -40,26 +40,16 @@ fn fault(class: Class, left: u32) -> Fault
     table_reads::fault(&walker, class, left)
 }
 
-/// What a word means with `LEFT` levels left, and that it keeps to its bounds.
+/// What a word means, and that it keeps to its bounds.
 #[inline(always)]
 #[tactic(auto, using(descriptors::proofs::Bounds::bounded1))]
-fn meaning_at<const G: u32, const LEFT: u32>(word: u64, config: &Config, side: Side) -> Kind1
-    requires granule { G ≡ granule_of (tg_of config.now side) }
-    requires left { LEFT ≤ most_left }
-    ensures value { result ≡ means1_of config.now side LEFT word }
-    ensures bounded { IsBounded1 LEFT result }
-{
-    decode1::<G, LEFT>(word, config, side)
-}
-
-/// What a word means, and that it keeps to its bounds.
 pub(crate) fn meaning<const G: u32>(left: u32, word: u64, config: &Config, side: Side) -> Kind1
     requires granule { G ≡ granule_of (tg_of config.now side) }
     requires left { left ≤ most_left }
     ensures value { result ≡ means1_of config.now side left word }
     ensures bounded { IsBounded1 left result }
 {
-    case_table!(level left; meaning_at::<G>(word, config, side))
+    means1::<G>(word, left, config, side)
 }
 
 /// The byte of `MAIR_EL1` that AttrIndx names.
@@ -201,11 +191,10 @@ fn reach<const G: u32>(
     permit(under.config, under.access, entry.left, uxn, leaf)
 }
 
-/// What the word of an entry with `LEFT` levels left leads to, which stands at a physical place, for an access that is
-/// judged.
+/// What the word of an entry leads to, which stands at a physical place, for an access that is judged.
 #[tactic(auto, unfolding(walk_spec::specs::Stage1::step1))]
 #[inline(always)]
-pub(crate) fn step_at<const G: u32, const LEFT: u32>(
+pub(crate) fn step_by<const G: u32>(
     under: &Under1,
     entry: &Entry1,
     place: u64,
@@ -213,12 +202,12 @@ pub(crate) fn step_at<const G: u32, const LEFT: u32>(
 ) -> Lead<Leaf1, Table1>
     requires granule { G ≡ granule_of (tg_of under.now.config.now under.now.side) }
     requires under { IsUnder under.now }
-    requires left { entry.now.left ≡ LEFT × LEFT ≤ most_left }
+    requires left { entry.now.left ≤ most_left }
     ensures value { result ≡ step1 (asked_under under.now) entry.now place word }
     ensures sound { IsSoundStep entry.now.left result }
 {
-    match meaning_at::<G, LEFT>(word, under.config, under.side) {
-        Kind1::Invalid => stop(Class::Translation, LEFT),
+    match meaning::<G>(entry.left, word, under.config, under.side) {
+        Kind1::Invalid => stop(Class::Translation, entry.left),
         Kind1::Table { next, bits } => down(under, entry, next, bits),
         Kind1::Leaf {
             out,
@@ -242,41 +231,39 @@ pub(crate) fn step_at<const G: u32, const LEFT: u32>(
     }
 }
 
-/// What the word of an entry leads to, which stands at a physical place, for an access that is judged.
-pub(crate) fn step_by<const G: u32>(
-    under: &Under1,
-    entry: &Entry1,
-    place: u64,
-    word: u64,
-) -> Lead<Leaf1, Table1>
-    requires granule { G ≡ granule_of (tg_of under.now.config.now under.now.side) }
-    requires under { IsUnder under.now }
-    requires left { entry.now.left ≤ most_left }
-    ensures value { result ≡ step1 (asked_under under.now) entry.now place word }
-    ensures sound { IsSoundStep entry.now.left result }
-{
-    case_table!(level entry.left; step_at::<G>(under, entry, place, word))
-}
-
-/// The table that the word of an entry leads down to; None where it leads to a leaf or a fault.
-#[tactic(auto, unfolding(walk_spec::specs::Stage1::step1), using(descriptors::proofs::Bounds::bounded1))]
+/// The address of the table that the word of an entry leads down to; None where it leads to a leaf or a fault.
+#[tactic(auto, unfolding(walk_spec::specs::Stage1::step1), using(descriptors::proofs::Bounds::bounded1, crate::proofs::Above::own_bits))]
 #[inline(always)]
-pub(crate) fn table_below<const G: u32>(under: &Under1, entry: &Entry1, word: u64) -> Option<Table1>
+pub(crate) fn table_below<const G: u32>(under: &Under1, entry: &Entry1, word: u64) -> Option<u64>
     requires granule { G ≡ granule_of (tg_of under.now.config.now under.now.side) }
     requires under { IsUnder under.now }
     requires left { entry.now.left ≤ most_left }
-    ensures { GoesDown (λ place. step1 (asked_under under.now) entry.now place word) entry.now.left result }
+    ensures { GoesDown (λ place. step1 (asked_under under.now) entry.now place word) entry.now
+        (table_bits (hpd_of under.now.config.now under.now.side) word) result }
 {
     match table1::<G>(word, entry.left, under.config, under.side) {
-        Some((address, bits)) if !is_too_large(&under.sizes, address) => Some(Table1 {
-            address,
-            bits: joined(entry.table.bits, bits),
-        }),
+        Some((address, _)) if !is_too_large(&under.sizes, address) => Some(address),
         _ => None,
     }
 }
 
+/// The bits of some table descriptors joined, by the bits of all their words, behind those of the tables above.
+#[inline(always)]
+#[tactic(auto)]
+pub(crate) fn bits_of(config: &Config, side: Side, above: TableBits, words: u64) -> TableBits
+    ensures { result ≡ joined above (table_bits (hpd_of config.now side) words) }
+{
+    let counts = !config.hpd(side);
+    TableBits {
+        no_el0: above.no_el0 | (flag::<61>(words) & counts),
+        read_only: above.read_only | (flag::<62>(words) & counts),
+        pxn: above.pxn | (flag::<59>(words) & counts),
+        uxn: above.uxn | (flag::<60>(words) & counts),
+    }
+}
+
 /// What the word of an entry gives that leads down to no table.
+#[inline(always)]
 pub(crate) fn end_by<const G: u32>(
     under: &Under1,
     entry: &Entry1,
@@ -286,7 +273,8 @@ pub(crate) fn end_by<const G: u32>(
     requires granule { G ≡ granule_of (tg_of under.now.config.now under.now.side) }
     requires under { IsUnder under.now }
     requires left { entry.now.left ≤ most_left }
-    requires end { GoesDown (λ p. step1 (asked_under under.now) entry.now p word) entry.now.left None }
+    requires end { GoesDown (λ p. step1 (asked_under under.now) entry.now p word) entry.now
+        (table_bits (hpd_of under.now.config.now under.now.side) word) None }
     ensures value { EndsIn (step1 (asked_under under.now) entry.now place word) result }
     ensures text { IfErr result HasTextStop }
 {

@@ -9,12 +9,12 @@ ghost use Rattle.stage1_walk.specs.Under.{IsUnder, asked_under};
 ghost use Rattle.stage1_walk.specs.Clauses.{IsTableOf, table_from};
 ghost use Rattle.stage1_walk.specs.Gave.{Gave, IsLastPlace, Walked1};
 
-use crate::step::{end_by, table_below};
+use crate::step::{bits_of, end_by, table_below};
 use crate::supply::Supply1;
 use crate::under::Under1;
 use permissions::TableBits;
 use sysregs::Config;
-use table_reads::{left_below, level, place};
+use table_reads::{left_below, level, place, place_below};
 use trails::{Access, Stop, Trail};
 use walk_spec::{Entry1, Leaf1, Table1};
 
@@ -54,7 +54,7 @@ fn word_of<S: Supply1>(entry: &Entry1, supply: &mut S, trail: &mut Trail) -> Res
 pub fn walk1_under<const G: u32, S: Supply1>(
     under: &Under1,
     mut left: u32,
-    mut table: Table1,
+    table: Table1,
     supply: &mut S,
     trail: &mut Trail,
 ) -> Result<Leaf1, Stop>
@@ -67,18 +67,26 @@ pub fn walk1_under<const G: u32, S: Supply1>(
     ensures text { IfErr result HasTextStop }
     ensures walked { Walked1 S.gives (asked_under under.now) left table supply.old trail.old trail.new result supply.new }
 {
+    let mut place = place::<G>(&under.sizes, left, table.address, under.address);
+    let mut address = table.address;
+    let mut words = 0;
     loop {
         let entry = Entry1 {
-            table,
-            place: place::<G>(&under.sizes, left, table.address, under.address),
+            table: Table1 {
+                address,
+                bits: bits_of(under.config, under.side, table.bits, words),
+            },
+            place,
             address: under.address,
             left,
         };
         let word = word_of(&entry, supply, trail)?;
         match table_below::<G>(under, &entry, word) {
             Some(next) => {
-                table = next;
+                address = next;
+                words |= word;
                 left -= 1;
+                place = place_below::<G>(left, address, under.address);
             }
             None => return end_by::<G>(under, &entry, last_place(trail), word),
         }

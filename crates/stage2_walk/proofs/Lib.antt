@@ -4,3 +4,4 @@ pub mod Entered
 pub mod Levels
 pub mod Starts
 pub mod OnKept
+pub mod Ends

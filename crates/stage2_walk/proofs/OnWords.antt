@@ -19,6 +19,7 @@ use Rattle.walk_spec.specs.Steps.{End, stops, reaches, step_then}
 use Rattle.walk_spec.specs.Stage2.{Asked2, fault2, step2, walk2_from}
 use Rattle.walk_spec.specs.Walked.{ReadsWord, Walked, result_of}
 use Rattle.stage2_walk.specs.SoundSteps.{EndsIn}
+use Rattle.stage2_walk.specs.Clauses.{answer_of}
 use Rattle.walk_spec.proofs.Walks.{walked_lacks, walked_ends, walked_goes}
 
 -- the walk from the next table, if there is a level below
@@ -72,11 +73,11 @@ module _ (m : Told) (k : ℕ) (q : Asked2) (left table p : ℕ) (here : p ≡ pl
     word_stops F f s step a = word_ends F (stops f) s (ap (walk2_then q left) (sym step)) a
 
     -- the word is that of no table
-    pub word_last : (F : Type 0) (lead : Lead Leaf2 ℕ) (s : Result Leaf2 Stop) → lead ≡ step2 q left p v → EndsIn lead s
-        → Walked (ReadsWord k m) m F (walk2_from q left table) old mid s
-    word_last F (Down t) s step h = absurd h
-    word_last F (Reached l) s step h = word_reaches F l s step h
-    word_last F (Stopped f) s step h = word_stops F f s step h
+    pub word_last : (F : Type 0) (lead : Lead Leaf2 ℕ) (e : Result Leaf2 Fault) → lead ≡ step2 q left p v → EndsIn lead e
+        → Walked (ReadsWord k m) m F (walk2_from q left table) old mid (answer_of e)
+    word_last F (Down t) e step h = absurd h
+    word_last F (Reached l) e step h = word_reaches F l (answer_of e) step (ap answer_of h)
+    word_last F (Stopped f) e step h = word_stops F f (answer_of e) step (ap answer_of h)
 
     -- the word is that of a table
     pub word_goes : (F G : Type 0) (next : ℕ) (new : List Item) (s : Result Leaf2 Stop) → Down next ≡ step2 q left p v → 0 < left → (F → G)

@@ -1,47 +1,44 @@
 ghost use Rattle.std.specs.Prelude.{◌≡◌, ◌≤◌, ◌<◌, ◌^◌, ◌%◌, if◌then◌else◌, None, IfOk, IfErr};
-ghost use Rattle.walk_spec.specs.Walked.{HasLineStop};
 ghost use Rattle.geometry.specs.Tables.{most_left};
 ghost use Rattle.sysregs.specs.Registers.{granule_of};
-ghost use Rattle.fault_codes.specs.Status.{HasLevel};
+ghost use Rattle.fault_codes.specs.Status.{HasStatus, HasLevel};
 ghost use Rattle.fault_codes.specs.declared.fault.Class.TheVariants.{Permission, AddressSize};
 ghost use Rattle.descriptors.specs.Meaning.{means2_of};
 ghost use Rattle.descriptors.specs.Bounds.{IsBounded2};
 ghost use Rattle.table_reads.specs.Places;
 ghost use Rattle.walk_spec.specs.Stage2.{fault2, leaf2_of, step2, step2_by};
 ghost use Rattle.stage2_walk.specs.Under.{IsUnder, asked_under};
-ghost use Rattle.stage2_walk.specs.SoundSteps.{IsSoundStep, IsSoundLeaf, GoesDown, EndsIn, kind_of};
+ghost use Rattle.stage2_walk.specs.SoundSteps.{IsSoundStep, IsSoundLeaf, GoesDown, IsLast, IsTarget, leaf_at, EndsIn, kind_of};
 
 use crate::under::Under2;
 use attributes::types::{s2_attr, share};
-use descriptors::{Kind2, decode2, table2};
-use fault_codes::Class;
+use bitwords::{field, flag};
+use descriptors::{Kind2, means2, table2};
+use fault_codes::{Class, Fault};
 use geometry::{case_table, goes_to, leaf_class};
 use permissions::perms2;
-use sysregs::Config;
+use sysregs::{Config, Tg};
 use table_reads::{Lead, fault, is_too_large, level};
-use trails::Stop;
 use walk_spec::{Fields2, Leaf2};
 
-/// What a word means with `LEFT` levels left, and that it keeps to its bounds.
-#[inline(always)]
-#[tactic(auto, using(descriptors::proofs::Bounds::bounded2))]
-fn meaning_at<const G: u32, const LEFT: u32>(word: u64, config: &Config) -> Kind2
-    requires granule { G ≡ granule_of config.now.tg2 }
-    requires left { LEFT ≤ most_left }
-    ensures value { result ≡ means2_of config.now LEFT word }
-    ensures bounded { IsBounded2 LEFT result }
-{
-    decode2::<G, LEFT>(word, config)
+/// The last word that a walk reads, which leads down to no table: its value, its place in bytes, and how many levels are left.
+#[derive(Clone, Copy)]
+pub struct Last2 {
+    pub word: u64,
+    pub place: u64,
+    pub left: u32,
 }
 
 /// What a word means, and that it keeps to its bounds.
+#[inline(always)]
+#[tactic(auto, using(descriptors::proofs::Bounds::bounded2))]
 pub(crate) fn meaning<const G: u32>(left: u32, word: u64, config: &Config) -> Kind2
     requires granule { G ≡ granule_of config.now.tg2 }
     requires left { left ≤ most_left }
     ensures value { result ≡ means2_of config.now left word }
     ensures bounded { IsBounded2 left result }
 {
-    case_table!(level left; meaning_at::<G>(word, config))
+    means2::<G>(word, left, config)
 }
 
 /// What a block or page gives whose word stands at a place.
@@ -130,23 +127,24 @@ fn reach<const G: u32>(
     }
 }
 
-/// What a word leads to that stands at a place, with `LEFT` levels left.
+/// What a word leads to that stands at a place, with so many levels left.
 #[tactic(auto, unfolding(walk_spec::specs::Stage2::step2))]
 #[inline(always)]
-pub(crate) fn step_at<const G: u32, const LEFT: u32>(
+pub(crate) fn step_by<const G: u32>(
     under: &Under2,
+    left: u32,
     place: u64,
     word: u64,
 ) -> Lead<Leaf2, u64>
     requires granule { G ≡ granule_of under.now.config.now.tg2 }
     requires under { IsUnder under.now }
-    requires left { LEFT ≤ most_left }
-    ensures value { result ≡ step2 (asked_under under.now) LEFT place word }
-    ensures sound { IsSoundStep LEFT under.now.ipa result }
+    requires left { left ≤ most_left }
+    ensures value { result ≡ step2 (asked_under under.now) left place word }
+    ensures sound { IsSoundStep left under.now.ipa result }
 {
-    match meaning_at::<G, LEFT>(word, under.config) {
-        Kind2::Invalid => stop(under, Class::Translation, LEFT),
-        Kind2::Table { next } => down(under, LEFT, next),
+    match meaning::<G>(left, word, under.config) {
+        Kind2::Invalid => stop(under, Class::Translation, left),
+        Kind2::Table { next } => down(under, left, next),
         Kind2::Leaf {
             out,
             mem_attr,
@@ -168,25 +166,9 @@ pub(crate) fn step_at<const G: u32, const LEFT: u32>(
                 dbm,
                 contiguous,
             };
-            reach::<G>(under, LEFT, place, af, &fields)
+            reach::<G>(under, left, place, af, &fields)
         }
     }
-}
-
-/// What a word leads to that stands at a place, with so many levels left.
-pub(crate) fn step_by<const G: u32>(
-    under: &Under2,
-    left: u32,
-    place: u64,
-    word: u64,
-) -> Lead<Leaf2, u64>
-    requires granule { G ≡ granule_of under.now.config.now.tg2 }
-    requires under { IsUnder under.now }
-    requires left { left ≤ most_left }
-    ensures value { result ≡ step2 (asked_under under.now) left place word }
-    ensures sound { IsSoundStep left under.now.ipa result }
-{
-    case_table!(level left; step_at::<G>(under, place, word))
 }
 
 /// The table that a word leads down to, with so many levels left; None where it leads to a leaf or a fault.
@@ -204,24 +186,70 @@ pub(crate) fn table_below<const G: u32>(under: &Under2, left: u32, word: u64) ->
     }
 }
 
-/// What a word gives that leads down to no table.
-pub(crate) fn end_by<const G: u32>(
-    under: &Under2,
-    left: u32,
-    place: u64,
-    word: u64,
-) -> Result<Leaf2, Stop>
+/// Where the last word of a walk sends the IPA, and the class of its entry or run.
+#[derive(Clone, Copy)]
+struct Target {
+    pa: u64,
+    class: u32,
+}
+
+/// Where the last word of a walk sends the IPA.
+#[inline(always)]
+fn target_of<const G: u32>(under: &Under2, last: &Last2) -> Result<Target, Fault>
     requires granule { G ≡ granule_of under.now.config.now.tg2 }
     requires under { IsUnder under.now }
-    requires left { left ≤ most_left }
-    requires end { GoesDown (λ p. step2 (asked_under under.now) left p word) left None }
-    ensures value { EndsIn (step2 (asked_under under.now) left place word) result }
-    ensures line { IfErr result HasLineStop }
+    requires last { IsLast (asked_under under.now) last.now }
+    ensures value { IsTarget (asked_under under.now) last.now (step2 (asked_under under.now) last.now.left last.now.place last.now.word) result }
+    ensures status { IfErr result HasStatus }
+    ensures eights { IfOk result (λ t. t.pa % 8 ≡ under.now.ipa % 8) }
+{
+    match step_by::<G>(under, last.left, last.place, last.word) {
+        Lead::Down { .. } => unreachable!(),
+        Lead::Reached { leaf } => Ok(Target {
+            pa: leaf.pa,
+            class: leaf.class,
+        }),
+        Lead::Stopped { fault } => Err(fault),
+    }
+}
+
+/// What the leaf of a word gives that leads to this target. But for the target the granule plays no part.
+#[inline(always)]
+fn leaf_at(under: &Under2, last: &Last2, target: &Target) -> Leaf2
+    requires left { last.now.left ≤ most_left }
+    ensures value { result ≡ leaf_at (asked_under under.now) last.now target.now.pa target.now.class }
+    ensures level { HasLevel Permission result.level }
+{
+    let word = last.word;
+    let dirty = under.config.ha2 & under.config.hd2;
+    let xn = field::<54, 53>(word) as u32;
+    Leaf2 {
+        pa: target.pa,
+        class: target.class,
+        level: level(last.left),
+        perms: perms2(
+            flag::<6>(word),
+            flag::<7>(word),
+            xn,
+            flag::<51>(word),
+            dirty,
+        ),
+        mem: s2_attr(field::<5, 2>(word) as u32),
+        sh: share(field::<9, 8>(word) as u32),
+    }
+}
+
+/// What the last word gives that a walk reads.
+#[inline(always)]
+pub fn end2(under: &Under2, last: &Last2) -> Result<Leaf2, Fault>
+    requires under { IsUnder under.now }
+    requires last { IsLast (asked_under under.now) last.now }
+    ensures value { EndsIn (step2 (asked_under under.now) last.now.left last.now.place last.now.word) result }
+    ensures status { IfErr result HasStatus }
     ensures sound { IfOk result (IsSoundLeaf under.now.ipa) }
 {
-    match step_by::<G>(under, left, place, word) {
-        Lead::Down { .. } => unreachable!(),
-        Lead::Reached { leaf } => Ok(leaf),
-        Lead::Stopped { fault } => Err(Stop::Fault { fault }),
+    match case_table!(granule under.config.tg2; target_of(under, last)) {
+        Ok(target) => Ok(leaf_at(under, last, &target)),
+        Err(fault) => Err(fault),
     }
 }

@@ -8,13 +8,13 @@ ghost use Rattle.walk_spec.specs.Stage2.{is_refused2};
 ghost use Rattle.walk_spec.specs.Walked.{HasLineStop};
 ghost use Rattle.stage2_walk.specs.Under.{IsUnder, asked_under, walker_under};
 ghost use Rattle.stage2_walk.specs.SoundSteps.{IsSoundLeaf};
-ghost use Rattle.stage2_walk.specs.Clauses.{IsTableOf, WalkedLeft, WalkedFrom};
+ghost use Rattle.stage2_walk.specs.Clauses.{IsTableOf, CameDown, WalkedLeft, WalkedFrom};
 
 use crate::sizes::sizes2;
-use crate::step::{end_by, table_below};
+use crate::step::{Last2, end2, table_below};
 use crate::under::Under2;
 use sysregs::Config;
-use table_reads::{Supply, left_below, level, place, read};
+use table_reads::{Supply, left_below, level, place, place_below, read};
 use trails::{Stop, Trail};
 use walk_spec::Leaf2;
 
@@ -46,13 +46,49 @@ fn read_word<S: Supply>(
     read(&under.walker(), level(left), place, supply, trail)
 }
 
+/// The walk from a table with so many levels left down to the word of a leaf or a fault, under numbers that are at hand. The
+/// items of its words are appended.
+#[inline(always)]
+pub fn walk2_down<const G: u32, S: Supply>(
+    under: &Under2,
+    mut left: u32,
+    mut table: u64,
+    supply: &mut S,
+    trail: &mut Trail,
+) -> Result<Last2, Stop>
+    requires granule { G ≡ granule_of under.now.config.now.tg2 }
+    requires under { IsUnder under.now }
+    requires left { left ≤ under.now.sizes.start }
+    requires table { table < 2 ^ 52 × table % 8 ≡ 0 }
+    requires room { length trail.old + left < most_items }
+    ensures same { S.memory supply.new ≡ S.memory supply.old }
+    ensures later { S.faults supply.old ≤ S.faults supply.new }
+    ensures kept { S.keeps supply.old supply.new }
+    ensures most { length trail.new ≤ length trail.old + left + 1 }
+    ensures line { IfErr result HasLineStop }
+    ensures down { CameDown (S.memory supply.old) (Rose (S.faults supply.old) (S.faults supply.new)) under.now left table trail.old trail.new result }
+{
+    let mut place = place::<G>(&under.sizes, left, table, under.ipa);
+    loop {
+        let word = read_word(under, left, place, supply, trail)?;
+        match table_below::<G>(under, left, word) {
+            Some(next) => {
+                table = next;
+                left -= 1;
+                place = place_below::<G>(left, table, under.ipa);
+            }
+            None => return Ok(Last2 { word, place, left }),
+        }
+    }
+}
+
 /// The walk from a table with so many levels left down to a leaf, under numbers that are at hand. The items of its words
 /// are appended.
 #[inline(always)]
 pub fn walk2_under<const G: u32, S: Supply>(
     under: &Under2,
-    mut left: u32,
-    mut table: u64,
+    left: u32,
+    table: u64,
     supply: &mut S,
     trail: &mut Trail,
 ) -> Result<Leaf2, Stop>
@@ -69,16 +105,13 @@ pub fn walk2_under<const G: u32, S: Supply>(
     ensures sound { IfOk result (IsSoundLeaf under.now.ipa) }
     ensures walked { WalkedLeft (S.memory supply.old) (Rose (S.faults supply.old) (S.faults supply.new)) under.now left table trail.old trail.new result }
 {
-    loop {
-        let place = place::<G>(&under.sizes, left, table, under.ipa);
-        let word = read_word(under, left, place, supply, trail)?;
-        match table_below::<G>(under, left, word) {
-            Some(next) => {
-                table = next;
-                left -= 1;
-            }
-            None => return end_by::<G>(under, left, place, word),
-        }
+    let last = match walk2_down::<G, S>(under, left, table, supply, trail) {
+        Ok(last) => last,
+        Err(stop) => return Err(stop),
+    };
+    match end2(under, &last) {
+        Ok(leaf) => Ok(leaf),
+        Err(fault) => Err(Stop::Fault { fault }),
     }
 }
 

@@ -11,6 +11,6 @@ mod supply;
 pub use bases::{is_too_large, keep_base, start_base};
 pub use lead::Lead;
 pub use levels::{MOST_LEFT, Walker, fault, left_below, level};
-pub use reads::{place, read};
+pub use reads::{place, place_below, read};
 pub use sizes::{Sizes, is_sized};
 pub use supply::Supply;

@@ -1,6 +1,8 @@
-ghost use Rattle.std.specs.Prelude.{◌≡◌, ◌+◌, ◌≤◌, ◌<◌, ◌^◌, ◌%◌, length};
+ghost use Rattle.std.specs.Prelude.{◌≡◌, ◌+◌, ◌/◌, ◌≤◌, ◌<◌, ◌^◌, ◌%◌, length};
 ghost use Rattle.bitwords.specs.Causes.{Rose};
+ghost use Rattle.geometry.specs.Tables.{IsGranule, most_left, stride, class_of};
 ghost use Rattle.trails.specs.Lengths.{most_items};
+ghost use Rattle.table_reads.specs.declared.sizes.Sizes.{Sizes};
 ghost use Rattle.table_reads.specs.Numbers.{AreSound};
 ghost use Rattle.table_reads.specs.Places.{place_of};
 ghost use Rattle.table_reads.specs.Memory.{HasRead};
@@ -8,6 +10,8 @@ ghost use Rattle.table_reads.specs.Memory.{HasRead};
 use crate::levels::Walker;
 use crate::sizes::Sizes;
 use crate::supply::Supply;
+use bitwords::power;
+use geometry::class_at;
 use trails::{Item, Stop, Trail, What};
 
 /// The place in bytes of the word that an address selects in a table.
@@ -22,6 +26,32 @@ pub fn place<const G: u32>(sizes: &Sizes, left: u32, table: u64, address: u64) -
     ensures aligned { result % 8 ≡ 0 }
 {
     geometry::place::<G>(sizes.input, sizes.start, left, table, address)
+}
+
+/// Which entry of a table below the start table an address selects.
+#[tactic(auto, using(crate::proofs::Below::index_is, crate::proofs::Below::index_small))]
+#[inline(always)]
+fn index_below<const G: u32>(left: u32, address: u64) -> u64
+    requires granule { IsGranule G }
+    requires left { left < most_left }
+    ensures value { result ≡ address % 2 ^ (class_of G left + stride G) / 2 ^ class_of G left }
+    ensures below { result < 2 ^ 13 }
+{
+    (address >> class_at::<G>(left)) % power(G - 3)
+}
+
+/// The place in bytes of the word that an address selects in a table below the start table, whatever the other numbers of the
+/// stage are.
+#[tactic(auto, unfolding(crate::specs::Places::place_of), using(crate::proofs::Below::top_is))]
+#[inline(always)]
+pub fn place_below<const G: u32>(left: u32, table: u64, address: u64) -> u64
+    requires granule { IsGranule G }
+    requires left { left < most_left }
+    requires table { table < 2 ^ 52 × table % 8 ≡ 0 }
+    ensures value { (n : Sizes) → n.granule ≡ G → left < n.start → result ≡ place_of n left table address }
+    ensures aligned { result % 8 ≡ 0 }
+{
+    table + 8 * index_below::<G>(left, address)
 }
 
 /// Reads the word of a level at a place and appends its item.

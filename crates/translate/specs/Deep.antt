@@ -16,7 +16,7 @@ use Rattle.trails.specs.declared.outcome.Outcome.TheVariants.{Faulted, Absent as
 use Rattle.trails.specs.declared.outcome.Stop.{Stop}
 use Rattle.trails.specs.declared.outcome.Stop.TheVariants.{Fault as FaultStop, Absent, Conflict}
 use Rattle.table_reads.specs.declared.levels.Walker.{Walker}
-use Rattle.table_reads.specs.Numbers.{sizes2}
+use Rattle.table_reads.specs.Numbers.{is_sized2, sizes2}
 use Rattle.table_reads.specs.Items.{base_item}
 use Rattle.table_reads.specs.Memory.{Told}
 use Rattle.walk_spec.specs.declared.entry.Entry1.{Entry1}
@@ -25,11 +25,14 @@ use Rattle.walk_spec.specs.declared.leaf.Leaf1.{Leaf1}
 use Rattle.walk_spec.specs.declared.leaf.Leaf2.{Leaf2}
 use Rattle.walk_spec.specs.Ask.{Ask, Fed, ended, lacks, Took}
 use Rattle.walk_spec.specs.Needs.{Need, stage1_base, stage2_base, word, regime_of}
-use Rattle.walk_spec.specs.Stage2.{Asked2, walk2}
+use Rattle.walk_spec.specs.Stage2.{Asked2, step2, walk2}
 use Rattle.walk_spec.specs.Stage1.{word_of, stage1_from}
 use Rattle.walk_spec.specs.BothStages.{asked, stage1, stage1_on}
 use Rattle.walk_spec.specs.Fresh.{start_base2}
 use Rattle.walk_spec.specs.Walked.{ReadsWord, ReadsNow, LacksFor, Walked}
+use Rattle.stage2_walk.specs.declared.step.Last2.{Last2}
+use Rattle.stage2_walk.specs.SoundSteps.{IsLast, EndsIn}
+use Rattle.stage2_walk.specs.Clauses.{answer_of}
 use Rattle.translate.specs.Checked.{RegsAt}
 use Rattle.translate.specs.Parts.{leaf1_or_off}
 use Rattle.translate.specs.declared.deep.Deep.{Deep}
@@ -50,6 +53,21 @@ asked2_of regs s1ptw ipa = record { config = config_of regs; sizes = sizes2 (con
 abbrev pub Walked2 : (told : Told) (failed : Type 0) (under : RegsAt) (s1ptw : Bool) (ipa : ℕ) (old new : List Item)
     (result : Result Leaf2 Stop) → Type 0
 Walked2 told failed u s1ptw ipa old new r = Walked (Reads2 u told) told failed (walk2 (asked2_of u.regs s1ptw ipa)) old new r
+
+-- the last word of stage 2 for an IPA, where its sizes are in range and suit each other
+pub record HasLast (u : RegsAt) (s1ptw : Bool) (ipa : ℕ) (last : Last2) : Type 0 where
+  pub sized : is_sized2 (config_of u.regs) ≡ true
+  pub word : IsLast (asked2_of u.regs s1ptw ipa) last
+
+-- Stage 2 was walked for an IPA as far as its last word, which is not decoded yet: it answers what that word gives. Or it
+-- stopped before. (More than six parameters, as above.)
+abbrev pub Came2 : (told : Told) (failed : Type 0) (under : RegsAt) (s1ptw : Bool) (ipa : ℕ) (old new : List Item)
+    (result : Result Last2 Stop) → Type 0
+Came2 told failed u s1ptw ipa old new (Ok last) =
+    HasLast u s1ptw ipa last
+    × ((end : Result Leaf2 Fault) → EndsIn (step2 (asked2_of u.regs s1ptw ipa) last.left last.place last.word) end
+    → Walked2 told failed u s1ptw ipa old new (answer_of end))
+Came2 told failed u s1ptw ipa old new (Err stop) = Walked2 told failed u s1ptw ipa old new (Err stop)
 
 -- stage 1 at a moment
 abbrev pub walker1 : (moment : ℕ) → Walker

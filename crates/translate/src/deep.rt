@@ -8,7 +8,7 @@ ghost use Rattle.stage1_walk.specs.Under.{IsUnder, IsUnderFor};
 ghost use Rattle.translate.specs.Deep.{DeepGave, WalkedFrom1};
 
 use crate::parts::{descriptor_read, walker1};
-use crate::stage2::stage2;
+use crate::stage2::{stage2_end, stage2_last};
 use crate::tables::walk1_left;
 use crate::under::Under;
 use stage1_walk::{Supply1, Under1};
@@ -34,9 +34,13 @@ impl<'a, S: Supply> Supply1 for Deep<'a, S> {
         if !config.vm {
             return read(&walker, level, ipa, self.supply, trail);
         }
-        let leaf = match stage2(self.under, ipa, true, self.supply, trail) {
-            Ok(leaf) => leaf,
+        let last = match stage2_last(self.under, ipa, true, self.supply, trail) {
+            Ok(last) => last,
             Err(stop) => return Err(stop),
+        };
+        let leaf = match stage2_end(self.under, ipa, true, &last) {
+            Ok(leaf) => leaf,
+            Err(fault) => return Err(Stop::Fault { fault }),
         };
         if let Err(fault) = descriptor_read(config, &leaf) {
             return Err(Stop::Fault { fault });

@@ -14,12 +14,12 @@ ghost use Rattle.stage1_walk.specs.Gave.{Walked1};
 ghost use Rattle.stage1_walk.specs.Under as Unders1;
 ghost use Rattle.stage2_walk.specs.Under.{IsUnder};
 ghost use Rattle.stage2_walk.specs.SoundSteps.{IsSoundLeaf};
-ghost use Rattle.stage2_walk.specs.Clauses.{IsTableOf, WalkedLeft, WalkedFrom};
+ghost use Rattle.stage2_walk.specs.Clauses.{IsTableOf, CameDown, WalkedLeft, WalkedFrom};
 
 use crate::under::InForce;
 use geometry::case_table;
 use stage1_walk::{From1, Supply1, Under1, walk1_under};
-use stage2_walk::{From2, Under2, walk2_under};
+use stage2_walk::{From2, Last2, Under2, walk2_down, walk2_under};
 use sysregs::Tg;
 use table_reads::{Supply, left_below};
 use trails::{Access, Stop, Trail};
@@ -46,9 +46,31 @@ pub(crate) fn walk1_left<D: Supply1>(
     case_table!(granule tg; walk1_under::<_, D>(under, left, table, supply, trail))
 }
 
-/// Stage 2 from a table with so many levels left, by the granule of stage 2.
+/// Stage 2 from a table with so many levels left down to its last word, by the granule of stage 2.
 #[inline(always)]
-pub(crate) fn walk2_left<S: Supply>(
+pub(crate) fn walk2_last<S: Supply>(
+    under: &Under2,
+    left: u32,
+    table: u64,
+    supply: &mut S,
+    trail: &mut Trail,
+) -> Result<Last2, Stop>
+    requires under { IsUnder under.now }
+    requires left { left ≤ under.now.sizes.start }
+    requires table { table < 2 ^ 52 × table % 8 ≡ 0 }
+    requires room { length trail.old + left < most_items }
+    ensures same { S.memory supply.new ≡ S.memory supply.old }
+    ensures later { S.faults supply.old ≤ S.faults supply.new }
+    ensures kept { S.keeps supply.old supply.new }
+    ensures most { length trail.new ≤ length trail.old + left + 1 }
+    ensures line { IfErr result HasLineStop }
+    ensures down { CameDown (S.memory supply.old) (Rose (S.faults supply.old) (S.faults supply.new)) under.now left table trail.old trail.new result }
+{
+    case_table!(granule under.config.tg2; walk2_down::<_, S>(under, left, table, supply, trail))
+}
+
+/// Stage 2 from a table with so many levels left, by the granule of stage 2.
+fn walk2_left<S: Supply>(
     under: &Under2,
     left: u32,
     table: u64,

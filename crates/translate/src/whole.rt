@@ -8,7 +8,7 @@ ghost use Rattle.translate.specs.Deep.{outcome_by};
 
 use crate::parts::finish;
 use crate::stage1::{Output1, stage1};
-use crate::stage2::stage2;
+use crate::stage2::{stage2_end, stage2_last};
 use crate::under::{InForce, Under};
 use sysregs::{Config, Regs};
 use table_reads::Supply;
@@ -49,9 +49,13 @@ fn whole<S: Supply>(
     if !config.vm {
         return Ok(finish(config, access, out, leaf1.as_ref(), None));
     }
-    let leaf2 = match stage2(under, out, false, supply, trail) {
-        Ok(leaf) => leaf,
+    let last = match stage2_last(under, out, false, supply, trail) {
+        Ok(last) => last,
         Err(stop) => return Err(stop),
+    };
+    let leaf2 = match stage2_end(under, out, false, &last) {
+        Ok(leaf) => leaf,
+        Err(fault) => return Err(Stop::Fault { fault }),
     };
     Ok(finish(config, access, out, leaf1.as_ref(), Some(&leaf2)))
 }

@@ -82,6 +82,7 @@ fn gives1(config: &Config, access: &Access, leaf: Option<&Leaf1>) -> Gives
 
 /// How an access comes out: where both stages lead, or the permission fault of stage 2. `out` is the output of stage 1
 /// in bytes; its leaf is there while stage 1 is on, and that of stage 2 while stage 2 is on.
+#[inline(always)]
 pub fn finish(
     config: &Config,
     access: &Access,

@@ -1,4 +1,4 @@
-use Rattle.std.proofs.Common.{refl, ◌∙◌, arith}
+use Rattle.std.proofs.Common.{refl, ◌∙◌, arith, Ok, Err}
 use Rattle.std.proofs.lemmas.Int.{to_z-of_z}
 use Rattle.table_reads.proofs.Weaker.{rose_weaker}
 use Rattle.translate.proofs.Had.{gave_deep, had_flat, had_stop, had_denied_by, had_read}
@@ -15,7 +15,14 @@ pub returns-in-Err-clause-gave : goal.returns-in-Err-clause-gave
 returns-in-Err-clause-gave g c =
     let on = rw c.config-config.ensures.same at c.if-not-config.false in
     gave_deep g.S.Supply.memory g.S.Supply.faults g.S.Supply.keeps c.args.self.now _ _ _ _ _ _ refl refl c.in-Err.ensures.same c.in-Err.ensures.later
-    c.in-Err.ensures.kept (had_stop _ _ on _ _ _ _ _ _ c.in-Err.ensures.walked c.in-Err.ensures.most)
+    c.in-Err.ensures.kept (had_stop _ _ on _ _ _ _ _ _ c.in-Err.ensures.came c.in-Err.ensures.most)
+
+pub returns-in-Err-stage2_end-clause-gave : goal.returns-in-Err-stage2_end-clause-gave
+returns-in-Err-stage2_end-clause-gave g c =
+    let on = rw c.config-config.ensures.same at c.if-not-config.false in
+    let walked = c.in-Ok.ensures.came.1 (Err c.in-Err-stage2_end.fault) c.in-Err-stage2_end.ensures.value in
+    gave_deep g.S.Supply.memory g.S.Supply.faults g.S.Supply.keeps c.args.self.now _ _ _ _ _ _ refl refl c.in-Ok.ensures.same c.in-Ok.ensures.later
+    c.in-Ok.ensures.kept (had_stop _ _ on _ _ _ _ _ _ walked c.in-Ok.ensures.most)
 
 pub returns-in-Err-descriptor_read-clause-gave : goal.returns-in-Err-descriptor_read-clause-gave
 returns-in-Err-descriptor_read-clause-gave g c =
@@ -23,7 +30,8 @@ returns-in-Err-descriptor_read-clause-gave g c =
     let denied = rw c.config-config.ensures.same at c.in-Err-descriptor_read.ensures in
     gave_deep g.S.Supply.memory g.S.Supply.faults g.S.Supply.keeps c.args.self.now _ _ _ _ _ _ refl refl c.in-Ok.ensures.same c.in-Ok.ensures.later
     c.in-Ok.ensures.kept
-    (had_denied_by _ _ on _ _ _ _ _ c.in-Ok.leaf c.in-Ok.ensures.walked c.in-Ok.ensures.most denied.0 _ denied.1)
+    (had_denied_by _ _ on _ _ _ _ _ c.in-Ok-stage2_end.leaf (c.in-Ok.ensures.came.1 (Ok c.in-Ok-stage2_end.leaf) c.in-Ok-stage2_end.ensures.value)
+    c.in-Ok.ensures.most denied.0 _ denied.1)
 
 pub returns-clause-gave : goal.returns-clause-gave
 returns-clause-gave g c =
@@ -34,5 +42,6 @@ returns-clause-gave g c =
     (c.read-2.ensures.same ∙ c.in-Ok.ensures.same)
     (omega (arith, c.in-Ok.ensures.later, c.read-2.ensures.later))
     (g.met.S.Supply.keeps_then _ _ _ c.in-Ok.ensures.kept c.read-2.ensures.kept)
-    (had_read _ _ on c.args.level _ _ _ _ c.in-Ok.leaf c.in-Ok.ensures.walked c.in-Ok.ensures.most _ _
+    (had_read _ _ on c.args.level _ _ _ _ c.in-Ok-stage2_end.leaf (c.in-Ok.ensures.came.1 (Ok c.in-Ok-stage2_end.leaf) c.in-Ok-stage2_end.ensures.value)
+    c.in-Ok.ensures.most _ _
     (rose_weaker _ _ _ _ c.in-Ok.ensures.later (omega arith)) _ _ readable read)
