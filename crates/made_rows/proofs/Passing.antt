@@ -88,7 +88,8 @@ module _ (made : MadeFor) (x : ℕ) (i : Item) (w : i.what ≡ AWord) where
   pub now_of : is_read_now K M ≡ (i.moment == made.step)
   now_of = ap (λ (j : Item). j.moment == made.step) item_of
 
-  tells : (left : ℕ) → left ≤ most_left → i.level ≡ level_of left → (v : Word) → Some (word_at (regime_for made) (untagged made.access.va) i.stage left i) ≡ Some v
+  tells : (left : ℕ) → left ≤ most_left → i.level ≡ level_of left → (v : Word) → Some (word_at (regime_for made)
+      (untagged made.access.va) i.stage left i) ≡ Some v
       → TellsMark (regime_for made) M i.stage v (address_by i.stage (untagged made.access.va) x)
   unfolding mark
   tells left l e v h =
@@ -125,7 +126,8 @@ module _ (made : MadeFor) (x : ℕ) (i : Item) (w : i.what ≡ AWord) where
     stage1_is : M.stage ≡ S1
     stage1_is = stage_of ∙ s
 
-    pub tells1 : (left : ℕ) → left ≤ most_left → i.level ≡ level_of left → (v : Word) → Some (word_at (regime_for made) (untagged made.access.va) i.stage left i) ≡ Some v
+    pub tells1 : (left : ℕ) → left ≤ most_left → i.level ≡ level_of left → (v : Word) → Some (word_at (regime_for made)
+        (untagged made.access.va) i.stage left i) ≡ Some v
         → TellsMark (regime_for made) M S1 v (untagged made.access.va)
     tells1 left l e v h = subst (λ s. TellsMark (regime_for made) M s v (address_by s (untagged made.access.va) x)) s (tells left l e v h)
 
@@ -149,7 +151,8 @@ module _ (made : MadeFor) (x : ℕ) (i : Item) (w : i.what ≡ AWord) where
     leaf1_is : (p : Part) (b : Bool) → M.part ≡ p → is_read_now K M ≡ b → is_new_leaf K (Some M) ≡ (is_leaf p && b)
     leaf1_is p b e n = rw (first_of, e, n) refl
 
-    pub passed1 : (at goal0 goal start : ℕ) (led : goal ≡ next_goal (regime_for made) (untagged made.access.va) goal0 i) (leaf0 : Option NewRow) (class0 : Option ℕ) (leaf : Option NewRow) (row : Option NewRow) →
+    pub passed1 : (at goal0 goal start : ℕ) (led : goal ≡ next_goal (regime_for made) (untagged made.access.va) goal0 i) (leaf0 : Option NewRow)
+        (class0 : Option ℕ) (leaf : Option NewRow) (row : Option NewRow) →
         ((trail : List Item) → one_from K trail row ≡ rows_now K M (take (at + 1) trail) (drop (at + 1) (take (at + 1) trail))) → IsLeaf made (Some M) leaf →
         Passed made at i record { ipa = x; goal = goal0; start = start; leaf = leaf0; class2 = class0 }
         record { ipa = x; goal = goal; start = at + 1; leaf = leaf; class2 = None } row
@@ -162,7 +165,8 @@ module _ (made : MadeFor) (x : ℕ) (i : Item) (w : i.what ≡ AWord) where
     }
 
     -- a word of another moment
-    pub earlier1 : (at goal0 goal start : ℕ) (led : goal ≡ next_goal (regime_for made) (untagged made.access.va) goal0 i) (leaf0 : Option NewRow) (class0 : Option ℕ) → is_read_now K M ≡ false →
+    pub earlier1 : (at goal0 goal start : ℕ) (led : goal ≡ next_goal (regime_for made) (untagged made.access.va) goal0 i) (leaf0 : Option NewRow)
+        (class0 : Option ℕ) → is_read_now K M ≡ false →
         Passed made at i record { ipa = x; goal = goal0; start = start; leaf = leaf0; class2 = class0 }
         record { ipa = x; goal = goal; start = at + 1; leaf = None; class2 = None } None
     earlier1 at goal0 goal start led leaf0 class0 n =
@@ -171,7 +175,8 @@ module _ (made : MadeFor) (x : ℕ) (i : Item) (w : i.what ≡ AWord) where
 
     module _ (n : is_read_now K M ≡ true) (v : Word) (t : TellsMark (regime_for made) M S1 v (untagged made.access.va)) where
       -- a table
-      pub table1 : (at goal0 goal start : ℕ) (led : goal ≡ next_goal (regime_for made) (untagged made.access.va) goal0 i) (leaf0 : Option NewRow) (class0 : Option ℕ) (b : Bool) (row : NewRow) → v.means ≡ Table b →
+      pub table1 : (at goal0 goal start : ℕ) (led : goal ≡ next_goal (regime_for made) (untagged made.access.va) goal0 i) (leaf0 : Option NewRow)
+          (class0 : Option ℕ) (b : Bool) (row : NewRow) → v.means ≡ Table b →
           ((trail : List Item) → row_from K trail row ≡ row_of K M OfTable1 (take (at + 1) trail)) →
           Passed made at i record { ipa = x; goal = goal0; start = start; leaf = leaf0; class2 = class0 }
           record { ipa = x; goal = goal; start = at + 1; leaf = None; class2 = None } (cond b (Some row) None)
@@ -183,7 +188,8 @@ module _ (made : MadeFor) (x : ℕ) (i : Item) (w : i.what ≡ AWord) where
           (leaf1_is (table b) true p n)
 
       -- a leaf
-      pub leaf1 : (at goal0 goal start : ℕ) (led : goal ≡ next_goal (regime_for made) (untagged made.access.va) goal0 i) (leaf0 : Option NewRow) (class0 : Option ℕ) (b : Bool) (row : NewRow) → v.means ≡ Leaf1 b →
+      pub leaf1 : (at goal0 goal start : ℕ) (led : goal ≡ next_goal (regime_for made) (untagged made.access.va) goal0 i) (leaf0 : Option NewRow)
+          (class0 : Option ℕ) (b : Bool) (row : NewRow) → v.means ≡ Leaf1 b →
           ((trail : List Item) → row_from K trail row ≡ row_of K M OfLeaf1 (drop 0 (take 0 trail))) → row.start ≡ 0 → row.region.class ≡ v.class →
           Passed made at i record { ipa = x; goal = goal0; start = start; leaf = leaf0; class2 = class0 }
           record { ipa = x; goal = goal; start = at + 1; leaf = Some (record row { global = b }); class2 = None } None
@@ -201,7 +207,8 @@ module _ (made : MadeFor) (x : ℕ) (i : Item) (w : i.what ≡ AWord) where
           }
 
       -- nothing that is kept
-      pub nothing1 : (at goal0 goal start : ℕ) (led : goal ≡ next_goal (regime_for made) (untagged made.access.va) goal0 i) (leaf0 : Option NewRow) (class0 : Option ℕ) → v.means ≡ Nothing →
+      pub nothing1 : (at goal0 goal start : ℕ) (led : goal ≡ next_goal (regime_for made) (untagged made.access.va) goal0 i) (leaf0 : Option NewRow)
+          (class0 : Option ℕ) → v.means ≡ Nothing →
           Passed made at i record { ipa = x; goal = goal0; start = start; leaf = leaf0; class2 = class0 }
           record { ipa = x; goal = goal; start = at + 1; leaf = None; class2 = None } None
       nothing1 at goal0 goal start led leaf0 class0 e =
@@ -221,7 +228,8 @@ module _ (made : MadeFor) (x : ℕ) (i : Item) (w : i.what ≡ AWord) where
     stage2_is : M.stage ≡ S2
     stage2_is = stage_of ∙ s
 
-    pub tells2 : (left : ℕ) → left ≤ most_left → i.level ≡ level_of left → (v : Word) → Some (word_at (regime_for made) (untagged made.access.va) i.stage left i) ≡ Some v
+    pub tells2 : (left : ℕ) → left ≤ most_left → i.level ≡ level_of left → (v : Word) → Some (word_at (regime_for made)
+        (untagged made.access.va) i.stage left i) ≡ Some v
         → TellsMark (regime_for made) M S2 v x
     tells2 left l e v h = subst (λ s. TellsMark (regime_for made) M s v (address_by s (untagged made.access.va) x)) s (tells left l e v h)
 
@@ -242,7 +250,8 @@ module _ (made : MadeFor) (x : ℕ) (i : Item) (w : i.what ≡ AWord) where
       goal = rw s refl;
       start = rw (second_of, base_of) refl;
       row_is = h;
-      leaf = λ o k l. record { leaf = rw second_of l.leaf; class = λ e. rw (second_of, base_of) (g o l.leaf (subst (λ b. is_new_leaf K (cond b (Some M) o) ≡ true) second_of e)) };
+      leaf = λ o k l. record { leaf = rw second_of l.leaf; class = λ e. rw (second_of, base_of)
+          (g o l.leaf (subst (λ b. is_new_leaf K (cond b (Some M) o) ≡ true) second_of e)) };
     }
 
     -- a word of another moment, where no leaf of stage 1 was read now

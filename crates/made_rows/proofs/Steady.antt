@@ -232,7 +232,8 @@ module _ (q : Asked) (fields : IsOfFields q.regime) (side : q.regime.side ≡ si
         let m : left ≤ most_left = omega (arith, l, few1) in
         (record { left = m; within = l; address = refl; sized = sized1 }, λ i h. word_goal left t place m i h)
 
-    steady_read_by : (x g left : ℕ) (t : Table1) (e : End Leaf2) → left ≤ R.stage1.start → AreSteady (WordHad left) R V x g (read1_by R.config (entry1 q left t) e)
+    steady_read_by : (x g left : ℕ) (t : Table1) (e : End Leaf2) → left ≤ R.stage1.start →
+        AreSteady (WordHad left) R V x g (read1_by R.config (entry1 q left t) e)
     steady_read_by x g left t (stops f) l = tt
     steady_read_by x g left t (reaches m) l =
         steady_if R V (WordHad left) x g (is_readable R.config m) (read1 (entry1 q left t) m.pa)

@@ -97,7 +97,8 @@ fn in_stage1(
     requires sizes { IsSized1 config.now side sizes.now }
     requires sound { IfSome sizes.now AreSound }
     requires left { left ≤ most_left }
-    ensures is { is_sized1 config.now side ≡ true → left ≤ (sizes1 config.now side).start → result ≡ Some (word_at (regime_of config.now side) va S1 left item.now) }
+    ensures is { is_sized1 config.now side ≡ true → left ≤ (sizes1 config.now side).start →
+        result ≡ Some (word_at (regime_of config.now side) va S1 left item.now) }
     ensures small { IfSome result (λ w. w.class ≤ 55) }
 {
     match sizes {
