@@ -89,18 +89,6 @@ two_two x y (r ∷ s ∷ m) h =
 never : Rose 0 0 → ⊥
 never h = absurd (omega (arith, h))
 
--- the leaf of a chain keeps an address's place among eight bytes
-chain_sound : (c : Config) (s : Side) (x : ℕ) (items : List Item) (l : Leaf2) → stands2 c s false x items ≡ ends (reaches l) [] → l.pa % 8 ≡ x % 8
-chain_sound c s x items l h =
-    let t = takes_ends (fits (regime_of c s)) (walk2 (asked2 (regime_of c s) false x)) items _ h in
-    let d = reached2 (regime_of c s) false x x (of_fields c s) items l t in
-    ap (λ n. n % 8) d.here ∙ goes_to_eights l.pa l.class x (omega (arith, d.least))
-
--- a leaf of a walk keeps it too
-pub sound_of : (x : ℕ) (r : Result Leaf2 Stop) → IfOk r (IsSoundLeaf x) → IfOk r (λ l. l.pa % 8 ≡ x % 8)
-sound_of x (Ok l) h = h.0
-sound_of x (Err e) h = tt
-
 -- a base is too large, or a table
 root_err : (b : Bool) (e f : Fault) (from : From2) → Err f ≡ (cond b (Err e) (Ok from)) → (b ≡ true) × (f ≡ e)
 root_err true e f from h = (refl, cc)
@@ -279,7 +267,6 @@ module _ {F : Type 0} (may : Holds F) (at : RowAt F) (scene : Scene F) (x : ℕ)
               subst (λ z. ChainServed (λ k s. at scene.finds.now k s d) (place live) p x items z (second_in after) (Ok l)) (sym (n.3 room))
               (record {
                 live = (record { live = w.0; kind = (serves live m OfLeaf2 q w.0 w.1).0; made = made d }, tt);
-                sound = chain_sound c Low x items l (h Low);
                 was = λ a' s.
                     subst (λ z. WasServed (supply (place live) a') (walk2 (asked2 (regime_of c s) p x)) z (q ∷ []) (second_in after) (Ok l)) (sym (t d))
                     (chain_hit c s p x (supply (place live) a') q (fresh_of (place live) a' (stage2_base x)) l (second_in after)
@@ -302,7 +289,6 @@ module _ {F : Type 0} (may : Holds F) (at : RowAt F) (scene : Scene F) (x : ℕ)
           let o = two_two q r (leaves live) (f d live m.held m.servable.told m.small) in
           record {
             live = tt;
-            sound = tt;
             was = λ a' s.
                 subst (λ z. WasServed (supply (place live) a') (walk2 (asked2 (regime_of c s) p x)) z [] (second_in after) (Err Conflict)) (sym (t d))
                 (chain_twice c s p x (supply (place live) a') q.trail r.trail (second_in after) ok
@@ -341,10 +327,9 @@ module _ {F : Type 0} (may : Holds F) (at : RowAt F) (scene : Scene F) (x : ℕ)
         → DeepestIn OfTable2 (Some a) → MadeAs OfTable2 a → TrailOf OfTable2 a items
         → ((s : Side) → IsReplayed2 (More from) (stands2 c s false x items)) → mid ≡ old ++ items
         → IsNoted (record { kind = OfTable2; seen = a }) before.services.items after.services.items
-        → IfOk r (λ l. l.pa % 8 ≡ x % 8)
         → WalkedFrom (Some (memory_of scene.phys.now)) (Rose 0 0) (record { config = c; ipa = x; s1ptw = p; moment = scene.moment; from = from }) mid new r
         → NoLeaf may scene x → ChainGave may at scene p x before after old new r
-    table_gave p a items from before after old mid new r f made t h g n sound w none =
+    table_gave p a items from before after old mid new r f made t h g n w none =
         record {
           items = items ++ w.more;
           grown = w.grown ∙ ap (λ l. l ++ w.more) g ∙ append_assoc old items w.more;
@@ -358,7 +343,6 @@ module _ {F : Type 0} (may : Holds F) (at : RowAt F) (scene : Scene F) (x : ℕ)
               subst (λ z. ChainServed (λ k s. at scene.finds.now k s d) (place live) p x (items ++ w.more) z (second_in after) r) (sym (n.3 room))
               (record {
                 live = (record { live = v.0; kind = (serves live m OfTable2 q v.0 v.1).0; made = made d }, tt);
-                sound = sound;
                 was = λ a' s.
                     let b = was_walked (place live) a' (Rose 0 0) never (walk2_from (asked2 (regime_of c s) p x) (left_below from.level) from.base) mid new r
                     (second_in after) w in
@@ -374,11 +358,10 @@ module _ {F : Type 0} (may : Holds F) (at : RowAt F) (scene : Scene F) (x : ℕ)
     base_now = base_item scene.moment S2 (sizes2 c) (start_base2 regs)
 
     base_gave : (p : Bool) (met : Met) (more : List Item) (old new : List Item) (r : Result Leaf2 Stop) → new ≡ old ++ base_now ∷ more
-        → IfOk r (λ l. l.pa % 8 ≡ x % 8)
         → ((live : List Row) (a : Access) (s : Side)
         → WasServed (supply (place live) a) (walk2_behind (asked2 (regime_of c s) p x) (start_base2 regs)) more [] (second_in met) r)
         → NoLeaf may scene x → NoTable may scene x → ChainGave may at scene p x met met old new r
-    base_gave p met more old new r g sound w none bare = record {
+    base_gave p met more old new r g w none bare = record {
       items = base_now ∷ more;
       grown = g;
       services = [];
@@ -387,7 +370,6 @@ module _ {F : Type 0} (may : Holds F) (at : RowAt F) (scene : Scene F) (x : ℕ)
       served = λ room live m d.
           record {
             live = tt;
-            sound = sound;
             was = λ a s. chain_base c s p x (supply (place live) a) base_now more [] (second_in met) r ok (supply_is live a [] None (none live m) (bare live m)) (w live a s);
           };
     }
@@ -406,21 +388,21 @@ module _ {F : Type 0} (may : Holds F) (at : RowAt F) (scene : Scene F) (x : ℕ)
         → NoLeaf may scene x → NoTable may scene x → ChainGave may at scene p x met met old new (Err (FaultStop f))
     large_gave p met old new f g e =
         let d = root_err (is_too_large (sizes2 c) (start_base2 regs)) _ f _ e in
-        base_gave p met [] old new (Err (FaultStop f)) g tt
+        base_gave p met [] old new (Err (FaultStop f)) g
         (λ live a s. subst (λ t. WasServed (supply (place live) a) t [] [] (second_in met) (Err (FaultStop f)))
         (sym (large_is (is_too_large (sizes2 c) (start_base2 regs)) (asked2 (regime_of c s) p x) _ d.0))
         (subst (λ z. WasServed {L = Leaf2} (supply (place live) a) (done (stops (fault2 (asked2 (regime_of c s) p x) AddressSize most_left))) [] [] (second_in met) (Err (FaultStop z)))
         (sym d.1) (was_fault (supply (place live) a) (fault2 (asked2 (regime_of c s) p x) AddressSize most_left) (second_in met))))
 
     pub root_gave : (p : Bool) (met : Met) (old mid new : List Item) (from : From2) (r : Result Leaf2 Stop) → mid ≡ old ++ base_now ∷ []
-        → Ok from ≡ root2_of regs p → IfOk r (λ l. l.pa % 8 ≡ x % 8)
+        → Ok from ≡ root2_of regs p 
         → WalkedFrom (Some (memory_of scene.phys.now)) (Rose 0 0) (record { config = c; ipa = x; s1ptw = p; moment = scene.moment; from = from }) mid new r
         → NoLeaf may scene x → NoTable may scene x → ChainGave may at scene p x met met old new r
-    root_gave p met old mid new from r g e sound w =
+    root_gave p met old mid new from r g e w =
         let d = root_ok (is_too_large (sizes2 c) (start_base2 regs)) _ _ from e in
         let left : left_below from.level ≡ (sizes2 c).start = ap (λ z. left_below z.level) d.1 ∙ left_all (sizes2 c).start in
         let base : from.base ≡ start_base2 regs = ap (λ z. z.base) d.1 in
-        base_gave p met w.more old new r (w.grown ∙ ap (λ l. l ++ w.more) g ∙ append_assoc old (base_now ∷ []) w.more) sound
+        base_gave p met w.more old new r (w.grown ∙ ap (λ l. l ++ w.more) g ∙ append_assoc old (base_now ∷ []) w.more)
         (λ live a s.
         let b = was_walked (place live) a (Rose 0 0) never (walk2_from (asked2 (regime_of c s) p x) (left_below from.level) from.base) mid new r
         (second_in met) w in
@@ -455,8 +437,7 @@ module _ {F : Type 0} (may : Holds F) (at : RowAt F) (scene : Scene F) (x : ℕ)
         served = λ room live m r.
             record {
               live = tt;
-              sound = tt;
-              was = λ a s.
+                was = λ a s.
                   subst (λ z. WasServed (supply (place_with scene live) a) (walk2 (asked2 (regime_of c s) p x)) [] [] (second_in met) (Err (FaultStop z))) (sym d.1)
                   (chain_refused c s p x (supply (place_with scene live) a) (second_in met) d.0);
             };

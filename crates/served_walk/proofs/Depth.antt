@@ -116,7 +116,7 @@ module _ (c : Config) (judged : Bool) (a : Access) where
     by true = at_after most_items2 1 (walk2 (asked2 r true e.place)) (read1_by c e) (walk2_most c (side_of a.va) true e.place) (read_most e)
     by false = λ i. tt
 
-  from1_most : (left : ℕ) (t : Table1) → AtMost (left + 1) (walk1_from q left t)
+  pub from1_most : (left : ℕ) (t : Table1) → AtMost (left + 1) (walk1_from q left t)
   from1_most zero t = λ i. at_step 0 (λ _. done (stops (fault1 Translation 0))) _ (λ _. tt)
   from1_most (suc left) t =
       let e : suc left + 1 ≡ suc (left + 1) = omega arith in

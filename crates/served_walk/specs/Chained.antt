@@ -1,5 +1,5 @@
 -- What is said of code that walks a chain of stage 2 over rows.
-use Rattle.std.specs.Prelude.{◌≡◌, ℕ, ◌<◌, ◌≤◌, ◌%◌, Bool, List, [], ◌++◌, length, map, Option, Some, None, Result, IfOk}
+use Rattle.std.specs.Prelude.{◌≡◌, ℕ, ◌<◌, ◌≤◌, Bool, List, [], ◌++◌, length, map, Option, Some, None, Result}
 use Rattle.sysregs.specs.declared.regs.Side.{Side}
 use Rattle.sysregs.specs.Registers.{config_of}
 use Rattle.trails.specs.declared.item.Item.{Item}
@@ -29,11 +29,10 @@ Holds F = F → List Row → Type 0
 abbrev pub RowAt : (F : Type 0) → Type 0
 RowAt F = F → Kind → Slot → Row → Row
 
--- A chain was served at a place: the rows of these services served it, and its leaf keeps the address's place among eight bytes.
+-- A chain was served at a place: the rows of these services served it.
 pub record ChainServed (at : Kind → Slot → Row) (place : Place) (s1ptw : Bool) (ipa : ℕ) (items : List Item) (services : List Service)
     (two : Second) (r : Result Leaf2 Stop) : Type 0 where
   pub live : AreServices at place.rows services
-  pub sound : IfOk r (λ l. l.pa % 8 ≡ ipa % 8)
   pub was : (a : Access) (s : Side)
       → WasServed (supply place a) (walk2 (asked2 (regime_of (config_of place.regs) s) s1ptw ipa)) items (map (service_row at) services) two r
 

@@ -1,11 +1,12 @@
 //! Stage 2 for an IPA over rows: by a leaf's row, behind a table's row, or from its base.
-ghost use Rattle.std.specs.Prelude.{◌≡◌, ◌+◌, ◌≤◌, ◌&&◌, nat_le, length, IsTrue, IsFalse, IfSome, IfErr};
+ghost use Rattle.std.specs.Prelude.{◌≡◌, ◌+◌, ◌≤◌, ◌&&◌, nat_le, length, IsTrue, IsFalse, IfSome, IfOk, IfErr};
 ghost use Rattle.geometry.specs.Tables.{level_of};
 ghost use Rattle.sysregs.specs.Registers.{config_of};
 ghost use Rattle.trails.specs.Lengths.{most_items, most_items2};
 ghost use Rattle.trails.specs.Printed.{HasTextStop};
 ghost use Rattle.table_reads.specs.Numbers.{sizes2};
 ghost use Rattle.walk_spec.specs.Stage2.{is_refused2};
+ghost use Rattle.stage2_walk.specs.SoundSteps.{IsSoundLeaf};
 ghost use Rattle.served_walk.specs.Chained.{ChainGave, GaveByLeaf, GaveByTable, NoLeaf, NoTable};
 
 use crate::finds::Finds;
@@ -46,6 +47,7 @@ fn by_leaf<F: Finds>(
     requires room { length trail.old + most_items2 ≤ most_items }
     ensures most { length trail.new ≤ length trail.old + most_items2 }
     ensures text { IfSome result (λ r. IfErr r HasTextStop) }
+    ensures sound { IfSome result (λ r. IfOk r (IsSoundLeaf ipa)) }
     ensures gave { (s1ptw : _) → GaveByLeaf F.holds F.row_at scene.now s1ptw ipa met.old met.new trail.old trail.new result }
 {
     let finds = scene.finds;
@@ -93,6 +95,7 @@ fn by_table<F: Finds>(
     requires room { length trail.old + most_items2 ≤ most_items }
     ensures most { length trail.new ≤ length trail.old + most_items2 }
     ensures text { IfSome result (λ r. IfErr r HasTextStop) }
+    ensures sound { IfSome result (λ r. IfOk r (IsSoundLeaf ipa)) }
     ensures gave { GaveByTable F.holds F.row_at scene.now s1ptw ipa met.old met.new trail.old trail.new result }
 {
     let finds = scene.finds;
@@ -138,6 +141,7 @@ fn by_base<F: Finds>(
     requires room { length trail.old + most_items2 ≤ most_items }
     ensures most { length trail.new ≤ length trail.old + most_items2 }
     ensures text { IfErr result HasTextStop }
+    ensures sound { IfOk result (IsSoundLeaf ipa) }
     ensures gave { (met : _) → NoLeaf F.holds scene.now ipa → NoTable F.holds scene.now ipa →
         ChainGave F.holds F.row_at scene.now s1ptw ipa met met trail.old trail.new result }
 {
@@ -177,6 +181,7 @@ pub(crate) fn chain<F: Finds>(
     requires room { length trail.old + most_items2 ≤ most_items }
     ensures most { length trail.new ≤ length trail.old + most_items2 }
     ensures text { IfErr result HasTextStop }
+    ensures sound { IfOk result (IsSoundLeaf ipa) }
     ensures gave { ChainGave F.holds F.row_at scene.now s1ptw ipa met.old met.new trail.old trail.new result }
 {
     let level = match begin2(scene.force.config(), ipa, s1ptw) {

@@ -1,7 +1,7 @@
 use Rattle.std.proofs.Common.{arith}
 
 use Rattle.stage2_walk.proofs.Accepted.{accepted_sizes}
-use Rattle.served_walk.proofs.ChainRows.{large_gave, root_gave, behind_base, sound_of}
+use Rattle.served_walk.proofs.ChainRows.{large_gave, root_gave, behind_base}
 use Rattle.served_walk.proofs.chain.by_base.Goals as goal
 
 pub root2-requires-clause-sized : goal.root2-requires-clause-sized
@@ -26,5 +26,5 @@ returns-clause-most g c =
 pub returns-clause-gave : goal.returns-clause-gave
 returns-clause-gave g c = λ met.
     root_gave g.F.Finds.holds g.F.Finds.row_at c.args.scene.now c.args.ipa c.requires.accepted c.args.s1ptw met _ _ _ c.in-Ok.from _
-    (rw c.regs.ensures at c.in-Ok.ensures.item) (rw c.regs.ensures at c.in-Ok.ensures.value) (sound_of _ _ c.walk2_from.ensures.sound)
+    (rw c.regs.ensures at c.in-Ok.ensures.item) (rw c.regs.ensures at c.in-Ok.ensures.value)
     c.walk2_from.ensures.walked

@@ -1,4 +1,6 @@
 use Rattle.std.proofs.Common.{arith, refl}
+use Rattle.sysregs.specs.declared.regs.Side.TheVariants.{Low}
+use Rattle.served_walk.proofs.ChainLeaf.{leaf_sound}
 use Rattle.served_walk.proofs.ChainRows.{none_found, one_unfit, two_unfit, leaf_gave, two_gave, short_by}
 use Rattle.served_walk.proofs.chain.by_leaf.Goals as goal
 
@@ -36,6 +38,7 @@ pub returns-in_default : goal.returns-in_default
 returns-in_default g c = record {
   most = omega arith;
   text = tt;
+  sound = tt;
   gave = λ p. (
     refl,
     refl,
@@ -43,6 +46,10 @@ returns-in_default g c = record {
         (rw c.sought.ensures at c.in-One.ensures.best) c.trail-chain.ensures (rw c.config.ensures.same at c.replay2.ensures.replayed) (λ l e n. c.in_default.not-Ended l e),
   );
 }
+
+pub returns-else-chain-gt-MOST_CHAIN-clause-sound : goal.returns-else-chain-gt-MOST_CHAIN-clause-sound
+returns-else-chain-gt-MOST_CHAIN-clause-sound g c =
+    leaf_sound _ Low c.args.ipa _ c.in-Ended.leaf (c.in-Ended.ensures.replayed Low)
 
 pub returns-else-not-are_short-clause-gave : goal.returns-else-not-are_short-clause-gave
 returns-else-not-are_short-clause-gave g c = λ p.

@@ -3,7 +3,7 @@ use mir.Val.{SFits}
 use mir.Syntax.{w8}
 use Rattle.std.proofs.lemmas.Int.{to_z-of_z}
 use Rattle.geometry.specs.Tables.{left_below}
-use Rattle.served_walk.proofs.ChainRows.{no_table, table_unfit, table_gave, sound_of, room_by, has_room_by, more_is, appended, text_of}
+use Rattle.served_walk.proofs.ChainRows.{no_table, table_unfit, table_gave, room_by, has_room_by, more_is, appended, text_of}
 use Rattle.served_walk.proofs.chain.by_table.Goals as goal
 
 pub returns-in-None-clause-gave : goal.returns-in-None-clause-gave
@@ -17,6 +17,7 @@ pub returns-in_default : goal.returns-in_default
 returns-in_default g c = record {
   most = omega arith;
   text = tt;
+  sound = tt;
   gave = (
     refl,
     refl,
@@ -58,4 +59,4 @@ returns-clause-gave g c =
     table_gave g.F.Finds.holds g.F.Finds.row_at c.args.scene.now c.args.ipa c.requires.accepted c.args.s1ptw c.in-Some.seen _ c.in-More.from _ _ _ _ _ _
     (rw c.sought.ensures at c.in-Some.ensures.least) c.in-Some.ensures.made c.trail-chain.ensures
     (rw c.config.ensures.same at c.in-More.ensures.replayed) c.append.ensures c.note.ensures.services
-    (sound_of _ _ c.walk2_from.ensures.sound) c.walk2_from.ensures.walked
+    c.walk2_from.ensures.walked
