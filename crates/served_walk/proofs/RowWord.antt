@@ -36,7 +36,9 @@ use Rattle.served_walk.specs.declared.row_words.RowWords.{RowWords}
 use Rattle.served_walk.specs.ServedWord.{WasServed, WordServed}
 use Rattle.served_walk.specs.Meets.{MayMeet, place_with, service_row, second_in}
 use Rattle.served_walk.specs.Chained.{Holds, RowAt, ChainGave}
+use Rattle.served_walk.specs.KeptWords.{BeginsWith, TookWord}
 use Rattle.served_walk.specs.RowGiven.{HasReadWord, WordBy, RowGave}
+use Rattle.served_walk.proofs.KeptItems.{same_word}
 use Rattle.served_walk.proofs.Parts.{flat_had, flat_none, deep_had, deep_none, deep_denied, deep_stop}
 
 -- the fault of a descriptor that may not be read has a status code
@@ -83,9 +85,39 @@ module _ {F : Type 0} (may : Holds F) (at : RowAt F) (s : RowWords F) (level : �
       → RowGave may at s level x items r t → EndsInWord items r → Gave (RowGave may at s level x) old new r t
   gave_by old new items r t g n h e = record { more = items; grown = g; most = n; given = h; word = e }
 
+  -- no word is kept
+  abbrev NoWord : Type 0
+  NoWord = (front : List Item) (i : Item) (rest : List Item) → BeginsWith s.kept.now front i rest → ⊥
+
+  some_kept : (front : List Item) (i : Item) (rest : List Item) → s.kept.now ≡ front ++ i ∷ rest → s.kept.now ≡ [] → ⊥
+  some_kept [] i rest e h = absurd cc
+  some_kept (j ∷ front) i rest e h = absurd cc
+
+  -- one was taken
+  pub kept_gave : (t : RowWords F) (old new : List Item) (v : ℕ) → t.scene.now ≡ z → t.met ≡ s.met → TookWord s.kept.now t.kept.now old new (Some v)
+      → Gave (RowGave may at s level x) old new (Ok v) t
+  kept_gave t old new v same met w =
+      let front = w.0 in
+      let i = w.1 in
+      let b = w.2 in
+      let n : length (front ++ i ∷ []) ≡ length front + 1 = length-append front (i ∷ []) in
+      gave_by old new (front ++ i ∷ []) (Ok v) t w.3 (omega (arith, n, b.few))
+      (record {
+        same = same;
+        services = [];
+        noted = ap (λ y. y.services.items) met ∙ sym (append-nil s.met.services.items);
+        few = omega arith;
+        kept = λ f j rest d.
+            let q = same_word front f i j t.kept.now rest (sym b.is ∙ d.is) b.chain d.chain b.stage d.stage in
+            (ap (λ l. l ++ i ∷ []) q.0 ∙ ap (λ k. f ++ k ∷ []) q.1, ap (λ y. Ok y) w.4 ∙ ap (λ k. Ok k.value) q.1, q.2, refl);
+        none = λ e. absurd (some_kept front i t.kept.now b.is e);
+        served = λ e room live m d. absurd (some_kept front i t.kept.now b.is e);
+      })
+      (front, i, refl, sym w.4)
+
   -- STAGE 2 IS OFF
 
-  module _ (off : c.vm ≡ false) (t : RowWords F) (same : t.scene.now ≡ z) (met : t.met ≡ s.met) where
+  module _ (off : c.vm ≡ false) (t : RowWords F) (same : t.scene.now ≡ z) (left : t.kept.now ≡ s.kept.now) (no : NoWord) (met : t.met ≡ s.met) where
     flat_row : (items : List Item) (r : Result ℕ Stop) → ((live : List Row) (a : Access) (side : Side) (e : Entry1) → level_of e.left ≡ level → e.place ≡ x
         → WordServed (sup live a) (word_of (regime_of c side) e) items [] (second_in t.met) r) → RowGave may at s level x items r t
     flat_row items r h = record {
@@ -93,7 +125,9 @@ module _ {F : Type 0} (may : Holds F) (at : RowAt F) (s : RowWords F) (level : �
       services = [];
       noted = ap (λ y. y.services.items) met ∙ sym (append-nil s.met.services.items);
       few = omega arith;
-      served = λ room live l d. record { live = tt; had = h live };
+      kept = λ front i rest b. absurd (no front i rest b);
+      none = λ e. left ∙ e;
+      served = λ e room live l d. record { live = tt; had = h live };
     }
 
     pub flat_gave : (old new : List Item) (r : Result ℕ Stop) → HasReadWord m z.moment level x old new r → Gave (RowGave may at s level x) old new r t
@@ -117,7 +151,7 @@ module _ {F : Type 0} (may : Holds F) (at : RowAt F) (s : RowWords F) (level : �
 
   -- STAGE 2 IS ON
 
-  module _ (on : c.vm ≡ true) (t : RowWords F) (same : t.scene.now ≡ z) (old mid : List Item) where
+  module _ (on : c.vm ≡ true) (t : RowWords F) (same : t.scene.now ≡ z) (left : t.kept.now ≡ s.kept.now) (no : NoWord) (old mid : List Item) where
     short : (items : List Item) → mid ≡ old ++ items → length mid ≤ length old + most_items2 → length items ≤ most_items2
     short items g n = let e : length mid ≡ length old + length items = ap length g ∙ length-append old items in omega (arith, e, n)
 
@@ -135,7 +169,9 @@ module _ {F : Type 0} (may : Holds F) (at : RowAt F) (s : RowWords F) (level : �
           services = g.services;
           noted = g.noted;
           few = g.few;
-          served = λ room live l d.
+          kept = λ front i rest b. absurd (no front i rest b);
+          none = λ e. left ∙ e;
+          served = λ e room live l d.
               let v = g.served room live l d in
               record {
                 live = v.live;
@@ -160,7 +196,9 @@ module _ {F : Type 0} (may : Holds F) (at : RowAt F) (s : RowWords F) (level : �
         services = g.services;
         noted = g.noted;
         few = g.few;
-        served = λ room live m d.
+        kept = λ front i rest b. absurd (no front i rest b);
+        none = λ e. left ∙ e;
+        served = λ e room live m d.
             let v = g.served room live m d in
             record {
               live = v.live;
