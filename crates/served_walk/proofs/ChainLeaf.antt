@@ -1,5 +1,5 @@
 -- The leaf of a kept chain keeps the address's place among eight bytes, and has a level from 0 to 3.
-use Rattle.std.proofs.Common.{◌≡◌, ℕ, zero, suc, ◌≤◌, ◌%◌, Bool, true, false, cond, List, [], ◌∷◌, refl, sym, ap, ◌∙◌, subst, arith}
+use Rattle.std.proofs.Common.{◌≡◌, ℕ, zero, suc, ◌≤◌, ◌%◌, Bool, true, false, cond, List, [], ◌∷◌, sym, ap, ◌∙◌, subst, arith}
 use Rattle.geometry.specs.Tables.{most_left}
 use Rattle.geometry.proofs.Leaves.{goes_to_eights}
 use Rattle.sysregs.specs.declared.regs.Config.{Config}
@@ -10,10 +10,10 @@ use Rattle.fault_codes.specs.Status.{HasLevel}
 use Rattle.trails.specs.declared.item.Item.{Item}
 use Rattle.table_reads.specs.Places.{is_too_large}
 use Rattle.walk_spec.specs.declared.leaf.Leaf2.{Leaf2}
-use Rattle.walk_spec.specs.Ask.{Ask, done, ask, ends}
+use Rattle.walk_spec.specs.Ask.{Ask, done, ends}
 use Rattle.walk_spec.specs.Needs.{Regime, regime_of, Need, fits}
 use Rattle.walk_spec.specs.Steps.{End, stops, reaches, step_then}
-use Rattle.walk_spec.specs.Stage2.{Asked2, fault2, leaf2_of, step2, walk2, walk2_from, walk2_behind, is_refused2}
+use Rattle.walk_spec.specs.Stage2.{Asked2, fault2, leaf2_of, step2, walk2, walk2_from}
 use Rattle.walk_spec.specs.Stage1.{asked2, stands2}
 use Rattle.walk_laws.proofs.Stage2.{Turn2, table, leaf, fault, turn2, reached2}
 use Rattle.walk_laws.proofs.Stepping.{takes_ends}

@@ -1,10 +1,9 @@
 -- One chain of stage 2 as code walks it over rows.
-use Rattle.std.proofs.Common.{◌≡◌, ℕ, ◌+◌, ◌≤◌, ◌<◌, ◌%◌, inl, inr, Bool, true, false, cond, List, [], ◌∷◌, ◌++◌, length, length-append, take, refl, sym, ap, ◌∙◌, subst, append_assoc, append-nil, arith, Option, Some, None, Ok, Err, Result}
-use Rattle.std.specs.Prelude.{option_map, ℤ, IfOk, IfErr, nat_le, ◌&&◌}
+use Rattle.std.proofs.Common.{◌≡◌, ℕ, ◌+◌, ◌≤◌, ◌<◌, inl, inr, Bool, true, false, cond, List, [], ◌∷◌, ◌++◌, length, length-append, take, refl, sym, ap, ◌∙◌, subst, append_assoc, append-nil, arith, Option, Some, None, Ok, Err, Result}
+use Rattle.std.specs.Prelude.{option_map, ℤ, IfErr, nat_le, ◌&&◌}
 use Rattle.std.proofs.lemmas.Bool.Decides.{nat_tests}
 use Rattle.bitwords.specs.Causes.{Rose}
 use Rattle.geometry.specs.Tables.{most_left, left_below, level_of}
-use Rattle.geometry.proofs.Leaves.{goes_to_eights}
 use Rattle.sysregs.specs.declared.regs.Config.{Config}
 use Rattle.sysregs.specs.declared.regs.Regs.{Regs}
 use Rattle.sysregs.specs.declared.regs.Side.{Side}
@@ -24,15 +23,13 @@ use Rattle.table_reads.specs.Items.{base_item}
 use Rattle.phys_mem.specs.Words.{memory_of}
 use Rattle.walk_spec.specs.declared.leaf.Leaf2.{Leaf2}
 use Rattle.walk_spec.specs.Ask.{Ask, done, ends, needs}
-use Rattle.walk_spec.specs.Needs.{regime_of, Need, stage2_base, word, WordNeed, fits}
+use Rattle.walk_spec.specs.Needs.{regime_of, Need, stage2_base, word, WordNeed}
 use Rattle.walk_spec.specs.Steps.{End, stops, reaches}
 use Rattle.walk_spec.specs.Stage2.{Asked2, fault2, walk2, walk2_from, walk2_behind, is_refused2}
 use Rattle.walk_spec.specs.Stage1.{asked2, stands2}
 use Rattle.walk_spec.specs.Fresh.{start_base2}
 use Rattle.walk_spec.specs.Walked.{HasLineStop}
 use Rattle.trails.specs.Printed.{HasTextStop}
-use Rattle.walk_laws.proofs.Stage2.{reached2}
-use Rattle.walk_laws.proofs.Stepping.{takes_ends}
 use Rattle.walk_laws.proofs.Sound.{sound2}
 use Rattle.walk_laws.proofs.Shifts.{of_fields}
 use Rattle.stage2_walk.specs.declared.walk.From2.{From2}
@@ -40,7 +37,6 @@ use Rattle.stage2_walk.specs.declared.replayed.Replay2.{Replay2}
 use Rattle.stage2_walk.specs.declared.replayed.Replay2.TheVariants.{Ended, More}
 use Rattle.stage2_walk.specs.Replayed.{IsReplayed2}
 use Rattle.stage2_walk.specs.Clauses.{WalkedFrom}
-use Rattle.stage2_walk.specs.SoundSteps.{IsSoundLeaf}
 use Rattle.translate.specs.Parts.{begin2_of, root2_of}
 use Rattle.tagged_tlb.specs.declared.row.Key.{Key}
 use Rattle.tagged_tlb.specs.declared.row.Kind.{Kind}
@@ -61,7 +57,7 @@ use Rattle.served_walk.specs.declared.scene.Scene.{Scene}
 use Rattle.served_walk.specs.CanServe.{ServesAs}
 use Rattle.served_walk.specs.ServedWord.{WasServed}
 use Rattle.served_walk.specs.Meets.{rows_found, MayMeet, place_with, IsNoted, second_in}
-use Rattle.served_walk.specs.Chained.{Holds, RowAt, ChainServed, ChainGave, NoLeaf, NoTable}
+use Rattle.served_walk.specs.Chained.{Holds, RowAt, MayConflict, ChainServed, ChainGave, NoLeaf, NoTable}
 use Rattle.served_walk.proofs.Chains.{table2_room}
 use Rattle.served_walk.proofs.Memory.{was_walked}
 use Rattle.served_walk.proofs.Parts.{was_fault, chain_refused, chain_hit, chain_twice, chain_below, chain_base}
@@ -120,6 +116,13 @@ text_of (Ok l) h = tt
 text_of (Err (FaultStop f)) h = h
 text_of (Err (Absent s l p w)) h = h
 text_of (Err Conflict) h = tt
+
+-- such a stop is no conflict
+pub conflict_of : {L : Type 0} (old new : List Item) (m : Met) (r : Result L Stop) → IfErr r HasLineStop → IfErr r (MayConflict old new m)
+conflict_of old new m (Ok l) h = tt
+conflict_of old new m (Err (FaultStop f)) h = tt
+conflict_of old new m (Err (Absent s l p w)) h = tt
+conflict_of old new m (Err Conflict) h = absurd h
 
 -- behind the base there is room
 pub behind_base : (regs : Regs) (x : ℕ) → is_refused2 (config_of regs) x ≡ false → (p : Bool) (old new : List Item) (i : Item) (from : From2)

@@ -1,5 +1,5 @@
 -- Items of a kept trail: where its words of stage 1 are.
-use Rattle.std.proofs.Common.{◌≡◌, ℕ, zero, suc, ◌+◌, ◌≤◌, ◌<◌, Bool, true, false, cond, List, [], ◌∷◌, ◌++◌, length, length-append, take, drop, refl, sym, ap, ◌∙◌, subst, arith, Option, Some, None}
+use Rattle.std.proofs.Common.{◌≡◌, ℕ, suc, ◌+◌, ◌≤◌, ◌<◌, Bool, true, false, cond, List, [], ◌∷◌, ◌++◌, length, length-append, take, drop, refl, sym, ap, ◌∙◌, arith, Option, Some, None}
 use Rattle.std.specs.Prelude.{slice_index_or}
 use Rattle.fault_codes.specs.declared.fault.Stage.{Stage}
 use Rattle.fault_codes.specs.declared.fault.Stage.TheVariants.{S1, S2}
@@ -7,7 +7,7 @@ use Rattle.trails.specs.declared.item.Item.{Item}
 use Rattle.trails.specs.Lengths.{most_items2}
 use Rattle.tlbi_ops.specs.Covers.{is_stage1}
 use Rattle.tagged_tlb.specs.Found.{first_hit}
-use Rattle.served_walk.specs.KeptWords.{AreOfStage2, EndsInStage1, BeginsWith, TookWord}
+use Rattle.served_walk.specs.KeptWords.{AreOfStage2, BeginsWith, TookWord}
 
 pub other_stage : (s : Stage) → s ≡ S1 → s ≡ S2 → ⊥
 other_stage S1 e f = absurd cc

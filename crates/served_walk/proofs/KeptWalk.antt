@@ -1,8 +1,7 @@
 -- A walk that stands on kept items which end in stage 1 takes them word by word.
-use Rattle.std.proofs.Common.{◌≡◌, ℕ, zero, suc, ◌+◌, ◌≤◌, Bool, true, false, cond, List, [], ◌∷◌, ◌++◌, length, refl, sym, ap, ◌∙◌, subst, arith, Ok, Err, Result}
+use Rattle.std.proofs.Common.{◌≡◌, ℕ, zero, suc, ◌≤◌, Bool, true, false, cond, List, [], ◌∷◌, ◌++◌, length, refl, ap, ◌∙◌, arith, Ok, Err, Result}
 use Rattle.geometry.specs.Tables.{most_left}
 use Rattle.sysregs.specs.declared.regs.Config.{Config}
-use Rattle.sysregs.specs.declared.regs.Side.{Side}
 use Rattle.sysregs.specs.Sides.{side_of}
 use Rattle.fault_codes.specs.declared.fault.Fault.{Fault}
 use Rattle.fault_codes.specs.declared.fault.Class.TheVariants.{Translation, AddressSize}
@@ -18,15 +17,15 @@ use Rattle.walk_spec.specs.declared.entry.Entry1.{Entry1}
 use Rattle.walk_spec.specs.declared.leaf.Leaf1.{Leaf1}
 use Rattle.walk_spec.specs.declared.leaf.Leaf2.{Leaf2}
 use Rattle.walk_spec.specs.Ask.{Ask, done, ask, after, finer, go_on}
-use Rattle.walk_spec.specs.Needs.{Regime, regime_of, Need, stage1_base, stage2_base, word, fits, is_base, level_eq, stage_eq}
+use Rattle.walk_spec.specs.Needs.{Regime, regime_of, Need, stage1_base, stage2_base, word, fits, is_base, stage_eq}
 use Rattle.walk_spec.specs.Steps.{End, stops, reaches, step_then}
 use Rattle.walk_spec.specs.Stage2.{Asked2, fault2, step2, walk2, walk2_from, walk2_behind, is_refused2}
-use Rattle.walk_spec.specs.Stage1.{Asked, asked2, read1, read1_by, is_readable, word_of}
+use Rattle.walk_spec.specs.Stage1.{asked2, read1, read1_by, is_readable, word_of}
 use Rattle.walk_spec.specs.BothStages.{Landing, asked, judged2, landed, stage2_behind}
 use Rattle.walk_laws.proofs.Places.{first_of_and, second_of_and}
 use Rattle.machine_laws.proofs.Trees.{IsOn}
 use Rattle.machine_laws.proofs.MarksOf.{fits_word_parts}
-use Rattle.served_walk.specs.KeptWords.{AreOfStage2, EndsInStage1, BeginsWith}
+use Rattle.served_walk.specs.KeptWords.{AreOfStage2, EndsInStage1}
 use Rattle.served_walk.proofs.Depth.{AtMost, walk2_most}
 use Rattle.served_walk.proofs.KeptItems.{other_stage}
 
@@ -41,7 +40,7 @@ abbrev Only2 : {A : Type 0} → Ask Need Item A → Type 0
 Only2 (done a) = Unit {0}
 Only2 (ask n k) = IsOf2 n × ((i : Item) → Only2 (k i))
 
-same_stage : (s t : Stage) → stage_eq s t ≡ true → s ≡ t
+pub same_stage : (s t : Stage) → stage_eq s t ≡ true → s ≡ t
 same_stage S1 S1 h = refl
 same_stage S1 S2 h = absurd cc
 same_stage S2 S1 h = absurd cc

@@ -28,7 +28,7 @@ use Rattle.served_walk.specs.declared.met.Service.{Service}
 use Rattle.served_walk.specs.declared.scene.Scene.{Scene}
 use Rattle.served_walk.specs.declared.row_words.RowWords.{RowWords}
 use Rattle.served_walk.specs.ServedWord.{Second, WasServed, ServedWord}
-use Rattle.served_walk.specs.Meets.{MayMeet, place_with, service_row, IsServiceOf, AreServices, most_services, second_in}
+use Rattle.served_walk.specs.Meets.{MayMeet, place_with, service_row, AreServices, most_services, second_in}
 use Rattle.served_walk.specs.Chained.{Holds, RowAt}
 use Rattle.served_walk.specs.RowGiven.{WordBy, RowGave, WalkBy, WalkGave, StageGave}
 use Rattle.served_walk.proofs.Depth.{AtMost, at_more, from1_most}

@@ -16,7 +16,7 @@ use Rattle.trails.specs.declared.outcome.Stop.TheVariants.{Fault as FaultStop, A
 use Rattle.trails.specs.Lengths.{most_items2, most_per_word}
 use Rattle.table_reads.specs.Items.{word_item}
 use Rattle.table_reads.specs.Memory.{Memory}
-use Rattle.phys_mem.specs.Memory.{loaded, is_aligned}
+use Rattle.phys_mem.specs.Memory.{loaded}
 use Rattle.phys_mem.specs.Words.{memory_of}
 use Rattle.walk_spec.specs.declared.entry.Entry1.{Entry1}
 use Rattle.walk_spec.specs.declared.leaf.Leaf2.{Leaf2}
@@ -29,15 +29,13 @@ use Rattle.stage1_walk.specs.Gave.{Gave, EndsInWord}
 use Rattle.translate.specs.Parts.{unreadable}
 use Rattle.tagged_tlb.specs.declared.row.Row.{Row}
 use Rattle.machine_spec.specs.Served.{Supplied, gives, halts, came, supply}
-use Rattle.served_walk.specs.declared.met.Met.{Met}
-use Rattle.served_walk.specs.declared.met.Service.{Service}
 use Rattle.served_walk.specs.declared.scene.Scene.{Scene}
 use Rattle.served_walk.specs.declared.row_words.RowWords.{RowWords}
 use Rattle.served_walk.specs.ServedWord.{WasServed, WordServed}
-use Rattle.served_walk.specs.Meets.{MayMeet, place_with, service_row, second_in}
+use Rattle.served_walk.specs.Meets.{place_with, service_row, second_in}
 use Rattle.served_walk.specs.Chained.{Holds, RowAt, ChainGave}
 use Rattle.served_walk.specs.KeptWords.{BeginsWith, TookWord}
-use Rattle.served_walk.specs.RowGiven.{HasReadWord, WordBy, RowGave}
+use Rattle.served_walk.specs.RowGiven.{HasReadWord, RowGave}
 use Rattle.served_walk.proofs.KeptItems.{same_word}
 use Rattle.served_walk.proofs.Parts.{flat_had, flat_none, deep_had, deep_none, deep_denied, deep_stop}
 

@@ -1,10 +1,12 @@
 -- What is said of code that walks a chain of stage 2 over rows.
-use Rattle.std.specs.Prelude.{◌≡◌, ℕ, ◌<◌, ◌≤◌, Bool, List, [], ◌++◌, length, map, Option, Some, None, Result}
+use Rattle.std.specs.Prelude.{◌≡◌, ℕ, ◌+◌, ◌<◌, ◌≤◌, Bool, List, [], ◌++◌, length, map, Option, Some, None, Result}
 use Rattle.sysregs.specs.declared.regs.Side.{Side}
 use Rattle.sysregs.specs.Registers.{config_of}
 use Rattle.trails.specs.declared.item.Item.{Item}
 use Rattle.trails.specs.declared.outcome.Access.{Access}
 use Rattle.trails.specs.declared.outcome.Stop.{Stop}
+use Rattle.trails.specs.declared.outcome.Stop.TheVariants.{Conflict}
+use Rattle.trails.specs.Lengths.{most_items, most_items2}
 use Rattle.walk_spec.specs.declared.leaf.Leaf2.{Leaf2}
 use Rattle.walk_spec.specs.Needs.{regime_of}
 use Rattle.walk_spec.specs.Stage2.{walk2}
@@ -69,3 +71,13 @@ abbrev pub GaveByTable : {F : Type 0} → (holds : Holds F) (at : RowAt F) (scen
     (old new : List Item) (answer : Option (Result Leaf2 Stop)) → Type 0
 GaveByTable holds at s p x before after old new None = (new ≡ old) × (after ≡ before) × NoTable holds s x
 GaveByTable holds at s p x before after old new (Some r) = NoLeaf holds s x → ChainGave holds at s p x before after old new r
+
+-- at a conflict of two chains, the first one was appended
+abbrev pub MayConflict : (old new : List Item) (met : Met) (stop : Stop) → Type 0
+MayConflict old new m Conflict = length new ≤ length old + m.instead
+MayConflict old new m stop = Unit {0}
+
+-- at a conflict of two chains, what the first trail has before them leaves room for a chain
+abbrev pub HasSecondRoom : (first : List Item) (met : Met) (stop : Stop) → Type 0
+HasSecondRoom first m Conflict = length first + most_items2 ≤ most_items + m.instead
+HasSecondRoom first m stop = Unit {0}

@@ -6,8 +6,9 @@ ghost use Rattle.trails.specs.Lengths.{most_items, most_items2};
 ghost use Rattle.trails.specs.Printed.{HasTextStop};
 ghost use Rattle.table_reads.specs.Numbers.{sizes2};
 ghost use Rattle.walk_spec.specs.Stage2.{is_refused2};
+ghost use Rattle.walk_spec.specs.Walked.{HasLineStop};
 ghost use Rattle.stage2_walk.specs.SoundSteps.{IsSoundLeaf};
-ghost use Rattle.served_walk.specs.Chained.{ChainGave, GaveByLeaf, GaveByTable, NoLeaf, NoTable};
+ghost use Rattle.served_walk.specs.Chained.{ChainGave, MayConflict, GaveByLeaf, GaveByTable, NoLeaf, NoTable};
 
 use crate::finds::Finds;
 use crate::met::{MOST_CHAIN, Met, Service, append, keep_second};
@@ -48,6 +49,7 @@ fn by_leaf<F: Finds>(
     ensures most { length trail.new ≤ length trail.old + most_items2 }
     ensures text { IfSome result (λ r. IfErr r HasTextStop) }
     ensures sound { IfSome result (λ r. IfOk r (IsSoundLeaf ipa)) }
+    ensures conflict { IfSome result (λ r. IfErr r (MayConflict trail.old trail.new met.new)) }
     ensures gave { (s1ptw : _) → GaveByLeaf F.holds F.row_at scene.now s1ptw ipa met.old met.new trail.old trail.new result }
 {
     let finds = scene.finds;
@@ -94,7 +96,7 @@ fn by_table<F: Finds>(
     requires accepted { IsFalse (is_refused2 (config_of scene.now.force.now) ipa) }
     requires room { length trail.old + most_items2 ≤ most_items }
     ensures most { length trail.new ≤ length trail.old + most_items2 }
-    ensures text { IfSome result (λ r. IfErr r HasTextStop) }
+    ensures line { IfSome result (λ r. IfErr r HasLineStop) }
     ensures sound { IfSome result (λ r. IfOk r (IsSoundLeaf ipa)) }
     ensures gave { GaveByTable F.holds F.row_at scene.now s1ptw ipa met.old met.new trail.old trail.new result }
 {
@@ -140,7 +142,7 @@ fn by_base<F: Finds>(
     requires level { level ≡ level_of (sizes2 (config_of scene.now.force.now)).start }
     requires room { length trail.old + most_items2 ≤ most_items }
     ensures most { length trail.new ≤ length trail.old + most_items2 }
-    ensures text { IfErr result HasTextStop }
+    ensures line { IfErr result HasLineStop }
     ensures sound { IfOk result (IsSoundLeaf ipa) }
     ensures gave { (met : _) → NoLeaf F.holds scene.now ipa → NoTable F.holds scene.now ipa →
         ChainGave F.holds F.row_at scene.now s1ptw ipa met met trail.old trail.new result }
@@ -182,6 +184,7 @@ pub(crate) fn chain<F: Finds>(
     ensures most { length trail.new ≤ length trail.old + most_items2 }
     ensures text { IfErr result HasTextStop }
     ensures sound { IfOk result (IsSoundLeaf ipa) }
+    ensures conflict { IfErr result (MayConflict trail.old trail.new met.new) }
     ensures gave { ChainGave F.holds F.row_at scene.now s1ptw ipa met.old met.new trail.old trail.new result }
 {
     let level = match begin2(scene.force.config(), ipa, s1ptw) {

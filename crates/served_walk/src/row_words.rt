@@ -46,7 +46,7 @@ fn first_of_stage1(items: &[Item]) -> Option<usize>
 }
 
 /// The item at a place.
-fn item_at(items: &[Item], at: usize) -> Item
+pub(crate) fn item_at(items: &[Item], at: usize) -> Item
     requires { at < length items.now }
     ensures { result ≡ slice_index_or items.now at result }
 {

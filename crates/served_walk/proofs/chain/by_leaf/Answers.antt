@@ -1,7 +1,7 @@
 use Rattle.std.proofs.Common.{arith, refl}
 use Rattle.sysregs.specs.declared.regs.Side.TheVariants.{Low}
 use Rattle.served_walk.proofs.ChainLeaf.{leaf_sound}
-use Rattle.served_walk.proofs.ChainRows.{none_found, one_unfit, two_unfit, leaf_gave, two_gave, short_by}
+use Rattle.served_walk.proofs.ChainRows.{none_found, one_unfit, two_unfit, leaf_gave, two_gave, short_by, appended}
 use Rattle.served_walk.proofs.chain.by_leaf.Goals as goal
 
 pub returns-then-not-are_short-clause-gave : goal.returns-then-not-are_short-clause-gave
@@ -39,6 +39,7 @@ returns-in_default g c = record {
   most = omega arith;
   text = tt;
   sound = tt;
+  conflict = tt;
   gave = λ p. (
     refl,
     refl,
@@ -56,3 +57,7 @@ returns-else-not-are_short-clause-gave g c = λ p.
     two_gave g.F.Finds.holds g.F.Finds.row_at c.args.scene.now c.args.ipa c.requires.accepted p c.in-Two.first c.in-Two.second _ _ _ _ _ _
     (rw c.sought.ensures at c.in-Two.ensures.best) c.trail-chain-in-Two.ensures c.trail-other.ensures c.append-in-Two.ensures
     c.keep_second.ensures.services c.keep_second.ensures.second c.keep_second.ensures.instead
+
+pub returns-else-not-are_short-clause-conflict : goal.returns-else-not-are_short-clause-conflict
+returns-else-not-are_short-clause-conflict g c =
+    omega (arith, appended c.args.trail.now _ _ c.append-in-Two.ensures, c.keep_second.ensures.instead)

@@ -3,7 +3,7 @@ use mir.Val.{SFits}
 use mir.Syntax.{w8}
 use Rattle.std.proofs.lemmas.Int.{to_z-of_z}
 use Rattle.geometry.specs.Tables.{left_below}
-use Rattle.served_walk.proofs.ChainRows.{no_table, table_unfit, table_gave, room_by, has_room_by, more_is, appended, text_of}
+use Rattle.served_walk.proofs.ChainRows.{no_table, table_unfit, table_gave, room_by, has_room_by, more_is, appended}
 use Rattle.served_walk.proofs.chain.by_table.Goals as goal
 
 pub returns-in-None-clause-gave : goal.returns-in-None-clause-gave
@@ -16,7 +16,7 @@ returns-in-None-clause-gave g c = (
 pub returns-in_default : goal.returns-in_default
 returns-in_default g c = record {
   most = omega arith;
-  text = tt;
+  line = tt;
   sound = tt;
   gave = (
     refl,
@@ -50,9 +50,6 @@ returns-clause-most g c =
     (rw (c.left_below.ensures, to_z-of_z _ _ (let fits : SFits w8 c.in-More.from.level = search rules in fits)) at c.has_room.ensures) c.if-not-has_room.false in
     let n = appended c.args.trail.now c.trail-chain.result.now c.append.new.trail c.append.ensures in
     omega (arith, r, n, c.walk2_from.ensures.most)
-
-pub returns-clause-text : goal.returns-clause-text
-returns-clause-text g c = text_of _ c.walk2_from.ensures.line
 
 pub returns-clause-gave : goal.returns-clause-gave
 returns-clause-gave g c =

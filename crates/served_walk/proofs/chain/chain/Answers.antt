@@ -1,5 +1,5 @@
 use Rattle.std.proofs.Common.{arith, length, ap}
-use Rattle.served_walk.proofs.ChainRows.{refused_gave}
+use Rattle.served_walk.proofs.ChainRows.{refused_gave, text_of, conflict_of}
 use Rattle.served_walk.proofs.chain.chain.Goals as goal
 
 pub returns-in-Err-clause-gave : goal.returns-in-Err-clause-gave
@@ -31,3 +31,15 @@ returns-clause-gave g c =
     let d = c.in-None.ensures.gave c.args.s1ptw in
     let t = c.in-None-by_table.ensures.gave in
     rw (t.1, d.1) (rw (t.0, d.0) at (c.by_base.ensures.gave c.args.met.now d.2 t.2))
+
+pub returns-in-Some-by_table-clause-text : goal.returns-in-Some-by_table-clause-text
+returns-in-Some-by_table-clause-text g c = text_of _ c.in-Some-by_table.ensures.line
+
+pub returns-in-Some-by_table-clause-conflict : goal.returns-in-Some-by_table-clause-conflict
+returns-in-Some-by_table-clause-conflict g c = conflict_of c.args.trail.now c.by_table.new.trail c.by_table.new.met c.in-Some-by_table.result c.in-Some-by_table.ensures.line
+
+pub returns-clause-text : goal.returns-clause-text
+returns-clause-text g c = text_of _ c.by_base.ensures.line
+
+pub returns-clause-conflict : goal.returns-clause-conflict
+returns-clause-conflict g c = conflict_of c.args.trail.now c.by_base.new.trail c.by_table.new.met c.by_base.result c.by_base.ensures.line

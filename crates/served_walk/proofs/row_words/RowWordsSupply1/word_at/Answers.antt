@@ -1,4 +1,4 @@
-use Rattle.std.proofs.Common.{refl, arith}
+use Rattle.std.proofs.Common.{refl}
 use Rattle.std.proofs.lemmas.Int.{to_z-of_z}
 use Rattle.served_walk.proofs.RowWord.{flat_gave, stop_gave, denied_gave, read_gave, denied_text, kept_gave}
 use Rattle.served_walk.proofs.row_words.RowWordsSupply1.word_at.Goals as goal
