@@ -398,7 +398,7 @@ module _ {F : Type 0} (may : Holds F) (at : RowAt F) (scene : Scene F) (x : ℕ)
         (sym d.1) (was_fault (supply (place live) a) (fault2 (asked2 (regime_of c s) p x) AddressSize most_left) (second_in met))))
 
     pub root_gave : (p : Bool) (met : Met) (old mid new : List Item) (from : From2) (r : Result Leaf2 Stop) → mid ≡ old ++ base_now ∷ []
-        → Ok from ≡ root2_of regs p 
+        → Ok from ≡ root2_of regs p
         → WalkedFrom (Some (memory_of scene.phys.now)) (Rose 0 0) (record { config = c; ipa = x; s1ptw = p; moment = scene.moment; from = from }) mid new r
         → NoLeaf may scene x → NoTable may scene x → ChainGave may at scene p x met met old new r
     root_gave p met old mid new from r g e w =
@@ -440,7 +440,7 @@ module _ {F : Type 0} (may : Holds F) (at : RowAt F) (scene : Scene F) (x : ℕ)
         served = λ room live m r.
             record {
               live = tt;
-                was = λ a s.
+              was = λ a s.
                   subst (λ z. WasServed (supply (place_with scene live) a) (walk2 (asked2 (regime_of c s) p x)) [] [] (second_in met) (Err (FaultStop z))) (sym d.1)
                   (chain_refused c s p x (supply (place_with scene live) a) (second_in met) d.0);
             };

@@ -75,9 +75,11 @@ two_from q (suc left) t = (refl, λ i. two_step (walk2_from q left) (step2 q (su
 
 two_walk2 : (q : Asked2) → Only2 (walk2 q)
 two_walk2 q =
-    two_if (is_refused2 q.config q.ipa) (done (stops (fault2 q Translation most_left))) (ask (stage2_base q.ipa) (λ i. walk2_behind q i.value)) tt
-    (tt, λ i. two_if (is_too_large q.sizes i.value) (done (stops (fault2 q AddressSize most_left))) (walk2_from q q.sizes.start i.value) tt
-    (two_from q q.sizes.start i.value))
+    two_if (is_refused2 q.config q.ipa) (done (stops (fault2 q Translation most_left))) (ask (stage2_base q.ipa) (λ i. walk2_behind q i.value)) tt (
+      tt,
+      λ i. two_if (is_too_large q.sizes i.value) (done (stops (fault2 q AddressSize most_left))) (walk2_from q q.sizes.start i.value) tt
+          (two_from q q.sizes.start i.value),
+    )
 
 pub two_output : (c : Config) (a : Access) (e : End Leaf1) → Only2 (stage2_behind (asked c true a) e)
 two_output c a (stops f) = tt

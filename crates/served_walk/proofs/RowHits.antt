@@ -189,9 +189,11 @@ module _ {F : Type 0} (may : Holds F) (at : RowAt F) (z : Scene F) (a : Access) 
       let y = at z.finds.now OfLeaf1 u.slot d in
       let o = two_two w y (leaves live) (f d live m.held m.servable.told m.small) in
       let h = case_twice (place_with z live) a on ok w y o.0 o.1 in
-      subst (λ l. AreServices (row may at z a d) live l × Shows (served (place_with z live) a) one (Some two) (rows may at z a d l) IsTwice) (sym n)
-      (tt, subst (λ l. Shows (served (place_with z live) a) l (Some two) [] IsTwice) (sym (t d))
-      (subst (λ l. Shows (served (place_with z live) a) w.trail (Some l) [] IsTwice) (sym (v d)) h)))
+      subst (λ l. AreServices (row may at z a d) live l × Shows (served (place_with z live) a) one (Some two) (rows may at z a d l) IsTwice) (sym n) (
+        tt,
+        subst (λ l. Shows (served (place_with z live) a) l (Some two) [] IsTwice) (sym (t d))
+            (subst (λ l. Shows (served (place_with z live) a) w.trail (Some l) [] IsTwice) (sym (v d)) h),
+      ))
 
   -- of two, by what was written
   pub two_by : (s u : Seen) (one two : List Item) (met : Met) (first : List Item) (second : Option (List Item)) (r : Option Outcome) → FindsIn (Two s u)
@@ -251,11 +253,12 @@ module _ {F : Type 0} (may : Holds F) (at : RowAt F) (z : Scene F) (a : Access) 
         let h = case_ended (place_with z live) a on ok w len o (none live m) some (subst (λ u. EndsOn c a u len o) (t d) e) in
         let g' : take len w.trail ≡ first = ap (take len) (sym (t d)) ∙ sym g in
         subst (λ l. AreServices (row may at z a d) live l
-        × Shows (served (place_with z live) a) first (second_of (answered e.0) first (second_in met)) (rows may at z a d l) (comes_out (answered e.0))) (sym n)
-        ((service_of live m OfTable1 s d v.0 v.1 made, tt),
-        subst (λ u. Shows (served (place_with z live) a) first u (w ∷ []) (comes_out (answered e.0))) (second_none e.0 first met)
-        (subst (λ u. Shows (served (place_with z live) a) first None (w ∷ []) u) (e.6 ∙ comes_answered e.0)
-        (subst (λ l. Shows (served (place_with z live) a) l None (w ∷ []) o) g' h)));
+        × Shows (served (place_with z live) a) first (second_of (answered e.0) first (second_in met)) (rows may at z a d l) (comes_out (answered e.0))) (sym n) (
+          (service_of live m OfTable1 s d v.0 v.1 made, tt),
+          subst (λ u. Shows (served (place_with z live) a) first u (w ∷ []) (comes_out (answered e.0))) (second_none e.0 first met)
+              (subst (λ u. Shows (served (place_with z live) a) first None (w ∷ []) u) (e.6 ∙ comes_answered e.0)
+              (subst (λ l. Shows (served (place_with z live) a) l None (w ∷ []) o) g' h)),
+        );
   }
 
   pub table1_more : (s : Seen) (items : List Item) (before met : Met) (o : Outcome) (first : List Item) → DeepestIn (Some s) → MadeAs OfTable1 s
@@ -281,7 +284,8 @@ module _ {F : Type 0} (may : Holds F) (at : RowAt F) (z : Scene F) (a : Access) 
             (subst (λ u. IsOn (regime_of c (side_of a.va)) (walk c true a) u p.below) (t d) p.on) j.was in
             let g' : w.trail ++ g.items ≡ first = ap (λ u. u ++ g.items) (sym (t d)) ∙ sym g.grown in
             subst (λ l. AreServices (row may at z a d) live l
-            × Shows (served (place_with z live) a) first (second_of y.result first (second_in met)) (rows may at z a d l) (comes_out y.result)) (sym all)
-            ((service_of live m OfTable1 s d i.0 i.1 made, j.live),
-            subst (λ u. Shows (served (place_with z live) a) u (second_of y.result u (second_in met)) (w ∷ rows may at z a d g.services) (comes_out y.result)) g' h);
+            × Shows (served (place_with z live) a) first (second_of y.result first (second_in met)) (rows may at z a d l) (comes_out y.result)) (sym all) (
+              (service_of live m OfTable1 s d i.0 i.1 made, j.live),
+              subst (λ u. Shows (served (place_with z live) a) u (second_of y.result u (second_in met)) (w ∷ rows may at z a d g.services) (comes_out y.result)) g' h,
+            );
       }

@@ -108,10 +108,12 @@ module _ {F : Type 0} (may : Holds F) (at : RowAt F) (z : Scene F) (a : Access) 
   pub told : (met : Met) (first : List Item) (o : Outcome) (second : Option (List Item)) → AccessGave may at z a met first o → IsSecond met first o second
       → IsServed may at z a met first second o
   told met first o second g h = λ live m d.
-      (let w = g.served live m d in
-      (w.0, subst (λ u. Shows (served (place_with z live) a) first second (rows may at z a d met.services.items) u) (sym g.outcome)
-      (subst (λ u. Shows (served (place_with z live) a) first u (rows may at z a d met.services.items) (comes_out g.result))
-      (sym (second_is met first o second g.result g.outcome g.room h)) w.1)))
+      (let w = g.served live m d in (
+        w.0,
+        subst (λ u. Shows (served (place_with z live) a) first second (rows may at z a d met.services.items) u) (sym g.outcome)
+            (subst (λ u. Shows (served (place_with z live) a) first u (rows may at z a d met.services.items) (comes_out g.result))
+            (sym (second_is met first o second g.result g.outcome g.room h)) w.1),
+      ))
 
   -- a walk without rows of stage 1
   plain : (n : ℕ) (before met : Met) (first : List Item) (o : Outcome) → before.services.items ≡ [] → n ≤ most_services
@@ -130,9 +132,11 @@ module _ {F : Type 0} (may : Holds F) (at : RowAt F) (z : Scene F) (a : Access) 
             let w = g.served (omega (arith, none, most)) live m d in
             let v = none_shows (place_with z live) a g.items (rows may at z a d g.services) (second_in met) h.result (s live m) w.was in
             subst (λ l. AreServices (row may at z a d) live l
-            × Shows (served (place_with z live) a) first (second_of h.result first (second_in met)) (rows may at z a d l) (comes_out h.result)) (sym all)
-            (w.live, subst (λ u. Shows (served (place_with z live) a) u (second_of h.result u (second_in met)) (rows may at z a d g.services) (comes_out h.result))
-            (sym g.grown) v);
+            × Shows (served (place_with z live) a) first (second_of h.result first (second_in met)) (rows may at z a d l) (comes_out h.result)) (sym all) (
+              w.live,
+              subst (λ u. Shows (served (place_with z live) a) u (second_of h.result u (second_in met)) (rows may at z a d g.services) (comes_out h.result))
+                  (sym g.grown) v,
+            );
       }
 
   -- from the base

@@ -96,5 +96,5 @@ abbrev pub StageGave : {F : Type 0} → (holds : Holds F) (at : RowAt F) (scene 
 StageGave holds at s a left t kept before after old new r =
     (v : Ask Need Item (End Landing)) → EndsInStage1 kept
     → IsOn (regime_of (config_of s.force.now) (side_of a.va))
-        (after_walk (stage1_from (asked (config_of s.force.now) true a) left t) (stage2_behind (asked (config_of s.force.now) true a))) kept v
+    (after_walk (stage1_from (asked (config_of s.force.now) true a) left t) (stage2_behind (asked (config_of s.force.now) true a))) kept v
     → KeptGave holds at s a left t kept before after old new r

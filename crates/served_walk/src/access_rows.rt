@@ -15,7 +15,6 @@ ghost use Rattle.translate.specs.Replayed.{NeedsMore};
 ghost use Rattle.translate.specs.Deep.{outcome_by};
 ghost use Rattle.served_walk.specs.Accessed.{WholeGave, BelowIfOn, RowLeft, most_from_base, GaveByLeaf1, GaveByTable1, NoLeaf1, NoTable1, AccessGave, IsServed, IsSecond, ConflictOf};
 
-
 use crate::chain::chain;
 use crate::finds::Finds;
 use crate::met::{MOST_CHAIN, Met, Service, append};
@@ -280,7 +279,10 @@ fn by_leaf1<F: Finds>(
                 }
             }
         }
-        Found::Two { first: a, second: b } => both_leaves(
+        Found::Two {
+            first: a,
+            second: b,
+        } => both_leaves(
             finds.trail(Kind::Leaf1, a.slot),
             finds.trail(Kind::Leaf1, b.slot),
             first,

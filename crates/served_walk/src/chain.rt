@@ -160,15 +160,7 @@ fn by_base<F: Finds>(
         Err(fault) => return Err(Stop::Fault { fault }),
     };
     let mut words = Words { phys: scene.phys };
-    walk2_from::<Words>(
-        force,
-        &from,
-        ipa,
-        s1ptw,
-        scene.moment,
-        &mut words,
-        trail,
-    )
+    walk2_from::<Words>(force, &from, ipa, s1ptw, scene.moment, &mut words, trail)
 }
 
 /// Stage 2 for an IPA in bytes over rows. `s1ptw` marks the place of a stage 1 descriptor. The items are appended, and the row

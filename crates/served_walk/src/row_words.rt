@@ -72,12 +72,7 @@ fn take_word<'a>(kept: &'a [Item], trail: &mut Trail) -> (Option<u64>, &'a [Item
 }
 
 /// Reads the word of a level of stage 1 at a physical place in bytes and appends its item.
-fn read_word<F>(
-    scene: &Scene<F>,
-    level: i8,
-    place: u64,
-    trail: &mut Trail,
-) -> Result<u64, Stop>
+fn read_word<F>(scene: &Scene<F>, level: i8, place: u64, trail: &mut Trail) -> Result<u64, Stop>
     requires room { length trail.old < most_items }
     ensures { HasReadWord (memory_of scene.now.phys.now) scene.now.moment level place trail.old trail.new result }
 {

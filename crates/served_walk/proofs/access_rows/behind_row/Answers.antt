@@ -23,9 +23,9 @@ both_below-requires-clause-room g c =
 pub returns : goal.returns
 returns g c = record {
   gave = row_left g.F.Finds.holds g.F.Finds.row_at c.args.words.now.scene.now c.args.access.now c.requires.on c.requires.accepted c.args.items.now c.requires.more _ _ _ c.start_table-from.result _
-    (row_from g.F.Finds.holds g.F.Finds.row_at c.args.words.now.scene.now c.args.access.now c.requires.on c.requires.accepted c.args.items.now c.requires.more c.start_table-from.result c.item_at.result c.args.level
-    (rw (to_z-of_z _ _ c.ranges.level) at c.start_table-from.ensures)
-    (row_first g.F.Finds.holds g.F.Finds.row_at c.args.words.now.scene.now c.args.access.now c.requires.on c.requires.accepted c.args.items.now c.requires.more _ c.item_at.result c.split_at.ensures.front c.item_at.ensures) c.requires.level)
-    (rw ((row_rest g.F.Finds.holds g.F.Finds.row_at c.args.words.now.scene.now c.args.access.now c.requires.on c.requires.accepted c.args.items.now c.requires.more _ c.split_at.ensures.back), (row_cut g.F.Finds.holds g.F.Finds.row_at c.args.words.now.scene.now c.args.access.now c.requires.on c.requires.accepted c.args.items.now c.requires.more _ _ c.requires.whole c.cut.ensures))
-    at c.both_below.ensures.gave);
+      (row_from g.F.Finds.holds g.F.Finds.row_at c.args.words.now.scene.now c.args.access.now c.requires.on c.requires.accepted c.args.items.now c.requires.more c.start_table-from.result c.item_at.result c.args.level
+      (rw (to_z-of_z _ _ c.ranges.level) at c.start_table-from.ensures)
+      (row_first g.F.Finds.holds g.F.Finds.row_at c.args.words.now.scene.now c.args.access.now c.requires.on c.requires.accepted c.args.items.now c.requires.more _ c.item_at.result c.split_at.ensures.front c.item_at.ensures) c.requires.level)
+      (rw ((row_rest g.F.Finds.holds g.F.Finds.row_at c.args.words.now.scene.now c.args.access.now c.requires.on c.requires.accepted c.args.items.now c.requires.more _ c.split_at.ensures.back), (row_cut g.F.Finds.holds g.F.Finds.row_at c.args.words.now.scene.now c.args.access.now c.requires.on c.requires.accepted c.args.items.now c.requires.more _ _ c.requires.whole c.cut.ensures))
+      at c.both_below.ensures.gave);
 }

@@ -1,5 +1,4 @@
 use Rattle.std.proofs.Common.{arith}
-
 use Rattle.stage2_walk.proofs.Accepted.{accepted_sizes}
 use Rattle.served_walk.proofs.ChainRows.{large_gave, root_gave, behind_base}
 use Rattle.served_walk.proofs.chain.by_base.Goals as goal
