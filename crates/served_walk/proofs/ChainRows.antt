@@ -170,7 +170,8 @@ module _ {F : Type 0} (may : Holds F) (at : RowAt F) (scene : Scene F) (x : ℕ)
   MadeAs kind s = (d : Row) → (at scene.finds.now kind s.slot d).made ≡ s.made
 
   -- what a live row of stage 2 is good for
-  serves : (live : List Row) → Meets live → (kind : Kind) (r : Row) → In r live → matches kind k x r ≡ true → (r.kind ≡ kind) × ServesAs r kind × (holds r.region x ≡ true)
+  serves : (live : List Row) → Meets live → (kind : Kind) (r : Row) → In r live → matches kind k x r ≡ true → (r.kind ≡ kind) × ServesAs r kind ×
+      (holds r.region x ≡ true)
       × (r.key.config ≡ c)
   serves live m kind r i t =
       let d = matched kind k x r t in
@@ -324,7 +325,8 @@ module _ {F : Type 0} (may : Holds F) (at : RowAt F) (scene : Scene F) (x : ℕ)
         let d = table_serves live m q v.0 v.1 Low in
         let st : stands2 c Low false x items ≡ needs (word d.0.0) = ap (stands2 c Low false x) (t r) ∙ d.0.1 in
         let w = table2_answer d.0.0 (stands2 c Low false x items) st answer (h Low) in
-        absurd (not w.0 w.1 (table2_room c Low false x (λ n. halts (clash [] [])) items w.0 (subst (λ z. IsReplayed2 z (stands2 c Low false x items)) w.1 (h Low))))))
+        absurd (not w.0 w.1 (table2_room c Low false x (λ n. halts (clash [] [])) items w.0 (subst (λ z. IsReplayed2 z (stands2 c Low false x items))
+        w.1 (h Low))))))
 
     pub table_gave : (p : Bool) (a : Seen) (items : List Item) (from : From2) (before after : Met) (old mid new : List Item) (r : Result Leaf2 Stop)
         → DeepestIn OfTable2 (Some a) → MadeAs OfTable2 a → TrailOf OfTable2 a items
@@ -373,7 +375,8 @@ module _ {F : Type 0} (may : Holds F) (at : RowAt F) (scene : Scene F) (x : ℕ)
       served = λ room live m d.
           record {
             live = tt;
-            was = λ a s. chain_base c s p x (supply (place live) a) base_now more [] (second_in met) r ok (supply_is live a [] None (none live m) (bare live m)) (w live a s);
+            was = λ a s. chain_base c s p x (supply (place live) a) base_now more [] (second_in met) r ok
+                (supply_is live a [] None (none live m) (bare live m)) (w live a s);
           };
     }
 
@@ -394,7 +397,8 @@ module _ {F : Type 0} (may : Holds F) (at : RowAt F) (scene : Scene F) (x : ℕ)
         base_gave p met [] old new (Err (FaultStop f)) g
         (λ live a s. subst (λ t. WasServed (supply (place live) a) t [] [] (second_in met) (Err (FaultStop f)))
         (sym (large_is (is_too_large (sizes2 c) (start_base2 regs)) (asked2 (regime_of c s) p x) _ d.0))
-        (subst (λ z. WasServed {L = Leaf2} (supply (place live) a) (done (stops (fault2 (asked2 (regime_of c s) p x) AddressSize most_left))) [] [] (second_in met) (Err (FaultStop z)))
+        (subst (λ z. WasServed {L = Leaf2} (supply (place live) a) (done (stops (fault2 (asked2 (regime_of c s) p x) AddressSize most_left))) [] []
+        (second_in met) (Err (FaultStop z)))
         (sym d.1) (was_fault (supply (place live) a) (fault2 (asked2 (regime_of c s) p x) AddressSize most_left) (second_in met))))
 
     pub root_gave : (p : Bool) (met : Met) (old mid new : List Item) (from : From2) (r : Result Leaf2 Stop) → mid ≡ old ++ base_now ∷ []
@@ -441,7 +445,8 @@ module _ {F : Type 0} (may : Holds F) (at : RowAt F) (scene : Scene F) (x : ℕ)
             record {
               live = tt;
               was = λ a s.
-                  subst (λ z. WasServed (supply (place_with scene live) a) (walk2 (asked2 (regime_of c s) p x)) [] [] (second_in met) (Err (FaultStop z))) (sym d.1)
+                  subst (λ z. WasServed (supply (place_with scene live) a) (walk2 (asked2 (regime_of c s) p x)) [] [] (second_in met)
+                  (Err (FaultStop z))) (sym d.1)
                   (chain_refused c s p x (supply (place_with scene live) a) (second_in met) d.0);
             };
       }

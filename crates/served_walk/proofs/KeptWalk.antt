@@ -85,11 +85,13 @@ pub two_output : (c : Config) (a : Access) (e : End Leaf1) → Only2 (stage2_beh
 two_output c a (stops f) = tt
 two_output c a (reaches l) =
     two_if c.vm (after (walk2 (asked2 (regime_of c (side_of a.va)) false l.out)) (λ e. done (judged2 true a l e))) (done (reaches (landed l)))
-    (two_after (walk2 (asked2 (regime_of c (side_of a.va)) false l.out)) (λ e. done (judged2 true a l e)) (two_walk2 (asked2 (regime_of c (side_of a.va)) false l.out)) (λ e. tt))
+    (two_after (walk2 (asked2 (regime_of c (side_of a.va)) false l.out)) (λ e. done (judged2 true a l e))
+    (two_walk2 (asked2 (regime_of c (side_of a.va)) false l.out)) (λ e. tt))
     tt
 
 -- what such a walk takes does not end in stage 1
-pub two_ends : {A : Type 0} (r : Regime) (t v : Ask Need Item A) (i : Item) (items : List Item) → Only2 t → IsOn r t (i ∷ items) v → EndsInStage1 (i ∷ items) → ⊥
+pub two_ends : {A : Type 0} (r : Regime) (t v : Ask Need Item A) (i : Item) (items : List Item) → Only2 t → IsOn r t (i ∷ items) v → EndsInStage1
+    (i ∷ items) → ⊥
 two_ends r (done a) v i items o h e = h
 two_ends r (ask n k) v i [] o h e = other_stage i.stage e (fit_stage r n i o.0 h.0)
 two_ends r (ask n k) v i (j ∷ items) o h e = two_ends r (k i) v j items (o.1 i) h.1 e

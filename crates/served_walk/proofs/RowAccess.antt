@@ -160,7 +160,8 @@ module _ {F : Type 0} (may : Holds F) (at : RowAt F) (z : Scene F) (a : Access) 
         let g = k.gave in
         let y = h.gave in
         let n : length (g.services ++ y.services) ≡ length g.services + length y.services = length-append g.services y.services in
-        let j : length mid.services.items ≡ length before.services.items + length g.services = ap length g.noted ∙ length-append before.services.items g.services in
+        let j : length mid.services.items ≡ length before.services.items + length g.services = ap length g.noted ∙ length-append before.services.items
+        g.services in
         let gf = g.few in
         let yf = y.few in
         record {

@@ -149,7 +149,8 @@ module _ {F : Type 0} (may : Holds F) (at : RowAt F) (z : Scene F) (a : Access) 
               let w = g.served room live m d in
               record {
                 live = w.live;
-                was = was_behind (sup may at z a live) (walk c true a) (Behind base) (base_now ∷ []) g.items [] (rows may at z a d g.services) (second_in met) h.result
+                was = was_behind (sup may at z a live) (walk c true a) (Behind base) (base_now ∷ []) g.items [] (rows may at z a d g.services)
+                    (second_in met) h.result
                     (ap (serve_at (sup may at z a live) []) walk_is)
                     (subst (λ u. WasServed (sup may at z a live) u g.items (rows may at z a d g.services) (second_in met) h.result) (sym e) w.was);
               };
@@ -175,7 +176,8 @@ module _ {F : Type 0} (may : Holds F) (at : RowAt F) (z : Scene F) (a : Access) 
           served = λ room live m k.
               record {
                 live = tt;
-                was = subst (λ u. WasServed {L = Landing} (sup may at z a live) (done (stops (fault1 AddressSize most_left))) [] [] (second_in met) (Err (FaultStop u)))
+                was = subst (λ u. WasServed {L = Landing} (sup may at z a live) (done (stops (fault1 AddressSize most_left))) [] [] (second_in met)
+                    (Err (FaultStop u)))
                     (sym d.1) (was_fault (sup may at z a live) (fault1 AddressSize most_left) (second_in met));
               };
         };
@@ -291,7 +293,8 @@ module _ {F : Type 0} (may : Holds F) (at : RowAt F) (z : Scene F) (a : Access) 
   pub row_cut : (items : List Item) (h : NeedsMore c a items) (old new : List Item) → old ≡ items → new ≡ take 1 old → new ≡ (row_parts items h).first ∷ []
   row_cut items h old new e f = f ∙ ap (take 1) e ∙ ap (take 1) (row_parts items h).is
 
-  pub row_from : (items : List Item) (h : NeedsMore c a items) (from : From1) (i : Item) (level : ℤ) → from ≡ record { base = i.value; level = level; tables = no_bits }
+  pub row_from : (items : List Item) (h : NeedsMore c a items) (from : From1) (i : Item) (level : ℤ) → from ≡ record
+      { base = i.value; level = level; tables = no_bits }
       → i ≡ (row_parts items h).first → level ≡ level_of start
       → from ≡ record { base = (row_parts items h).first.value; level = level_of start; tables = no_bits }
   row_from items h from i level e f l = e ∙ ap (λ u. record { base = u.value; level = level; tables = no_bits }) f

@@ -253,7 +253,8 @@ module _ {F : Type 0} (may : Holds F) (at : RowAt F) (z : Scene F) (a : Access) 
         let h = case_ended (place_with z live) a on ok w len o (none live m) some (subst (λ u. EndsOn c a u len o) (t d) e) in
         let g' : take len w.trail ≡ first = ap (take len) (sym (t d)) ∙ sym g in
         subst (λ l. AreServices (row may at z a d) live l
-        × Shows (served (place_with z live) a) first (second_of (answered e.0) first (second_in met)) (rows may at z a d l) (comes_out (answered e.0))) (sym n) (
+        × Shows (served (place_with z live) a) first (second_of (answered e.0) first (second_in met)) (rows may at z a d l) (comes_out (answered e.0)))
+        (sym n) (
           (service_of live m OfTable1 s d v.0 v.1 made, tt),
           subst (λ u. Shows (served (place_with z live) a) first u (w ∷ []) (comes_out (answered e.0))) (second_none e.0 first met)
               (subst (λ u. Shows (served (place_with z live) a) first None (w ∷ []) u) (e.6 ∙ comes_answered e.0)
@@ -286,6 +287,7 @@ module _ {F : Type 0} (may : Holds F) (at : RowAt F) (z : Scene F) (a : Access) 
             subst (λ l. AreServices (row may at z a d) live l
             × Shows (served (place_with z live) a) first (second_of y.result first (second_in met)) (rows may at z a d l) (comes_out y.result)) (sym all) (
               (service_of live m OfTable1 s d i.0 i.1 made, j.live),
-              subst (λ u. Shows (served (place_with z live) a) u (second_of y.result u (second_in met)) (w ∷ rows may at z a d g.services) (comes_out y.result)) g' h,
+              subst (λ u. Shows (served (place_with z live) a) u (second_of y.result u (second_in met)) (w ∷ rows may at z a d g.services)
+                  (comes_out y.result)) g' h,
             );
       }

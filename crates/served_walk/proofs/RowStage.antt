@@ -99,7 +99,8 @@ module _ {F : Type 0} (may : Holds F) (at : RowAt F) (z : Scene F) where
     pub services : List Service
     pub noted : s'.met.services.items ≡ s.met.services.items ++ services
     pub few : length services ≤ n
-    pub served : s.kept.now ≡ [] → length s.met.services.items + n ≤ most_services → (live : List Row) → MayMeet (may z.finds.now) z.moment live → (d : Row) (a : Access)
+    pub served : s.kept.now ≡ [] → length s.met.services.items + n ≤ most_services → (live : List Row) → MayMeet (may z.finds.now) z.moment live →
+        (d : Row) (a : Access)
         → AreServices (at_row d) live services × Ran (λ i. i.value) (by_entry (Word live d a)) t s items r s'
 
   pub notes : (n : ℕ) (t : Ask Entry1 Item (End Leaf1)) → AtMost n t → (s : RowWords F) (items : List Item) (r : Result (End Leaf1) Stop) (s' : RowWords F)

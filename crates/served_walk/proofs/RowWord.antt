@@ -174,7 +174,8 @@ module _ {F : Type 0} (may : Holds F) (at : RowAt F) (s : RowWords F) (level : �
               record {
                 live = v.live;
                 had = λ a side e q p. deep_stop (regime_of c side) e (sup live a) on g.items (map (service_row (λ k u. at z.finds.now k u d)) g.services)
-                    (second_in t.met) o (subst (λ y. Chained (sup live a) side y g.items (map (service_row (λ k u. at z.finds.now k u d)) g.services) (Err o)) (sym p) (v.was a side));
+                    (second_in t.met) o (subst (λ y. Chained (sup live a) side y g.items (map (service_row (λ k u. at z.finds.now k u d)) g.services)
+                    (Err o)) (sym p) (v.was a side));
               };
         })
         tt

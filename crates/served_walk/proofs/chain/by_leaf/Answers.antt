@@ -31,7 +31,8 @@ returns-then-chain-gt-MOST_CHAIN-clause-gave g c = λ p. (
   refl,
   refl,
   one_unfit g.F.Finds.holds g.F.Finds.row_at c.args.scene.now c.args.ipa c.requires.accepted c.in-One.only _ _
-      (rw c.sought.ensures at c.in-One.ensures.best) c.trail-chain.ensures (rw c.config.ensures.same at c.replay2.ensures.replayed) (λ l e n. omega (arith, c.if-chain-gt-MOST_CHAIN.true, n)),
+      (rw c.sought.ensures at c.in-One.ensures.best) c.trail-chain.ensures (rw c.config.ensures.same at c.replay2.ensures.replayed)
+      (λ l e n. omega (arith, c.if-chain-gt-MOST_CHAIN.true, n)),
 )
 
 pub returns-in_default : goal.returns-in_default
@@ -44,7 +45,8 @@ returns-in_default g c = record {
     refl,
     refl,
     one_unfit g.F.Finds.holds g.F.Finds.row_at c.args.scene.now c.args.ipa c.requires.accepted c.in-One.only _ _
-        (rw c.sought.ensures at c.in-One.ensures.best) c.trail-chain.ensures (rw c.config.ensures.same at c.replay2.ensures.replayed) (λ l e n. c.in_default.not-Ended l e),
+        (rw c.sought.ensures at c.in-One.ensures.best) c.trail-chain.ensures (rw c.config.ensures.same at c.replay2.ensures.replayed)
+        (λ l e n. c.in_default.not-Ended l e),
   );
 }
 

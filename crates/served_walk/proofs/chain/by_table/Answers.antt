@@ -33,21 +33,24 @@ returns-then-not-has_room-clause-gave g c = (
   refl,
   table_unfit g.F.Finds.holds g.F.Finds.row_at c.args.scene.now c.args.ipa c.requires.accepted c.in-Some.seen _ _
       (rw c.sought.ensures at c.in-Some.ensures.least) c.trail-chain.ensures (rw c.config.ensures.same at c.in-More.ensures.replayed)
-      (λ from e n. room_by _ _ _ (rw (c.left_below.ensures, to_z-of_z _ _ (let fits : SFits w8 c.in-More.from.level = search rules in fits)) at c.has_room.ensures) c.if-not-has_room.true
+      (λ from e n. room_by _ _ _ (rw (c.left_below.ensures, to_z-of_z _ _ (let fits : SFits w8 c.in-More.from.level = search rules in fits)) at
+      c.has_room.ensures) c.if-not-has_room.true
       (rw (← more_is c.in-More.from from e) at n)),
 )
 
 pub walk2_from-requires-clause-room : goal.walk2_from-requires-clause-room
 walk2_from-requires-clause-room g c =
     let r = has_room_by (length c.trail-chain.result.now) (left_below c.in-More.from.level) c.has_room.result
-    (rw (c.left_below.ensures, to_z-of_z _ _ (let fits : SFits w8 c.in-More.from.level = search rules in fits)) at c.has_room.ensures) c.if-not-has_room.false in
+    (rw (c.left_below.ensures, to_z-of_z _ _ (let fits : SFits w8 c.in-More.from.level = search rules in fits)) at c.has_room.ensures)
+    c.if-not-has_room.false in
     let n = appended c.args.trail.now c.trail-chain.result.now c.append.new.trail c.append.ensures in
     omega (arith, r, n, c.requires.room)
 
 pub returns-clause-most : goal.returns-clause-most
 returns-clause-most g c =
     let r = has_room_by (length c.trail-chain.result.now) (left_below c.in-More.from.level) c.has_room.result
-    (rw (c.left_below.ensures, to_z-of_z _ _ (let fits : SFits w8 c.in-More.from.level = search rules in fits)) at c.has_room.ensures) c.if-not-has_room.false in
+    (rw (c.left_below.ensures, to_z-of_z _ _ (let fits : SFits w8 c.in-More.from.level = search rules in fits)) at c.has_room.ensures)
+    c.if-not-has_room.false in
     let n = appended c.args.trail.now c.trail-chain.result.now c.append.new.trail c.append.ensures in
     omega (arith, r, n, c.walk2_from.ensures.most)
 

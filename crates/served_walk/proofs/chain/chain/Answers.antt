@@ -36,7 +36,8 @@ pub returns-in-Some-by_table-clause-text : goal.returns-in-Some-by_table-clause-
 returns-in-Some-by_table-clause-text g c = text_of _ c.in-Some-by_table.ensures.line
 
 pub returns-in-Some-by_table-clause-conflict : goal.returns-in-Some-by_table-clause-conflict
-returns-in-Some-by_table-clause-conflict g c = conflict_of c.args.trail.now c.by_table.new.trail c.by_table.new.met c.in-Some-by_table.result c.in-Some-by_table.ensures.line
+returns-in-Some-by_table-clause-conflict g c = conflict_of c.args.trail.now c.by_table.new.trail c.by_table.new.met c.in-Some-by_table.result
+    c.in-Some-by_table.ensures.line
 
 pub returns-clause-text : goal.returns-clause-text
 returns-clause-text g c = text_of _ c.by_base.ensures.line
