@@ -25,7 +25,7 @@ use Rattle.tagged_tlb.specs.declared.row.Kind.TheVariants.{Leaf1 as OfLeaf1, Tab
 use Rattle.tagged_tlb.specs.declared.row.Row.{Row}
 use Rattle.tagged_tlb.specs.Rows.{matches1, matching, deepest}
 use Rattle.machine_spec.specs.Made.{key_of}
-use Rattle.machine_spec.specs.Served.{Supplied, Halt, came, clash, Reply, Place, supply, begun1, combined, served, serve}
+use Rattle.machine_spec.specs.Served.{Supplied, credited, Halt, came, clash, Reply, Place, supply, begun1, combined, served, serve}
 use Rattle.machine_spec.specs.Machine.{Visit, visited, visited_by}
 use Rattle.machine_laws.proofs.Trees.{IsOn}
 use Rattle.translate.specs.Replayed.{EndsOn}
@@ -33,7 +33,7 @@ use Rattle.served_walk.specs.ServeAt.{serve_at, reply_of, behind}
 use Rattle.served_walk.specs.ServedWord.{Second, WasServed}
 use Rattle.served_walk.specs.Shows.{ShowsHalt, Shows, second_of, comes_out}
 use Rattle.served_walk.proofs.Serving.{serve_is}
-use Rattle.served_walk.proofs.Ties.{leaf1_served, table1_served}
+use Rattle.served_walk.proofs.Ties.{leaf1_served, table1_served, ended_is}
 use Rattle.served_walk.proofs.Parts.{was_behind}
 use Rattle.served_walk.proofs.Whole.{shows}
 
@@ -72,7 +72,7 @@ module _ (place : Place) (a : Access) where
       ∙ serve_is sup [] (walk c true a)
 
   module _ (on : c.m ≡ true) (ok : is_refused1 c a ≡ false) where
-    by_rows : served place a ≡ combined leaves table sup (walk c true a)
+    pub by_rows : served place a ≡ combined leaves table sup (walk c true a)
     by_rows = if_true (c.m && not (is_refused1 c a)) (combined leaves table sup (walk c true a)) (serve sup [] (walk c true a))
         (both_true c.m (is_refused1 c a) on ok)
 
@@ -96,6 +96,14 @@ module _ (place : Place) (a : Access) where
         by_rows ∙ ap (λ l. combined l table sup (walk c true a)) none ∙ ap (λ o. begun1 o (λ items. serve sup items (walk c true a))) some
         ∙ table1_served r row sup (walk c true a) u h
 
+    -- the same, on whose trail the walk ends
+    pub case_ended : (row : Row) (len : ℕ) (o : Outcome) → leaves ≡ [] → table ≡ Some row → EndsOn c a row.trail len o
+        → Shows (served place a) (take len row.trail) None (row ∷ []) o
+    case_ended row len o none some d =
+        let e = by_rows ∙ ap (λ l. combined l table sup (walk c true a)) none ∙ ap (λ t. begun1 t (λ items. serve sup items (walk c true a))) some
+        ∙ ap (credited row) (ended_is c a sup row.trail len o d) in
+        subst (λ z. Shows z (take len row.trail) None (row ∷ []) o) (sym e) (record { halt = (refl, refl, d.6); by_is = refl })
+
     -- no row of stage 1
     pub case_none : leaves ≡ [] → table ≡ None → served place a ≡ reply_of (serve_at sup [] (walk c true a))
     case_none none no_table = by_rows ∙ ap (λ l. combined l table sup (walk c true a)) none
@@ -105,7 +113,7 @@ module _ (place : Place) (a : Access) where
     abbrev pub base_now : Item
     base_now = base_item place.step S1 (sizes1 c (side_of a.va)) (start_base1 place.regs (side_of a.va))
 
-    stage1_is : stage1 (asked c true a) ≡ ask stage1_base (λ i. stage1_behind (asked c true a) i.value)
+    pub stage1_is : stage1 (asked c true a) ≡ ask stage1_base (λ i. stage1_behind (asked c true a) i.value)
     stage1_is = if_true c.m (stage1_on (asked c true a)) (stage1_off (asked c true a)) on
         ∙ if_false (is_refused1 c a) (done (stops (fault1 Translation most_left))) (ask stage1_base (λ i. stage1_behind (asked c true a) i.value)) ok
 

@@ -79,7 +79,7 @@ module _ (c : Config) (s : Side) (p : Bool) (x : ℕ) (sup : Need → Supplied) 
   pub chain_is : is_refused2 c x ≡ false → walk2 q2 ≡ chain r p x
   chain_is h = accepted_is (is_refused2 c x) (fault2 q2 Translation most_left) (chain r p x) h
 
-  chain_leaf : (items : List Item) (l : Leaf2) → stands2 c s false x items ≡ ends (reaches l) []
+  pub chain_leaf : (items : List Item) (l : Leaf2) → stands2 c s false x items ≡ ends (reaches l) []
       → (is_refused2 c x ≡ false) × IsOn r (chain r p x) items (done (reaches l))
   chain_leaf items l h =
       let d = refused_ends r (is_refused2 c x) early (chain r false x) items l h in
@@ -189,7 +189,7 @@ module _ (c : Config) (s : Side) (p : Bool) (x : ℕ) (sup : Need → Supplied) 
   some_items [] w k h = absurd cc
   some_items (i ∷ rest) w k h = omega arith
 
-  chain_table : (items : List Item) (from : From2) → NeedsOf from (stands2 c s false x items)
+  pub chain_table : (items : List Item) (from : From2) → NeedsOf from (stands2 c s false x items)
       → (is_refused2 c x ≡ false) × IsOn r (chain r p x) items (From p (left_below from.level) from.base)
       × (length items + left_below from.level + 1 ≤ most_items2)
   chain_table items from n =

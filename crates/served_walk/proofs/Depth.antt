@@ -39,7 +39,7 @@ on_length r n (done a) u (i ∷ items) h o = absurd o
 on_length r zero (ask q k) u (i ∷ items) h o = absurd h
 on_length r (suc n) (ask q k) u (i ∷ items) h o = let e = on_length r n (k i) u items (h i) o.1 in omega (arith, e)
 
-at_more : {N A : Type 0} (n m : ℕ) (t : Ask N Item A) → n ≤ m → AtMost n t → AtMost m t
+pub at_more : {N A : Type 0} (n m : ℕ) (t : Ask N Item A) → n ≤ m → AtMost n t → AtMost m t
 at_more n m (done a) l h = tt
 at_more zero m (ask q k) l h = absurd h
 at_more (suc n) zero (ask q k) l h = absurd (omega (arith, l))
@@ -90,7 +90,7 @@ behind_most q base l =
 pub chain_most : (c : Config) (s : Side) (p : Bool) (x : ℕ) → is_refused2 c x ≡ false → AtMost most_items2 (chain (regime_of c s) p x)
 chain_most c s p x ok = λ i. behind_most (asked2 (regime_of c s) p x) i.value (sound2 (regime_of c s) x (of_fields c s) ok).0.start
 
-walk2_most : (c : Config) (s : Side) (p : Bool) (x : ℕ) → AtMost most_items2 (walk2 (asked2 (regime_of c s) p x))
+pub walk2_most : (c : Config) (s : Side) (p : Bool) (x : ℕ) → AtMost most_items2 (walk2 (asked2 (regime_of c s) p x))
 walk2_most c s p x =
     at_if most_items2 (is_refused2 c x) (stops (fault2 (asked2 (regime_of c s) p x) Translation most_left)) (chain (regime_of c s) p x) (chain_most c s p x)
 
@@ -116,7 +116,7 @@ module _ (c : Config) (judged : Bool) (a : Access) where
     by true = at_after most_items2 1 (walk2 (asked2 r true e.place)) (read1_by c e) (walk2_most c (side_of a.va) true e.place) (read_most e)
     by false = λ i. tt
 
-  from1_most : (left : ℕ) (t : Table1) → AtMost (left + 1) (walk1_from q left t)
+  pub from1_most : (left : ℕ) (t : Table1) → AtMost (left + 1) (walk1_from q left t)
   from1_most zero t = λ i. at_step 0 (λ _. done (stops (fault1 Translation 0))) _ (λ _. tt)
   from1_most (suc left) t =
       let e : suc left + 1 ≡ suc (left + 1) = omega arith in

@@ -155,3 +155,19 @@ module _ {S : Type 0} (sup : S → Need → Supplied) (config : S → Config) (b
           told = subst (λ (y : ReplyAt (End Leaf1)). TellsLeaf r (two s') y.stop) (sym d.is) told;
         },
       )
+
+  -- any walk over the supply was served
+  pub walk_served : (c : Config) (a : Access) (t : Ask Entry1 Item (End Leaf1)) (s s' : S) (items : List Item) (r : Result (End Leaf1) Stop) → config s ≡ c
+      → Ran (λ i. i.value) (by_entry gives) t s items r s' →
+      (rows : List Row) × (by s' ≡ by s ++ rows)
+      × WasServed (sup s) (finer stops (word_of (regime_of c (side_of a.va))) t) items rows (two s') (answer_of r)
+  walk_served c a t s s' items r u w =
+      let d = ran_served (side_of a.va) c (sup s) t s items r s' (record { sup_is = refl; config_is = u }) w in (
+        d.reply.by,
+        d.by_is,
+        record {
+          items_are = d.items_are ∙ ap shown (sym d.is);
+          by_is = ap (λ (y : ReplyAt (End Leaf1)). y.by) (sym d.is);
+          told = subst (λ (y : ReplyAt (End Leaf1)). TellsLeaf (answer_of r) (two s') y.stop) (sym d.is) (leaf_told r (two s') d.reply.stop d.told);
+        },
+      )

@@ -56,17 +56,18 @@ module _ (place : Place) (a : Access) where
   told_fed {L} F two (lacks (word w)) r h q = (subst (λ z. TellsLeaf {L = L} z two (breaks (came (lacks (word w))))) (sym q) refl, refl)
 
   -- a walk over the words of memory is served without rows
+  pub was_walked : {L : Type 0} (F : Type 0) → (F → ⊥) → (t : Ask Need Item (End L)) (old new : List Item) (r : Result L Stop) (two : Second)
+      → (w : Walked (ReadsWord place.step (Some place.memory)) (Some place.memory) F t old new r) → WasServed (supply place a) t w.more [] two r
+  was_walked F never t old new r two w =
+      let e = took_served (ReadsWord place.step (Some place.memory)) (supply place a) reads_given t w.more w.end w.took (lacks_given F never w.end w.cause) in
+      let d = told_fed F two w.end r w.cause w.answer in
+      record {
+        items_are = sym (ap shown e ∙ ap (λ l. w.more ++ l) d.1 ∙ append-nil w.more);
+        by_is = sym (ap (λ y. y.by) e);
+        told = subst (λ y. TellsLeaf r two y.stop) (sym e) d.0;
+      }
+
   pub walked_served : {L : Type 0} (F : Type 0) → (F → ⊥) → (t : Ask Need Item (End L)) (old new : List Item) (r : Result L Stop) (two : Second)
       → Walked (ReadsWord place.step (Some place.memory)) (Some place.memory) F t old new r →
       (items : List Item) × (new ≡ old ++ items) × WasServed (supply place a) t items [] two r
-  walked_served F never t old new r two w =
-      let e = took_served (ReadsWord place.step (Some place.memory)) (supply place a) reads_given t w.more w.end w.took (lacks_given F never w.end w.cause) in
-      let d = told_fed F two w.end r w.cause w.answer in (
-        w.more,
-        w.grown,
-        record {
-          items_are = sym (ap shown e ∙ ap (λ l. w.more ++ l) d.1 ∙ append-nil w.more);
-          by_is = sym (ap (λ y. y.by) e);
-          told = subst (λ y. TellsLeaf r two y.stop) (sym e) d.0;
-        },
-      )
+  walked_served F never t old new r two w = (w.more, w.grown, was_walked F never t old new r two w)

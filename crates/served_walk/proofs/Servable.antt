@@ -107,7 +107,7 @@ table2_answer w st h Other2 k = absurd (k.1 w h)
 -- A TABLE OF STAGE 1
 
 -- a level tells how many are left below it
-left_all : (left : ℕ) → left_below (level_of left) ≡ left
+pub left_all : (left : ℕ) → left_below (level_of left) ≡ left
 left_all zero = refl
 left_all (suc zero) = refl
 left_all (suc (suc zero)) = refl

@@ -14,7 +14,7 @@ use Rattle.machine_spec.specs.Served.{Supplied, came, pushed, halted, serve, tak
 use Rattle.machine_laws.proofs.Trees.{IsOn}
 use Rattle.translate.specs.Replayed.{EndsOn}
 use Rattle.served_walk.specs.ServeAt.{serve_at, reply_of, behind}
-use Rattle.served_walk.proofs.Serving.{serve_is, serve_front}
+use Rattle.served_walk.proofs.Serving.{serve_is, serve_front, serve_ends}
 
 -- FROM STANDING TO TREES
 
@@ -70,6 +70,16 @@ taken_is c a trail len o d =
     let t : taken trail (walk c true a) ≡ record { items = d.1; halt = came (ended d.0); by = [] } = ap (λ l. taken l (walk c true a)) d.3
     ∙ taken_front r (walk c true a) d.0 d.1 d.2 (ends_on r (walk c true a) d.1 d.0 d.5) in
     (d.0, t ∙ ap (λ l. record { items = l; halt = came (ended d.0); by = [] }) (sym f), d.6)
+
+-- the same of a walk that is served from the trail on: the items behind its end are left over
+pub ended_is : (c : Config) (a : Access) (sup : Need → Supplied) (trail : List Item) (len : ℕ) (o : Outcome) → (d : EndsOn c a trail len o)
+    → serve sup trail (walk c true a) ≡ record { items = take len trail; halt = came (ended d.0); by = [] }
+ended_is c a sup trail len o d =
+    let r : Regime = regime_of c (side_of a.va) in
+    let f : take len trail ≡ d.1 = ap (λ n. take n trail) d.4 ∙ ap (λ l. take (length d.1) l) d.3 ∙ take_front d.1 d.2 in
+    serve_is sup trail (walk c true a) ∙ ap (λ l. reply_of (serve_at sup l (walk c true a))) d.3
+    ∙ ap reply_of (serve_ends r sup d.1 d.2 (walk c true a) d.0 (ends_on r (walk c true a) d.1 d.0 d.5))
+    ∙ ap (λ l. record { items = l; halt = came (ended d.0); by = [] }) (sym f)
 
 -- the one combined row that matches
 pub leaf1_served : (c : Config) (a : Access) (row : Row) (leaves : List Row) (table : Rattle.std.specs.Prelude.Option Row) (sup : Need
