@@ -11,9 +11,9 @@ ghost use Rattle.tagged_tlb.specs.Sets.{Cache};
 ghost use Rattle.machine_spec.specs.Machine.{killed, visited};
 ghost use Rattle.cpu_model.specs.Cores.{no_rows, new_core, cpu_with_bank, HasOtherRows, Suits, AreCaches, visit_at};
 
-use crate::words::Words;
 use bitwords::NoMemory;
 use phys_mem::Phys;
+use served_walk::Words;
 use std::alloc::Global;
 use std::marker::Model;
 use sysregs::fields::{asid, vmid};

@@ -2,6 +2,5 @@
 #![tactic(auto)]
 
 mod cpu;
-mod words;
 
 pub use cpu::{Cpu, MOST_QUEUED};
