@@ -167,7 +167,7 @@ module _ {F : Type 0} (may : Holds F) (at : RowAt F) (scene : Scene F) (x : ℕ)
   TrailOf kind s items = (d : Row) → items ≡ (at scene.finds.now kind s.slot d).trail
 
   abbrev pub MadeAs : Kind → Seen → Type 0
-  MadeAs kind s = (d : Row) → (at scene.finds.now kind s.slot d).made ≡ s.made
+  MadeAs kind s = (d : Row) (live : List Row) → may scene.finds.now live → AreToldApart live → (at scene.finds.now kind s.slot d).made ≡ s.made
 
   -- what a live row of stage 2 is good for
   serves : (live : List Row) → Meets live → (kind : Kind) (r : Row) → In r live → matches kind k x r ≡ true → (r.kind ≡ kind) × ServesAs r kind ×
@@ -270,7 +270,7 @@ module _ {F : Type 0} (may : Holds F) (at : RowAt F) (scene : Scene F) (x : ℕ)
               let w = leaf_live live q [] o in
               subst (λ z. ChainServed (λ k s. at scene.finds.now k s d) (place live) p x items z (second_in after) (Ok l)) (sym (n.3 room))
               (record {
-                live = (record { live = w.0; kind = (serves live m OfLeaf2 q w.0 w.1).0; made = made d }, tt);
+                live = (record { live = w.0; kind = (serves live m OfLeaf2 q w.0 w.1).0; made = made d live m.held m.servable.told }, tt);
                 was = λ a' s.
                     subst (λ z. WasServed (supply (place live) a') (walk2 (asked2 (regime_of c s) p x)) z (q ∷ []) (second_in after) (Ok l)) (sym (t d))
                     (chain_hit c s p x (supply (place live) a') q (fresh_of (place live) a' (stage2_base x)) l (second_in after)
@@ -347,7 +347,7 @@ module _ {F : Type 0} (may : Holds F) (at : RowAt F) (scene : Scene F) (x : ℕ)
               let v = table_live live q o in
               subst (λ z. ChainServed (λ k s. at scene.finds.now k s d) (place live) p x (items ++ w.more) z (second_in after) r) (sym (n.3 room))
               (record {
-                live = (record { live = v.0; kind = (serves live m OfTable2 q v.0 v.1).0; made = made d }, tt);
+                live = (record { live = v.0; kind = (serves live m OfTable2 q v.0 v.1).0; made = made d live m.held m.servable.told }, tt);
                 was = λ a' s.
                     let b = was_walked (place live) a' (Rose 0 0) never (walk2_from (asked2 (regime_of c s) p x) (left_below from.level) from.base) mid new r
                     (second_in after) w in

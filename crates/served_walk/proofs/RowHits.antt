@@ -84,7 +84,7 @@ module _ {F : Type 0} (may : Holds F) (at : RowAt F) (z : Scene F) (a : Access) 
   TrailOf kind s items = (d : Row) → items ≡ (at z.finds.now kind s.slot d).trail
 
   abbrev MadeAs : Kind → Seen → Type 0
-  MadeAs kind s = (d : Row) → (at z.finds.now kind s.slot d).made ≡ s.made
+  MadeAs kind s = (d : Row) (live : List Row) → may z.finds.now live → AreToldApart live → (at z.finds.now kind s.slot d).made ≡ s.made
 
   pub record Serves (kind : Kind) (q : Row) : Type 0 where
     pub kind_is : q.kind ≡ kind
@@ -124,7 +124,7 @@ module _ {F : Type 0} (may : Holds F) (at : RowAt F) (z : Scene F) (a : Access) 
       → matches1 kind k x (at z.finds.now kind s.slot d) ≡ true → MadeAs kind s
       → IsServiceOf (row may at z a d) live (record { kind = kind; seen = s })
   service_of live m kind s d i t made =
-      record { live = i; kind = (serves live m kind (at z.finds.now kind s.slot d) i t).kind_is; made = made d }
+      record { live = i; kind = (serves live m kind (at z.finds.now kind s.slot d) i t).kind_is; made = made d live m.held m.servable.told }
 
   -- COMBINED ROWS
 

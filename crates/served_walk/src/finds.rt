@@ -26,14 +26,16 @@ pub trait Finds {
     /// The rows of a kind that match: none, one, or the two that were made first.
     fn find(&self, kind: Kind, sought: &Sought) -> Found
         ensures within { AllSeen (λ s. stands self.now kind s.slot) result }
-        ensures made { (d : Row) → AllSeen (λ s. (row_at self.now kind s.slot d).made ≡ s.made) result }
+        ensures made { (d : Row) → (live : List Row) → holds self.now live → AreToldApart live →
+            AllSeen (λ s. (row_at self.now kind s.slot d).made ≡ s.made) result }
         ensures best { (d : Row) → (live : List Row) → holds self.now live → AreToldApart live → AreSmall live →
             rows_found (λ s. row_at self.now kind s d) result ≡ take 2 (matching (is_sought kind sought.now) live) };
 
     /// The row of a kind that matches and serves the smallest region.
     fn deepest(&self, kind: Kind, sought: &Sought) -> Option<Seen>
         ensures within { IfSome result (λ s. stands self.now kind s.slot) }
-        ensures made { (d : Row) → IfSome result (λ s. (row_at self.now kind s.slot d).made ≡ s.made) }
+        ensures made { (d : Row) → (live : List Row) → holds self.now live → AreToldApart live →
+            IfSome result (λ s. (row_at self.now kind s.slot d).made ≡ s.made) }
         ensures least { (d : Row) → (live : List Row) → holds self.now live → AreToldApart live → AreSmall live →
             option_map (λ s. row_at self.now kind s.slot d) result ≡ Rows.deepest (is_sought kind sought.now) live };
 

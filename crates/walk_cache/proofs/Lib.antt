@@ -3,3 +3,4 @@ pub mod Moves
 pub mod Sizes
 pub mod Fills
 pub mod Keeps
+pub mod Searched

@@ -7,5 +7,6 @@ pub use Rattle.tagged_tlb.specs.Stands
 pub use Rattle.tagged_tlb.specs.Found
 pub use Rattle.machine_spec.specs.Machine
 pub mod ByKind
+pub mod Holds
 pub mod Services
 pub mod Sized

@@ -2,6 +2,7 @@
 #![tactic(auto)]
 
 mod caches;
+mod finds;
 mod kinds;
 mod service;
 
