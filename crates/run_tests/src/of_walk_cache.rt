@@ -2,6 +2,7 @@ ghost use Rattle.std.specs.Prelude.{◌≡◌};
 
 use bitwords::NoMemory;
 use fault_codes::Stage;
+use served_walk::Service;
 use std::alloc::Global;
 use sysregs::fields::config;
 use sysregs::{Op, Regs};
@@ -9,7 +10,7 @@ use tagged_tlb::{Found, Key, Kind, Made, Row, Sought};
 use tlbi_ops::{Tag, decode};
 use trace_lang::{Policy, Size};
 use trails::Trail;
-use walk_cache::{Caches, Service};
+use walk_cache::Caches;
 use walk_spec::Region;
 
 /// Under registers that are all 0.
@@ -71,7 +72,10 @@ fn order_at(caches: &Caches, kind: Kind, page: u64) -> Option<u32> {
 fn serve(caches: &mut Caches, page: u64) -> Option<usize> {
     let seen = caches.deepest(Kind::Table1, &sought(page))?;
     let items = caches.trail(Kind::Table1, seen.slot).len();
-    caches.touch_all(&[Service::of(Kind::Table1, seen)]);
+    caches.touch_all(&[Service {
+        kind: Kind::Table1,
+        seen,
+    }]);
     Some(items)
 }
 

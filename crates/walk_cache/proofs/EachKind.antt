@@ -17,7 +17,7 @@ use Rattle.tagged_tlb.specs.declared.found.Seen.{Seen}
 use Rattle.tagged_tlb.specs.Found.{AllSeen, seen_row}
 use Rattle.tagged_tlb.specs.Stands.{Stands}
 use Rattle.tagged_tlb.proofs.Ties.{kind_is, others_tied}
-use Rattle.walk_cache.specs.declared.service.Service.{Service}
+use Rattle.served_walk.specs.declared.met.Service.{Service}
 use Rattle.walk_cache.specs.Services.{service_of, IsService}
 use Rattle.walk_cache.specs.ByKind.{SetsByKind, sets_of, sets_in, AreTied, HasShapes, IsAddedTo}
 use Rattle.walk_cache.proofs.Moves.{end_elsewhere}
@@ -107,10 +107,10 @@ module _ (k : Kind) (n ways : ℕ) (h : Header) (fits : shape_of h.size k ≡ sh
 module _ (k : Kind) (n ways : ℕ) (size : Size) (fits : shape_of size k ≡ shape n ways) (live : List Row) (told : AreToldApart live) (r : Row)
     (service : Service) (own : service.kind ≡ k) (st : IsService size live service r) (old new : SetsByKind) (rest : Rest k old new)
     (f : AreTied size live old) where
-  stands : Stands k n service.set service.made live r
+  stands : Stands k n service.seen.slot.set service.seen.made live r
   stands =
-      subst (λ (s : Shape). Stands k s.sets service.set service.made live r) fits
-      (subst (λ j. Stands j (sets_in size j) service.set service.made live r) own st)
+      subst (λ (s : Shape). Stands k s.sets service.seen.slot.set service.seen.made live r) fits
+      (subst (λ j. Stands j (sets_in size j) service.seen.slot.set service.seen.made live r) own st)
 
   serves_by : IsTied k n (to_end live r) (sets_of new k) → (j : Kind) (b : Bool) → same_kind j k ≡ b
       → IsTied j (sets_in size j) (to_end live r) (sets_of new j)
@@ -122,6 +122,6 @@ module _ (k : Kind) (n ways : ℕ) (size : Size) (fits : shape_of size k ≡ sha
       (end_elsewhere j (sets_in size j) live told r stands.held (subst (λ i. same_kind j i ≡ false) (sym stands.kind_is) e) (sets_of old j) (f j))
 
   -- its own cache says where it went
-  pub serves : (IsTied k n live (sets_of old k) → Stands k n service.set service.made live r → IsTied k n (to_end live r) (sets_of new k))
+  pub serves : (IsTied k n live (sets_of old k) → Stands k n service.seen.slot.set service.seen.made live r → IsTied k n (to_end live r) (sets_of new k))
       → AreTied size (to_end live r) new
   serves went = λ j. serves_by (went (one_tied size live old k n ways fits f) stands) j (same_kind j k) refl

@@ -14,7 +14,7 @@ use Rattle.tagged_tlb.proofs.Ties.{kept_tied}
 use Rattle.tagged_tlb.proofs.Touches.{itself, turned, all_kept}
 use Rattle.tagged_tlb.proofs.Order.{told_filter}
 use Rattle.tagged_tlb.proofs.Stands.{other_in, in_filter}
-use Rattle.walk_cache.specs.declared.service.Service.{Service}
+use Rattle.served_walk.specs.declared.met.Service.{Service}
 use Rattle.walk_cache.specs.Services.{IsService, AreServices}
 
 -- THE OTHER SETS

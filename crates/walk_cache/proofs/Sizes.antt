@@ -12,7 +12,7 @@ use Rattle.tagged_tlb.specs.Shapes.{keeps_rows}
 use Rattle.tagged_tlb.specs.Sets.{Cache, to_end}
 use Rattle.machine_spec.specs.Machine.{killed}
 use Rattle.walk_cache.specs.declared.caches.Held.{Held}
-use Rattle.walk_cache.specs.declared.service.Service.{Service}
+use Rattle.served_walk.specs.declared.met.Service.{Service}
 use Rattle.walk_cache.specs.ByKind.{CachesState, HasShapes, AreTied, AreCachesOf, no_rows}
 use Rattle.walk_cache.specs.Services.{AreServices}
 use Rattle.walk_cache.specs.Sized.{size_of, sets_held, state_of}

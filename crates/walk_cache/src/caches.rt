@@ -12,8 +12,8 @@ ghost use Rattle.walk_cache.specs.Sized.{size_of, sets_held};
 ghost use Rattle.walk_cache.specs.Services.{service_of, IsService, AreServices};
 
 use crate::kinds::Kinds;
-use crate::service::Service;
 use bitwords::NoMemory;
+use served_walk::Service;
 use std::alloc::{AllocError, Global};
 use std::marker::Model;
 use tagged_tlb::{Chooser, Found, Kind, Row, Seen, Slot, Sought};

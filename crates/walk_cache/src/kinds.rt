@@ -11,7 +11,7 @@ ghost use Rattle.tagged_tlb.specs.Found.{found_rows, seen_row, slot_row, AllSeen
 ghost use Rattle.walk_cache.specs.ByKind.{sets_of, AreTied, HasShapes, HaveRoom, IsAddedTo};
 ghost use Rattle.walk_cache.specs.Services.{service_of, IsService, AreServices};
 
-use crate::service::Service;
+use served_walk::Service;
 use std::alloc::{AllocError, Global};
 use std::marker::Model;
 use tagged_tlb::{Chooser, Found, Kind, Row, Seen, Slot, Sought, Tlb};
@@ -106,10 +106,18 @@ impl<
             AreTied size (to_end live row) self.new }
     {
         match service.kind {
-            Kind::Leaf1 => self.leaf1.touch_made(service.set, service.made),
-            Kind::Table1 => self.table1.touch_made(service.set, service.made),
-            Kind::Leaf2 => self.leaf2.touch_made(service.set, service.made),
-            Kind::Table2 => self.table2.touch_made(service.set, service.made),
+            Kind::Leaf1 => self
+                .leaf1
+                .touch_made(service.seen.slot.set, service.seen.made),
+            Kind::Table1 => self
+                .table1
+                .touch_made(service.seen.slot.set, service.seen.made),
+            Kind::Leaf2 => self
+                .leaf2
+                .touch_made(service.seen.slot.set, service.seen.made),
+            Kind::Table2 => self
+                .table2
+                .touch_made(service.seen.slot.set, service.seen.made),
         }
     }
 

@@ -4,7 +4,5 @@
 mod caches;
 mod finds;
 mod kinds;
-mod service;
 
 pub use caches::Caches;
-pub use service::Service;

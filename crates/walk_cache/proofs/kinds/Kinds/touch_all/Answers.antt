@@ -2,7 +2,7 @@ use Rattle.std.proofs.Common.{◌+◌, drop, get_or, subst}
 use Rattle.std.proofs.lemmas.List.{drop_more, get_or_default}
 use Rattle.tagged_tlb.specs.declared.row.Kind.TheVariants.{Leaf1}
 use Rattle.tagged_tlb.specs.Sets.{to_end}
-use Rattle.walk_cache.specs.declared.service.Service.{Service}
+use Rattle.served_walk.specs.declared.met.Service.{Service}
 use Rattle.walk_cache.specs.Services.{IsService}
 use Rattle.walk_cache.proofs.Moves.{IsLeft, next}
 use Rattle.walk_cache.proofs.kinds.Kinds.touch_all.Goals as goal
@@ -12,7 +12,7 @@ loop-service-preserved g c = λ size live served fits told f are.
     let all = c.args.services.now in
     let i = c.loop-service.service-index in
     let h = c.loop-service.invariant size live served fits told f are in
-    let none : Service = record { set = 0; made = record { step = 0; order = 0 }; kind = Leaf1 } in
+    let none : Service = record { kind = Leaf1; seen = record { slot = record { set = 0; way = 0 }; made = record { step = 0; order = 0 } } } in
     let one : Service = get_or all i none in
     let n = next size live served h.0 one (drop (i + 1) all) (subst (IsLeft size live served h.0) (drop_more all i none c.loop-service-test.true) h.2) in (
       to_end h.0 n.0,
