@@ -172,6 +172,6 @@ module _ (regs : Regs) (step : ℕ) (a : Access) (trail : List Item) where
       let p = holds_on R (LandingIs (asked (config_of regs) true a)) None None W trail (reaches l) on (walk_holds (asked (config_of regs) true a)) in
       let same = met_is (ended (reaches l)) h in
       let piece : IsPiece (fold after1 None Met) (fold after2 None Met) l.class = subst (λ ms. IsPiece (fold after1 None ms)
-          (fold after2 None ms) l.class) same p in
+      (fold after2 None ms) l.class) same p in
       listed_is (maker_for Made) trail row ∙ g l.class piece
       ∙ ap (leaf_rows (maker_for Made) l.class (untagged a.va) trail) (last_is None Met ∙ option_or_none (last_first Met))

@@ -2,6 +2,10 @@ pub mod Steady
 pub mod MetAre
 pub mod Pieces
 pub mod Classes
+pub mod Ends
+pub mod Halts
+pub mod SmallRows
+pub mod Told
 pub mod Passing
 pub mod PassingAll
 pub mod Combining

@@ -250,8 +250,11 @@ module _ (made : MadeFor) (x : ℕ) (i : Item) (w : i.what ≡ AWord) where
       goal = rw s refl;
       start = rw (second_of, base_of) refl;
       row_is = h;
-      leaf = λ o k l. record { leaf = rw second_of l.leaf; class = λ e. rw (second_of, base_of)
-          (g o l.leaf (subst (λ b. is_new_leaf K (cond b (Some M) o) ≡ true) second_of e)) };
+      leaf = λ o k l. record {
+        leaf = rw second_of l.leaf;
+        class = λ e. rw (second_of, base_of)
+            (g o l.leaf (subst (λ b. is_new_leaf K (cond b (Some M) o) ≡ true) second_of e));
+      };
     }
 
     -- a word of another moment, where no leaf of stage 1 was read now

@@ -60,8 +60,15 @@ module _ (made : MadeFor) (trail : List Item) where
     pub class2_is : fold after2 class2 (rest_met at s) ≡ fold after2 None (met_in made trail)
 
   pub at_front : AreKnown (regime_for made) trail → Midway 0 record { ipa = 0; goal = made.access.va % 2 ^ 52; start = 0; leaf = None; class2 = None } []
-  at_front h = record { rows_are = refl; known = h; last = None; class2 = None; leaf = record { leaf = refl; class = λ _. refl }; last_is = refl;
-      class2_is = refl }
+  at_front h = record {
+    rows_are = refl;
+    known = h;
+    last = None;
+    class2 = None;
+    leaf = record { leaf = refl; class = λ _. refl };
+    last_is = refl;
+    class2_is = refl;
+  }
 
   one_spot : (b : Bool) (m : Mark) (s n : ℕ) (rest : List Spot) → rows_at K trail (cond b (record { mark = m; start = s; upto = n } ∷ []) [] ++ rest)
       ≡ cond b (rows_by K m (take n trail) (drop s (take n trail)) m.stage m.part) [] ++ rows_at K trail rest

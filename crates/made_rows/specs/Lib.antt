@@ -14,3 +14,5 @@ pub mod Sized
 pub mod Pieces
 pub mod Words
 pub mod NewRows
+pub use Rattle.tagged_tlb.specs.Tied
+pub mod Small

@@ -32,7 +32,7 @@ returns-in-Table c =
     (sym (c.word.ensures.is k.0 k.1 k.2 k.3 k.4) ∙ c.in_ok-word.was) in
     let sized = subst (λ st. is_sized (regime_for made) st ≡ true) c.requires.stage k.4 in
     subst (Passed made c.args.at i s record { ipa = s.ipa; goal = c.in_ok-word.word.goal; start = c.args.at + 1; leaf = None; class2 = None })
-        (sym c.only_if.ensures)
+    (sym c.only_if.ensures)
     (Passing.table1 made s.ipa i c.requires.what c.requires.stage
     (Passing.now_of made s.ipa i c.requires.what ∙ sym c.is_now.ensures ∙ c.if-not-is_now.false) c.in_ok-word.word t
     c.args.at s.goal c.in_ok-word.word.goal s.start led s.leaf s.class2 c.in-Table.cached c.row-row.result c.in-Table.is
@@ -56,7 +56,7 @@ returns-in-Leaf1 c =
     c.args.at s.goal c.in_ok-word.word.goal s.start led s.leaf s.class2 c.in-Leaf1.global c.row-row-in-Leaf1.result c.in-Leaf1.is
     (λ trail. c.row-row-in-Leaf1.ensures.row (mark_in made s.ipa i) trail
     (subst (TellsMark (regime_for made) (mark_in made s.ipa i) S1 c.in_ok-word.word)
-        (sym c.va-in-Leaf1.ensures) t) sized) c.row-row-in-Leaf1.ensures.start c.row-row-in-Leaf1.ensures.class
+    (sym c.va-in-Leaf1.ensures) t) sized) c.row-row-in-Leaf1.ensures.start c.row-row-in-Leaf1.ensures.class
 
 pub returns-in-Nothing : goal.returns-in-Nothing
 returns-in-Nothing c =
