@@ -131,7 +131,7 @@ impl Text<'_> {
     }
 
     /// Puts the lines of items that were read at one moment.
-    #[inline]
+    #[inline(always)]
     fn items(&mut self, items: &[Item], moment: u32) {
         let tail = Tail::of(|text| {
             text.put(b" moment ");
@@ -144,6 +144,7 @@ impl Text<'_> {
     }
 
     /// Puts the lines of items that were read at several moments.
+    #[inline(never)]
     fn old_items(&mut self, items: &[Item]) {
         for group in items.chunk_by(|one, next| one.moment == next.moment) {
             self.items(group, group[0].moment);
@@ -183,7 +184,7 @@ impl Text<'_> {
     }
 
     /// Puts the line of an item.
-    #[inline]
+    #[inline(always)]
     fn item(&mut self, item: &Item, tail: &Tail) {
         self.put(&HEADS[item.stage as usize][item.what as usize][item.level as usize & 3]);
         self.hex(item.pa);
