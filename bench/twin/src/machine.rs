@@ -113,10 +113,10 @@ impl Core {
 
     /// The oldest invalidation takes effect.
     fn deliver(&mut self) {
-        let oldest = self.inbox.pop_front();
-        if let (Some(invalidation), Some(rows)) = (oldest, &mut self.rows) {
-            rows.kill(&invalidation);
+        if let (Some(oldest), Some(rows)) = (self.inbox.front(), &mut self.rows) {
+            rows.kill(oldest);
         }
+        self.inbox.pop_front();
     }
 
     /// An invalidation comes in.

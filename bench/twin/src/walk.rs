@@ -392,11 +392,21 @@ impl<'a, const ROWS: bool> Walk<'a, ROWS> {
         }
     }
 
+    /// The moment of an item that is read now. Without rows no one asks for it.
+    #[inline]
+    fn now(&self) -> u32 {
+        if ROWS {
+            self.moment
+        } else {
+            0
+        }
+    }
+
     /// Appends the base of a start table.
     #[inline]
     fn keep_base(&mut self, stage: Stage, tables: &Tables) {
         let (pa, value, level) = (tables.base, tables.base, tables.start);
-        let (moment, what) = (self.moment, What::Base);
+        let (moment, what) = (self.now(), What::Base);
         self.trail.push(Item { pa, value, moment, stage, level, what });
     }
 
@@ -404,7 +414,7 @@ impl<'a, const ROWS: bool> Walk<'a, ROWS> {
     #[inline]
     fn read(&mut self, stage: Stage, level: u8, pa: u64) -> Option<u64> {
         let value = self.memory.load(pa)?;
-        let (moment, what) = (self.moment, What::Word);
+        let (moment, what) = (self.now(), What::Word);
         self.trail.push(Item { pa, value, moment, stage, level, what });
         Some(value)
     }
