@@ -239,7 +239,7 @@ impl Row {
         invalidation.takes_vmid(self.key.vmid)
             && invalidation.takes_asid(self.key.asid, self.is_global)
             && invalidation.takes_granule(self.granule as u32)
-            && invalidation.meets(start, 1 << self.whole)
+            && invalidation.meets(start, start + (1 << self.whole))
     }
 }
 
@@ -437,27 +437,25 @@ impl Cache {
 
     /// Takes the rows of a set away that an invalidation covers.
     fn sweep(&mut self, set: usize, invalidation: &Invalidation) {
-        let mut way = 0;
-        while let Some(row) = self.set(set).get(way) {
-            if row.is_covered(invalidation) {
+        for way in (0..self.lens[set] as usize).rev() {
+            if self.rows[set * self.ways + way].is_covered(invalidation) {
                 self.remove(set, way);
-            } else {
-                way += 1;
             }
         }
     }
 
-    /// Takes the rows away that an invalidation covers. One of a page covers rows of its sets
-    /// alone, unless some are pieces of what it tests.
-    fn kill(&mut self, invalidation: &Invalidation) {
-        if invalidation.op.names_page() && self.pieces == 0 {
+    /// Takes the rows away that an invalidation covers; `last` is its last address.
+    fn kill(&mut self, invalidation: &Invalidation, last: u64) {
+        let regions = |class: u32| (invalidation.start >> class, last >> class);
+        let (low, high) = regions(self.classes.trailing_zeros());
+        if self.pieces == 0 && high - low < self.lens.len() as u64 / 2 {
+            // So few regions of the smallest class: only their sets have rows that are covered.
             for class in Bits(self.classes) {
-                self.sweep(self.set_of(invalidation.start >> class), invalidation);
+                let (low, high) = regions(class);
+                (low..=high).for_each(|start| self.sweep(self.set_of(start), invalidation));
             }
         } else {
-            for set in 0..self.lens.len() {
-                self.sweep(set, invalidation);
-            }
+            (0..self.lens.len()).for_each(|set| self.sweep(set, invalidation));
         }
     }
 }
@@ -511,9 +509,12 @@ impl Rows {
 
     /// An invalidation takes effect.
     pub fn kill(&mut self, invalidation: &Invalidation) {
+        let Some(last) = invalidation.last() else {
+            return;
+        };
         for cache in &mut self.caches {
             if cache.classes != 0 && invalidation.op.reaches(cache.kind) {
-                cache.kill(invalidation);
+                cache.kill(invalidation, last);
             }
         }
     }

@@ -77,12 +77,6 @@ impl Op {
         matches!(self, Op::Vae1 | Op::Vale1 | Op::Rvae1 | Op::Rvale1 | Op::Aside1)
     }
 
-    /// Whether its operand names one page.
-    pub fn names_page(self) -> bool {
-        use Op::{Ipas2e1, Ipas2le1, Vaae1, Vaale1, Vae1, Vale1};
-        matches!(self, Vae1 | Vaae1 | Vale1 | Vaale1 | Ipas2e1 | Ipas2le1)
-    }
-
     /// Whether it spares tables.
     fn is_last_level(self) -> bool {
         use Op::{Ipas2le1, Ripas2le1, Rvaale1, Rvale1, Vaale1, Vale1};
@@ -198,8 +192,13 @@ impl Invalidation {
         self.granule.map_or(true, |named| named == granule)
     }
 
-    /// Whether it has an address in common with a region.
-    pub fn meets(&self, start: u64, length: u64) -> bool {
-        start < self.start + self.count && self.start < start + length && self.count > 0
+    /// The last address that it names, None where it names none.
+    pub fn last(&self) -> Option<u64> {
+        (self.count > 0).then(|| self.start + (self.count - 1))
+    }
+
+    /// Whether it has an address in common with a region, which ends before `end`.
+    pub fn meets(&self, start: u64, end: u64) -> bool {
+        start < self.start + self.count && self.start < end && self.count > 0
     }
 }
