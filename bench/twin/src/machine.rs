@@ -5,7 +5,7 @@ use crate::parse::Trace;
 use crate::regs::{flag, Context, Reg, Regs};
 use crate::rows::{Key, Met, Rows};
 use crate::tlbi::{Invalidation, Operation};
-use crate::walk::{Access, Class, Fault, Item, Outcome, Stage, Trail, Walk, What};
+use crate::walk::{Access, Class, Item, Outcome, Stage, Trail, Walk, What};
 use std::collections::VecDeque;
 
 /// The most register writes, and the most invalidations, that wait for a core.
@@ -262,7 +262,7 @@ fn by_rows(
 ) -> (Outcome, Marks) {
     met.clear();
     let outcome = walk::<true>(core, moment, access, memory, trail, met);
-    if let Err(Fault { class: Class::Conflict, .. }) = outcome {
+    if outcome.is_err_and(|fault| fault.class == Class::Conflict) {
         return (outcome, Marks { old: true, stale: false, evicted: 0 });
     }
     let (context, high) = (&core.context, flag(access.va, 55));

@@ -80,7 +80,7 @@ impl Counts {
     pub fn add(&mut self, answer: &Answer) {
         match answer.outcome {
             Ok(_) => self.mapped += 1,
-            Err(Fault { class: Class::Conflict, .. }) => self.conflicts += 1,
+            Err(fault) if fault.class == Class::Conflict => self.conflicts += 1,
             Err(_) => self.faulted += 1,
         }
         self.prefetches += answer.is_prefetch as u32;
@@ -121,13 +121,20 @@ impl Text<'_> {
         }
         match &answer.outcome {
             Ok(mapping) => self.mapped(mapping),
-            Err(Fault { class: Class::Conflict, .. }) => {
-                self.put(b"or\n");
-                self.old_items(answer.second.items());
-                self.put(b"conflict fsc 0x30\n");
+            Err(fault) if fault.class == Class::Conflict => {
+                self.conflict(answer.second.items(), *fault);
             }
             Err(fault) => self.fault(*fault),
         }
+    }
+
+    /// Puts the other trail of a conflict, and its last line.
+    fn conflict(&mut self, second: &[Item], fault: Fault) {
+        self.put(b"or\n");
+        self.old_items(second);
+        self.put(b"conflict fsc 0x");
+        self.hex_byte(fault.code());
+        self.put(b"\n");
     }
 
     /// Puts the lines of items that were read at one moment.
@@ -208,7 +215,7 @@ impl Text<'_> {
             Class::AccessFlag => self.put(b" access-flag"),
             Class::Permission => self.put(b" permission"),
             Class::External => self.put(b" external"),
-            Class::Conflict => self.put(b" conflict"),
+            Class::Conflict => {} // A conflict has a line of its own.
         }
         self.put(b" fsc 0x");
         self.hex_byte(fault.code());

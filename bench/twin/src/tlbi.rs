@@ -189,7 +189,7 @@ impl Invalidation {
 
     /// Whether it covers rows of tables of a granule.
     pub fn takes_granule(&self, granule: u32) -> bool {
-        self.granule.map_or(true, |named| named == granule)
+        self.granule.is_none_or(|named| named == granule)
     }
 
     /// The last address that it names, None where it names none.

@@ -76,7 +76,8 @@ impl Trail {
     }
 }
 
-/// What kind of fault it is; External is a word that memory lacks, Conflict several rows that match.
+/// What kind of fault it is; External is a word that memory lacks, and Conflict is several rows
+/// that match.
 #[derive(Clone, Copy, PartialEq, Eq)]
 pub enum Class {
     Translation,
