@@ -1,9 +1,10 @@
 #!/usr/bin/env python3
-"""compare.py PROGRAM TWIN FOLDER|--random N [--from SEED]
+"""compare.py PROGRAM TWIN FOLDER|--random N [--from SEED] [--rows]
 
 Runs `PROGRAM run T` and `TWIN run T` on each trace T of a folder (each file that ends with .trace, or each file where none
-does), or on N random traces of traces.py, and compares standard output, standard error and exit status. It prints what
-differs, and last `N passed, M failed`. Of random traces that fail the text is kept in failed/SEED.trace."""
+does), or on N random traces of traces.py, with rows where it is said, and compares standard output, standard error and exit
+status. It prints what differs, and last `N passed, M failed`. Of random traces that fail the text is kept in
+failed/SEED.trace."""
 import difflib
 import os
 import subprocess
@@ -50,14 +51,14 @@ def in_folder(folder):
         yield name, os.path.join(folder, name), None
 
 
-def at_random(count, first):
+def at_random(count, first, rows):
     sys.path.insert(0, HERE)
     sys.dont_write_bytecode = True
     import traces
     with tempfile.TemporaryDirectory() as folder:
         path = os.path.join(folder, "t")
         for seed in range(first, first + count):
-            text = traces.Random(str(seed)).text()
+            text = (traces.RandomRows if rows else traces.Random)(str(seed)).text()
             with open(path, "wb") as f:
                 f.write(text)
             yield "random %d" % seed, path, os.path.join(HERE, "failed", "%d.trace" % seed)
@@ -66,12 +67,15 @@ def at_random(count, first):
 def main():
     words = sys.argv[1:]
     first = 0
+    rows = "--rows" in words
+    if rows:
+        words.remove("--rows")
     if "--from" in words:
         at = words.index("--from")
         first = int(words[at + 1])
         del words[at:at + 2]
     if len(words) == 4 and words[2] == "--random":
-        program, twin, cases = words[0], words[1], at_random(int(words[3]), first)
+        program, twin, cases = words[0], words[1], at_random(int(words[3]), first, rows)
     elif len(words) == 3:
         program, twin, cases = words[0], words[1], in_folder(words[2])
     else:

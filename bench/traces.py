@@ -1,10 +1,13 @@
 #!/usr/bin/env python3
-"""traces.py big N CORES GRANULE [--stage2] [--pages N] [--memory KB] [--seed SEED]
+"""traces.py big N CORES GRANULE [--stage2] [--pages N] [--memory KB] [--seed SEED] [--caches SIZE] [--policy POLICY]
                         a long valid trace, of which 4 of 5 events map through all levels
-traces.py random SEED   a small trace of everything, about one in ten of them refused
+traces.py random SEED [--rows]
+                        a small trace of everything, about one in ten of them refused
 
 GRANULE is 4, 16 or 64 (KB). 64 KB has three levels at most. The tables map so many pages (a sixtieth of the events), and
-memory is one range of so many KB (as many as the tables need). The trace goes to standard output."""
+memory is one range of so many KB (as many as the tables need). SIZE is `none` where nothing else is said, and POLICY `fifo`;
+`random START` is one word here. With --rows a random trace has any size and policy, prefetches, and addresses that come
+again. The trace goes to standard output."""
 import random
 import sys
 
@@ -13,7 +16,7 @@ EVERY_OP = ["VMALLE1", "VAE1", "VAAE1", "VALE1", "VAALE1", "ASIDE1", "IPAS2E1", 
 NO_OPERAND = ("VMALLE1", "VMALLS12E1", "ALLE1")
 EL2_ALONE = ("IPAS2E1", "IPAS2LE1", "VMALLS12E1", "ALLE1", "RIPAS2E1", "RIPAS2LE1")
 REGS = ["SCTLR_EL1", "TCR_EL1", "TTBR0_EL1", "TTBR1_EL1", "MAIR_EL1", "HCR_EL2", "VTCR_EL2", "VTTBR_EL2"]
-REFUSED = {"SCTLR_EL1": [25], "TCR_EL1": [59], "HCR_EL2": [12, 27, 32, 33, 46], "VTCR_EL2": [32]}
+REFUSED = {"SCTLR_EL1": [25], "TCR_EL1": [39, 40, 59], "HCR_EL2": [12, 27, 32, 33, 46], "VTCR_EL2": [21, 22, 32]}
 RUNS = {(12, 1): 34, (12, 2): 25, (12, 3): 16, (14, 2): 30, (14, 3): 21, (16, 2): 34, (16, 3): 21}
 SIZES = [32, 36, 40, 42, 44, 48, 52, 52]
 
@@ -59,7 +62,7 @@ class Tables:
 # ---------------------------------------------------------------- big
 
 
-def big(count, cores, kb, stage2, seed, pages=None, memory=None):
+def big(count, cores, kb, stage2, seed, pages=None, memory=None, caches="none", policy="fifo"):
     rng = random.Random("big %d" % seed)
     granule = {4: 12, 16: 14, 64: 16}[kb]
     page = 1 << granule
@@ -152,7 +155,7 @@ def big(count, cores, kb, stage2, seed, pages=None, memory=None):
     data = alloc()
     size = memory << 10 if memory else (free - base + 0xffff) & -0x10000
     assert free - base <= size, "the tables need %d bytes" % (free - base)
-    header = ["cores %d" % cores, "memory 0x%x 0x%x" % (base, size), "caches none", "policy fifo"]
+    header = ["cores %d" % cores, "memory 0x%x 0x%x" % (base, size), "caches " + caches, "policy " + policy]
     accesses = 0
     while len(lines) < count:
         core = rng.randrange(cores)
@@ -209,6 +212,10 @@ def tlbi(rng, core, va):
 
 class Random:
     """A random trace. Memory and registers are followed, so that an access finds descriptors on its way."""
+
+    MOST = 200                                    # events of a trace
+    AGAIN = 0.6                                   # how often an address comes again
+    OTHER_WORD, OTHER_SIZE = "prefetched", "caches tiny"    # words that no program knows
 
     def __init__(self, seed):
         self.rng = random.Random("random %s" % seed)
@@ -431,7 +438,7 @@ class Random:
             if place is None or place % 8 or not self.holds(place):
                 return None
             word = self.words.get(place, 0)
-            if len(self.lines) > 185:
+            if len(self.lines) > self.MOST - 15:
                 return None
             if word == 0 or self.chance(0.03):
                 word = self.descriptor(tables, level, place, address, wants_memory, stage2, out_bits)
@@ -471,7 +478,7 @@ class Random:
 
     def va(self, core):
         rng = self.rng
-        if self.vas[core] and self.chance(0.6):
+        if self.vas[core] and self.chance(self.AGAIN):
             va = rng.choice(self.vas[core])
             return va ^ (1 << rng.randrange(64)) if self.chance(0.15) else va ^ rng.getrandbits(12)
         high = self.chance(0.4)
@@ -543,13 +550,17 @@ class Random:
                 self.msr(core, REGS[number], self.value(core, REGS[number]))
             if not self.chance(0.05):
                 self.isb(core)
-        target = rng.randint(max(20, len(self.lines)), 195)
+        target = rng.randint(max(20, len(self.lines)), self.MOST - 5)
         while len(self.lines) < target:
             self.event()
         lines = ["cores %d" % self.cores]
         lines += ["memory 0x%x 0x%x" % r for r in self.ranges if r[1]]
-        lines += ["caches none", "policy fifo"] + self.lines[:200] + ["end"]
+        lines += self.caches() + self.lines[:self.MOST] + ["end"]
         return self.dressed(lines)
+
+    def caches(self):
+        """The lines of the header on rows."""
+        return ["caches none", "policy fifo"]
 
     def dressed(self, lines):
         """The text in forms that are read as the same, and now and then spoilt."""
@@ -594,7 +605,8 @@ class Random:
         place = rng.randrange(len(words))
         how = rng.randrange(16)
         if how == 0:
-            words[place] = rng.choice(("x", "0x", "-1", "0xg", "99999999999999999999", "0x00000000000000001", "prefetch", "el3"))
+            words[place] = rng.choice(("x", "0x", "-1", "0xg", "99999999999999999999", "0x00000000000000001", self.OTHER_WORD,
+                                        "el3"))
         elif how == 1:
             words.append(rng.choice(("x", "0", "pan")))
         elif how == 2:
@@ -609,7 +621,8 @@ class Random:
             return lines
         elif how == 6:
             lines.insert(at, rng.choice(("msr 0 HCR_EL2 0x%x" % rng.getrandbits(64), "msr 0 TCR_EL1 0x800000000000000",
-                                         "msr 0 SCTLR_EL1 0x2000000", "msr 0 VTCR_EL2 0x100000000", "msr 0 HCR_EL2 0x300001000")))
+                                         "msr 0 SCTLR_EL1 0x2000000", "msr 0 VTCR_EL2 0x100000000", "msr 0 HCR_EL2 0x300001000",
+                                         "msr 0 TCR_EL1 0x18000000000", "msr 0 VTCR_EL2 0x400000")))
             return lines
         elif how == 7:
             lines.insert(at, "tlbi 0 el1 %s%s" % (rng.choice(EL2_ALONE), rng.choice(("", " 0x0", "IS", "IS 0x1 2"))))
@@ -631,7 +644,7 @@ class Random:
             return lines
         elif how == 14:
             lines[1:1] = [rng.choice(("memory 0x0 0x4000008", "memory 0xffffffffffff8 0x10", "memory 0x10000000000000 0x8",
-                                      "memory 0x0 0xfffffffffffffff8", "caches small", "policy fifo"))]
+                                      "memory 0x0 0xfffffffffffffff8", self.OTHER_SIZE, "policy fifo"))]
             return lines
         else:
             lines.insert(at, "store 0 0x%x 0x0" % rng.choice((self.ranges[0][0] + self.ranges[0][1], self.ranges[0][0] + 4, 1 << 63)))
@@ -640,22 +653,103 @@ class Random:
         return lines
 
 
+class RandomRows(Random):
+    """A random trace with rows: most addresses come again under registers that change little, and invalidations name them."""
+
+    MOST = 700
+    AGAIN = 0.9
+    OTHER_WORD, OTHER_SIZE = "prefetch", "caches small"
+
+    def caches(self):
+        rng = self.rng
+        start = rng.choice(("0x0", "0x%x" % rng.getrandbits(64), "0xffffffffffffffff", "12345"))
+        policy = rng.choice(("lru", "lru", "fifo", "random " + start))
+        return ["caches " + rng.choice(("none", "small", "small", "medium", "medium", "large", "large")), "policy " + policy]
+
+    def access(self, core):
+        super().access(core)
+        words = self.lines[-1].split(" ")
+        if self.chance(0.6):                      # what most leaves permit
+            words[2:] = ["el1", "read", words[4]]
+        if self.chance(0.15):
+            words = ["prefetch"] + words[1:5]
+        self.lines[-1] = " ".join(words)
+
+    def other_id(self, core):
+        """Another ASID or VMID, and nearly always the same base."""
+        rng = self.rng
+        reg = rng.choice(("TTBR0_EL1", "TTBR1_EL1", "VTTBR_EL2"))
+        self.msr(core, reg, self.regs[core][reg] & (1 << 48) - 1 | rng.choice((0, 1, 2, 0xabcd)) << 48)
+        self.isb(core)
+
+    def other_field(self, core):
+        """A register of before, in which one bit or nothing differs."""
+        reg = self.rng.choice(REGS)
+        value = self.regs[core][reg] ^ self.rng.choice((0, 1 << self.rng.randrange(64)))
+        for bit in REFUSED.get(reg, ()):
+            value &= ~(1 << bit)
+        self.msr(core, reg, value)
+        if self.chance(0.8):
+            self.isb(core)
+
+    def other_word(self, core):
+        """A store to a descriptor of which one bit or its validity differs, or which another descriptor gives."""
+        rng = self.rng
+        place = rng.choice(sorted(self.words))
+        word = self.words[place]
+        self.store(core, place, rng.choice((0, word ^ 1 << rng.randrange(64), word ^ 1 << 52, word ^ 1 << 11,
+                                            self.words[rng.choice(sorted(self.words))])))
+
+    def invalidation(self, core):
+        """A TLBI whose operand names an address of before, at times as an IPA, and an ASID of now."""
+        rng = self.rng
+        va = rng.choice(self.vas[core] or [0]) ^ rng.choice((0, 0, 1 << rng.randrange(12, 40)))
+        words = tlbi(rng, core, va).split(" ")
+        if len(words) == 5 and self.chance(0.6):
+            asid = self.regs[core]["TTBR%d_EL1" % (self.regs[core]["TCR_EL1"] >> 22 & 1)] >> 48
+            words[4] = "0x%x" % (int(words[4], 16) & (1 << 48) - 1 | asid << 48)
+        self.lines.append(" ".join(words))
+
+    def event(self):
+        rng = self.rng
+        core = rng.choice(self.ready) if self.ready and not self.chance(0.05) else rng.randrange(self.cores)
+        what = rng.random()
+        if what < 0.72:
+            self.access(core)
+        elif what < 0.77 and self.words:
+            self.other_word(core)
+        elif what < 0.80:
+            self.other_id(core)
+        elif what < 0.81:
+            self.other_field(core)
+        elif what < 0.91:
+            self.invalidation(core)
+        elif what < 0.95:
+            self.lines.append("dsb %d %s" % (core, rng.choice(("nsh", "ish", "sy"))))
+        elif what < 0.99:
+            self.lines.append("deliver %d" % core)
+        else:
+            super().event()
+
+
 def main():
     words = sys.argv[1:]
-    stage2 = "--stage2" in words
-    if stage2:
-        words.remove("--stage2")
-    options = {"--seed": 1, "--pages": None, "--memory": None}
+    flags = {"--stage2": False, "--rows": False}
+    for name in flags:
+        if name in words:
+            flags[name] = True
+            words.remove(name)
+    options = {"--seed": 1, "--pages": None, "--memory": None, "--caches": "none", "--policy": "fifo"}
     for name in options:
         if name in words:
             at = words.index(name)
-            options[name] = int(words[at + 1])
+            options[name] = words[at + 1] if name in ("--caches", "--policy") else int(words[at + 1])
             del words[at:at + 2]
     if len(words) == 4 and words[0] == "big" and words[3] in ("4", "16", "64"):
         count, cores, kb = map(int, words[1:])
-        text = big(count, cores, kb, stage2, options["--seed"], options["--pages"], options["--memory"]).encode()
+        text = big(count, cores, kb, flags["--stage2"], *options.values()).encode()
     elif len(words) == 2 and words[0] == "random":
-        text = Random(words[1]).text()
+        text = (RandomRows if flags["--rows"] else Random)(words[1]).text()
     else:
         sys.exit(__doc__)
     sys.stdout.buffer.write(text)

@@ -6,6 +6,7 @@ mod memory;
 mod parse;
 mod regs;
 mod report;
+mod rows;
 mod text;
 mod tlbi;
 mod walk;
@@ -113,7 +114,7 @@ fn report(trace: &Trace) -> io::Result<()> {
 fn count(trace: &Trace) -> io::Result<()> {
     let mut counts = Counts::default();
     machine::run(trace, |answer| -> io::Result<()> {
-        counts.add(&answer.outcome);
+        counts.add(answer);
         Ok(())
     })?;
     writeln!(io::stdout(), "{}", counts.mapped)

@@ -3,6 +3,7 @@
 use crate::attrs::{El, Kind};
 use crate::machine::{Action, Barrier, Event};
 use crate::regs::Reg;
+use crate::rows::{Policy, Size};
 use crate::tlbi::{Op, Operation};
 use crate::walk::Access;
 use std::collections::TryReserveError;
@@ -31,6 +32,8 @@ pub struct Extent {
 pub struct Trace {
     pub cores: u8,
     pub ranges: Vec<Extent>,
+    pub size: Size,
+    pub policy: Policy,
     pub events: Vec<Event>,
 }
 
@@ -226,6 +229,17 @@ impl<'a> Words<'a> {
     }
 }
 
+/// How many rows a core keeps.
+fn size(word: &[u8]) -> Option<Size> {
+    match word {
+        b"none" => Some(Size::None),
+        b"small" => Some(Size::Small),
+        b"medium" => Some(Size::Medium),
+        b"large" => Some(Size::Large),
+        _ => None,
+    }
+}
+
 /// The exception level of an access.
 fn level(word: &[u8]) -> Option<El> {
     match word {
@@ -276,7 +290,8 @@ impl Reader {
         // The shortest line of an event has six bytes.
         let mut events = Vec::new();
         events.try_reserve_exact((bytes / 6).min(MOST_EVENTS))?;
-        let trace = Trace { cores: 0, ranges: Vec::new(), events };
+        let (size, policy) = (Size::None, Policy::Fifo);
+        let trace = Trace { cores: 0, ranges: Vec::new(), size, policy, events };
         Ok(Reader { trace, phase: Phase::Cores })
     }
 
@@ -319,8 +334,8 @@ impl Reader {
         match (self.phase, first) {
             (Phase::Cores, b"cores") => self.cores(words),
             (Phase::Ranges, b"memory") => self.range(words),
-            (Phase::Ranges, b"caches") => self.only(words, b"none", Phase::Policy),
-            (Phase::Policy, b"policy") => self.only(words, b"fifo", Phase::Events),
+            (Phase::Ranges, b"caches") => self.caches(words),
+            (Phase::Policy, b"policy") => self.policy(words),
             (Phase::Ended, _) => Err(LineRefusal::AfterEnd),
             _ => Err(LineRefusal::NoHeader),
         }
@@ -354,11 +369,24 @@ impl Reader {
         Ok(())
     }
 
-    /// A line of the header that names the one thing that is built.
-    fn only(&mut self, words: &mut Words, name: &[u8], next: Phase) -> Result<(), LineRefusal> {
-        words.named(|word| (word == name).then_some(()))?;
+    /// `caches SIZE`.
+    fn caches(&mut self, words: &mut Words) -> Result<(), LineRefusal> {
+        self.trace.size = words.named(size)?;
         words.end()?;
-        self.phase = next;
+        self.phase = Phase::Policy;
+        Ok(())
+    }
+
+    /// `policy lru`, `policy fifo` or `policy random START`.
+    fn policy(&mut self, words: &mut Words) -> Result<(), LineRefusal> {
+        self.trace.policy = match words.word()? {
+            b"lru" => Policy::Lru,
+            b"fifo" => Policy::Fifo,
+            b"random" => Policy::Random(words.number()?),
+            _ => return Err(LineRefusal::BadWord(words.place)),
+        };
+        words.end()?;
+        self.phase = Phase::Events;
         Ok(())
     }
 
@@ -389,6 +417,7 @@ impl Reader {
     fn event(&self, first: &[u8], words: &mut Words) -> Result<Event, LineRefusal> {
         let action: fn(&Reader, &mut Words) -> Result<Action, LineRefusal> = match first {
             b"access" => Reader::access,
+            b"prefetch" => Reader::prefetch,
             b"store" => Reader::store,
             b"msr" => Reader::msr,
             b"tlbi" => Reader::tlbi,
@@ -414,6 +443,13 @@ impl Reader {
             Some(_) => return Err(LineRefusal::BadWord(words.place)),
         };
         Ok(Action::Access(Access { va, el, kind, pan }))
+    }
+
+    /// `prefetch CORE EL KIND VA`, from EL on.
+    fn prefetch(&self, words: &mut Words) -> Result<Action, LineRefusal> {
+        let (el, kind) = (words.named(level)?, words.named(kind)?);
+        let va = words.number()?;
+        Ok(Action::Prefetch(Access { va, el, kind, pan: false }))
     }
 
     /// `store CORE PA VALUE`, from PA on.

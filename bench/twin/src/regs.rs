@@ -1,6 +1,7 @@
 //! System registers, and what a walk needs of them.
 
 use crate::attrs::MemType;
+use crate::rows::{Config, Key};
 
 /// A register that steers translation.
 #[derive(Clone, Copy, PartialEq, Eq)]
@@ -124,6 +125,20 @@ pub struct Stage2 {
     pub ptw: bool,
 }
 
+impl Side {
+    /// The base of the start table.
+    pub fn base(&self) -> Option<u64> {
+        self.tables.as_ref().map(|tables| tables.base)
+    }
+}
+
+impl Stage2 {
+    /// The base of the start table.
+    pub fn base(&self) -> Option<u64> {
+        self.tables.as_ref().map(|tables| tables.base)
+    }
+}
+
 /// All that a walk needs of the registers. A run has no hardware updates: no register has HA or HD.
 pub struct Context {
     /// SCTLR_EL1.M, I, WXN and EPAN.
@@ -137,10 +152,18 @@ pub struct Context {
     pub sides: [Side; 2],
     /// There while stage 2 is on.
     pub stage2: Option<Stage2>,
-    /// The ASID and the VMID in force.
-    pub asid: u16,
-    pub vmid: u16,
+    /// The ASID and the VMID in force, and the fields that rows depend on.
+    pub key: Key,
 }
+
+/// M, I, WXN and EPAN of SCTLR_EL1; VM and PTW of HCR_EL2, which stand beside them one bit higher.
+const SCTLR_FIELDS: u64 = 1 | 1 << 12 | 1 << 19 | 1 << 57;
+const HCR_FIELDS: u64 = 1 | 1 << 2;
+
+/// Of TCR_EL1 TxSZ, EPD, SH and TG of both sides, IPS, TBI, HPD, TBID and E0PD; of VTCR_EL2 T2SZ,
+/// SL0, TG0, PS and SL2.
+const TCR_FIELDS: u64 = 0xf0bf_f0bf | 7 << 32 | 3 << 37 | 3 << 41 | 3 << 51 | 3 << 55;
+const VTCR_FIELDS: u64 = 0xff | 3 << 14 | 7 << 16 | 1 << 33;
 
 /// The granule of TG0.
 fn granule0(code: u64) -> u32 {
@@ -348,8 +371,24 @@ impl Regs {
             mair: self.get(Reg::Mair).to_le_bytes().map(MemType::of_mair),
             sides: [self.low(), self.high()],
             stage2: self.stage2(),
-            asid: self.asid(),
-            vmid: self.vmid(),
+            key: Key { config: self.config(), asid: self.asid(), vmid: self.vmid() },
         }
+    }
+
+    /// The fields that rows depend on. Reserved codes of a granule are read as 4 KB.
+    fn config(&self) -> Config {
+        let mut tcr = self.get(Reg::Tcr) & TCR_FIELDS;
+        let mut vtcr = self.get(Reg::Vtcr) & VTCR_FIELDS;
+        if field(tcr, 15, 14) == 3 {
+            tcr &= !(3 << 14);
+        }
+        if field(tcr, 31, 30) == 0 {
+            tcr |= 2 << 30;
+        }
+        if field(vtcr, 15, 14) == 3 {
+            vtcr &= !(3 << 14);
+        }
+        let switches = self.get(Reg::Sctlr) & SCTLR_FIELDS | (self.get(Reg::Hcr) & HCR_FIELDS) << 1;
+        [self.get(Reg::Mair), tcr, vtcr, switches]
     }
 }

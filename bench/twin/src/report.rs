@@ -4,14 +4,14 @@ use crate::attrs::{Attrs, Cache, Device, El, Kind, MemType, Policy, Share};
 use crate::machine::Answer;
 use crate::parse::{LineRefusal, Refusal};
 use crate::text::{Short, Text};
-use crate::walk::{Class, Fault, Item, Mapping, Outcome, Stage, What};
+use crate::walk::{Class, Fault, Item, Mapping, Stage, What};
 use std::io::{self, Write};
 
 /// The bytes of the buffer, and the most that the lines of one answer take.
 const ROOM: usize = 64 << 10;
 const MOST_OF_ANSWER: usize = 8 << 10;
 
-/// The end of the lines of a step's items: each of them was read at its moment.
+/// The end of the lines of items that were read at one moment.
 type Tail = Short<24>;
 
 /// A report that is written while a run goes on.
@@ -30,7 +30,7 @@ impl<W: Write> Report<W> {
 
     /// Tells an answer. What waits is handed on before there is no room for one more.
     pub fn answer(&mut self, answer: &Answer) -> io::Result<()> {
-        self.counts.add(&answer.outcome);
+        self.counts.add(answer);
         self.put(|text| text.answer(answer));
         if ROOM - self.used < MOST_OF_ANSWER {
             self.hand_on()?;
@@ -40,8 +40,8 @@ impl<W: Write> Report<W> {
 
     /// Ends the report with its summary.
     pub fn end(mut self) -> io::Result<()> {
-        let Counts { mapped, faulted } = self.counts;
-        self.put(|text| text.summary(mapped, faulted));
+        let counts = self.counts;
+        self.put(|text| text.summary(&counts));
         self.hand_on()?;
         self.out.flush()
     }
@@ -62,20 +62,31 @@ impl<W: Write> Report<W> {
     }
 }
 
-/// How many accesses came out how.
+/// How many accesses and prefetches came out how, how many answers were old and stale, and how many
+/// rows had to leave.
 #[derive(Clone, Copy, Default)]
 pub struct Counts {
     pub mapped: u32,
-    pub faulted: u32,
+    faulted: u32,
+    conflicts: u32,
+    prefetches: u32,
+    old: u32,
+    stale: u32,
+    evicted: u32,
 }
 
 impl Counts {
-    /// Counts an outcome.
-    pub fn add(&mut self, outcome: &Outcome) {
-        match outcome {
+    /// Counts an answer.
+    pub fn add(&mut self, answer: &Answer) {
+        match answer.outcome {
             Ok(_) => self.mapped += 1,
+            Err(fault) if fault.class == Class::Conflict => self.conflicts += 1,
             Err(_) => self.faulted += 1,
         }
+        self.prefetches += answer.is_prefetch as u32;
+        self.old += answer.marks.old as u32;
+        self.stale += answer.marks.stale as u32;
+        self.evicted += answer.marks.evicted;
     }
 }
 
@@ -103,17 +114,47 @@ impl Text<'_> {
     /// Puts the lines of an answer.
     fn answer(&mut self, answer: &Answer) {
         self.access(answer);
-        let tail = Tail::of(|text| {
-            text.put(b" moment ");
-            text.decimal(answer.moment);
-            text.put(b"\n");
-        });
-        for item in answer.trail.items() {
-            self.item(item, &tail);
+        if answer.marks.old {
+            self.old_items(answer.trail.items());
+        } else {
+            self.items(answer.trail.items(), answer.moment);
         }
         match &answer.outcome {
             Ok(mapping) => self.mapped(mapping),
+            Err(fault) if fault.class == Class::Conflict => {
+                self.conflict(answer.second.items(), *fault);
+            }
             Err(fault) => self.fault(*fault),
+        }
+    }
+
+    /// Puts the other trail of a conflict, and its last line.
+    fn conflict(&mut self, second: &[Item], fault: Fault) {
+        self.put(b"or\n");
+        self.old_items(second);
+        self.put(b"conflict fsc 0x");
+        self.hex_byte(fault.code());
+        self.put(b"\n");
+    }
+
+    /// Puts the lines of items that were read at one moment.
+    #[inline(always)]
+    fn items(&mut self, items: &[Item], moment: u32) {
+        let tail = Tail::of(|text| {
+            text.put(b" moment ");
+            text.decimal(moment);
+            text.put(b"\n");
+        });
+        for item in items {
+            self.item(item, &tail);
+        }
+    }
+
+    /// Puts the lines of items that were read at several moments.
+    #[inline(never)]
+    fn old_items(&mut self, items: &[Item]) {
+        for group in items.chunk_by(|one, next| one.moment == next.moment) {
+            self.items(group, group[0].moment);
         }
     }
 
@@ -124,7 +165,11 @@ impl Text<'_> {
         self.decimal(answer.moment);
         self.put(b" core ");
         self.digit(answer.core);
-        self.put(b" access 0x");
+        if answer.is_prefetch {
+            self.put(b" prefetch 0x");
+        } else {
+            self.put(b" access 0x");
+        }
         self.hex(access.va);
         match access.el {
             El::El0 => self.put(b" el0"),
@@ -146,7 +191,7 @@ impl Text<'_> {
     }
 
     /// Puts the line of an item.
-    #[inline]
+    #[inline(always)]
     fn item(&mut self, item: &Item, tail: &Tail) {
         self.put(&HEADS[item.stage as usize][item.what as usize][item.level as usize & 3]);
         self.hex(item.pa);
@@ -170,6 +215,7 @@ impl Text<'_> {
             Class::AccessFlag => self.put(b" access-flag"),
             Class::Permission => self.put(b" permission"),
             Class::External => self.put(b" external"),
+            Class::Conflict => {} // A conflict has a line of its own.
         }
         self.put(b" fsc 0x");
         self.hex_byte(fault.code());
@@ -233,15 +279,26 @@ impl Text<'_> {
         }
     }
 
-    /// Puts the last line of a report. Without rows no answer is old, and nothing is evicted.
-    fn summary(&mut self, mapped: u32, faulted: u32) {
+    /// Puts the last line of a report.
+    fn summary(&mut self, counts: &Counts) {
+        let answers = counts.mapped + counts.faulted + counts.conflicts;
         self.put(b"summary accesses ");
-        self.decimal(mapped + faulted);
-        self.put(b" prefetches 0 mapped ");
-        self.decimal(mapped);
+        self.decimal(answers - counts.prefetches);
+        self.put(b" prefetches ");
+        self.decimal(counts.prefetches);
+        self.put(b" mapped ");
+        self.decimal(counts.mapped);
         self.put(b" faulted ");
-        self.decimal(faulted);
-        self.put(b" conflicts 0 old 0 stale 0 evicted 0\n");
+        self.decimal(counts.faulted);
+        self.put(b" conflicts ");
+        self.decimal(counts.conflicts);
+        self.put(b" old ");
+        self.decimal(counts.old);
+        self.put(b" stale ");
+        self.decimal(counts.stale);
+        self.put(b" evicted ");
+        self.decimal(counts.evicted);
+        self.put(b"\n");
     }
 }
 

@@ -71,7 +71,7 @@ impl<'a> Text<'a> {
     }
 
     /// Puts a number in hexadecimal without leading zeros.
-    #[inline]
+    #[inline(always)]
     pub fn hex(&mut self, n: u64) {
         let (high, low) = ((n >> 32) as u32, n as u32);
         if high == 0 {

@@ -1,6 +1,7 @@
 //! Invalidations: the operations of TLBI and what their operands name.
 
 use crate::regs::{field, flag, Reg, Regs};
+use crate::rows::RowKind;
 
 /// An operation of TLBI without its broadcast.
 #[derive(Clone, Copy, PartialEq, Eq)]
@@ -76,6 +77,23 @@ impl Op {
         matches!(self, Op::Vae1 | Op::Vale1 | Op::Rvae1 | Op::Rvale1 | Op::Aside1)
     }
 
+    /// Whether it spares tables.
+    fn is_last_level(self) -> bool {
+        use Op::{Ipas2le1, Ripas2le1, Rvaale1, Rvale1, Vaale1, Vale1};
+        matches!(self, Vale1 | Vaale1 | Rvale1 | Rvaale1 | Ipas2le1 | Ripas2le1)
+    }
+
+    /// Whether it may cover rows of a kind.
+    pub fn reaches(self, kind: RowKind) -> bool {
+        use Op::{Alle1, Ipas2e1, Ipas2le1, Ripas2e1, Ripas2le1, Vmalls12e1};
+        let is_of_stage = match self {
+            Vmalls12e1 | Alle1 => true,
+            Ipas2e1 | Ipas2le1 | Ripas2e1 | Ripas2le1 => !kind.is_stage1(),
+            _ => kind.is_stage1(),
+        };
+        is_of_stage && !(kind.is_table() && self.is_last_level())
+    }
+
     /// Whether its operand names a range.
     fn names_range(self) -> bool {
         self.names_va_range() || matches!(self, Op::Ripas2e1 | Op::Ripas2le1)
@@ -100,12 +118,10 @@ impl Op {
 
 /// What a TLBI gives; `start` and `count` are bytes of address space.
 #[derive(Clone, Copy)]
-#[allow(dead_code)] // Without rows nothing asks for all of it.
 pub struct Invalidation {
     pub start: u64,
     pub count: u64,
     pub granule: Option<u32>,
-    pub issued: u32,
     pub asid: u16,
     pub vmid: u16,
     pub op: Op,
@@ -141,7 +157,7 @@ fn range(operand: u64, end: u64, signed: bool) -> (u64, u64) {
 
 impl Invalidation {
     /// What a TLBI of a core gives, by its registers in force.
-    pub fn new(operation: &Operation, regs: &Regs, issuer: u8, issued: u32) -> Invalidation {
+    pub fn new(operation: &Operation, regs: &Regs, issuer: u8) -> Invalidation {
         let &Operation { op, shared, at_el1, operand } = operation;
         let (start, count) = op.range(operand);
         let asid_mask = if regs.wide_asid() { 0xffff } else { 0xff };
@@ -150,12 +166,39 @@ impl Invalidation {
             start,
             count,
             granule: if op.names_range() { granule(operand) } else { None },
-            issued,
             asid: if op.names_asid() { (operand >> 48) as u16 & asid_mask } else { 0 },
             vmid: regs.vmid(),
             op,
             issuer,
             broadcast: shared || forced,
         }
+    }
+
+    /// Whether it covers rows of a VMID.
+    pub fn takes_vmid(&self, vmid: u16) -> bool {
+        self.op == Op::Alle1 || self.vmid == vmid
+    }
+
+    /// Whether it covers rows of an ASID, or of a global leaf.
+    pub fn takes_asid(&self, asid: u16, is_global: bool) -> bool {
+        if self.op == Op::Aside1 {
+            return !is_global && self.asid == asid;
+        }
+        !self.op.names_asid() || is_global || self.asid == asid
+    }
+
+    /// Whether it covers rows of tables of a granule.
+    pub fn takes_granule(&self, granule: u32) -> bool {
+        self.granule.is_none_or(|named| named == granule)
+    }
+
+    /// The last address that it names, None where it names none.
+    pub fn last(&self) -> Option<u64> {
+        (self.count > 0).then(|| self.start + (self.count - 1))
+    }
+
+    /// Whether it has an address in common with a region, which ends before `end`.
+    pub fn meets(&self, start: u64, end: u64) -> bool {
+        start < self.start + self.count && self.start < end && self.count > 0
     }
 }
