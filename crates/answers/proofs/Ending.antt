@@ -34,7 +34,8 @@ missing_weaker Absent m n o l k = k
 missing_weaker (Bytes bytes) m n o l k = k
 
 -- what stops a later part of a call stops the call
-pub stops_later : (holds held : List ℕ → Holding) (a b c m n o : List ℕ → ℕ) (f : Named) (status : Status) → held ≡ holds → NoneFalls a b → NoneFalls m n
+pub stops_later : (holds held : List ℕ → Holding) (a b c m n o : List ℕ → ℕ) (f : Named) (status : Status) → held ≡ holds → NoneFalls a b
+    → NoneFalls m n
     → Stops record { holds = held; faults = b; faults_after = c; missing = n; missing_after = o } f status
     → Stops record { holds = holds; faults = a; faults_after = c; missing = m; missing_after = o } f status
 stops_later holds held a b c m n o f (NoFile name) e l k s = (
@@ -56,7 +57,8 @@ error_due r a (Ok answer) status h d = absurd h
 error_due r a (Err e) status h d = subst (MayEnd r a) (sym h) d
 
 -- what comes over a dump that is open is due
-pub over_dump : (r : Reading) (a : ExplainWords) (regs : Regs) (held : List ℕ → Holding) (between : List ℕ → ℕ) (name : List ℕ) (result : Result Answer Status)
+pub over_dump : (r : Reading) (a : ExplainWords) (regs : Regs) (held : List ℕ → Holding) (between : List ℕ → ℕ) (name : List ℕ)
+    (result : Result Answer Status)
     → held ≡ r.holds → name ≡ a.dump → r.faults a.dump ≤ between a.dump → AreRegisters (r.holds a.registers) regs
     → IfOk result (λ x. IsTextOver (held name) regs a.access (answer_text x))
     → IfErr result (λ s. (s ≡ ReadFault) × Rose (between name) (r.faults_after name)) → IsDue r (Some (Explain a)) (due_of result)

@@ -21,7 +21,8 @@ dump_memory (Bytes bytes) segments = Some (dump_word bytes segments)
 
 -- what words that are read of one file keep, where m and n count the failed reads before and after: the files hold the
 -- same, the file's counts do not fall, and its faults rose where a read failed
-pub record Keeps {F : Type 0} (holds : F → List ℕ → Holding) (faults missing : F → List ℕ → ℕ) (name : List ℕ) (s t : F) (m n : ℕ) : Type 0 where
+pub record Keeps {F : Type 0} (holds : F → List ℕ → Holding) (faults missing : F → List ℕ → ℕ) (name : List ℕ) (s t : F)
+    (m n : ℕ) : Type 0 where
   pub held : holds t ≡ holds s
   pub later : faults s name ≤ faults t name
   pub ended : missing s name ≤ missing t name

@@ -1,5 +1,6 @@
 -- What clap makes of plain words for the positional arguments of each command.
-use Rattle.std.proofs.Common.{◌≡◌, ℕ, List, [], ◌∷◌, ◌++◌, Option, Some, None, Bool, true, false, refl, codes, eqb, not, sym, ◌∙◌, ap, ◌&&◌, nat_lt, length, suc, ◌≤◌, ◌<◌, arith, option_and_then}
+use Rattle.std.proofs.Common.{◌≡◌, ℕ, List, [], ◌∷◌, ◌++◌, Option, Some, None, Bool, true, false, refl, codes, eqb, not, sym}
+use Rattle.std.proofs.Common.{◌∙◌, ap, ◌&&◌, nat_lt, length, suc, ◌≤◌, ◌<◌, arith, option_and_then}
 use Rattle.std.proofs.lemmas.Bool.{false≢true}
 use Rattle.std.specs.List.{list_all}
 use Rattle.clap.specs.Walk.{Names, Row, Text, Walk, first_of, nothing_held, walk_from, walked}

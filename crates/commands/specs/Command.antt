@@ -1,5 +1,6 @@
 -- What the words of the command line ask for. Their form is this project's own rule.
-use Rattle.std.specs.Prelude.{ℕ, List, [], ◌∷◌, length, slice_index, Option, Some, None, Bool, true, false, ◌==◌, ◌&&◌, not, nat_lt, bytes_eq, codes}
+use Rattle.std.specs.Prelude.{ℕ, List, [], ◌∷◌, length, slice_index, Option, Some, None, Bool, true}
+use Rattle.std.specs.Prelude.{false, ◌==◌, ◌&&◌, not, nat_lt, bytes_eq, codes}
 use Rattle.std.specs.Prelude.{option_map, if◌then◌else◌}
 use Rattle.std.specs.List.{list_all}
 use Rattle.permissions.specs.declared.bits.El.{El}

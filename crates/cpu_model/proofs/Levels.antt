@@ -49,7 +49,8 @@ asks_after : {N I A B : Type 0} (P : N → Type 0) (t : Ask N I A) (f : A → As
 asks_after P (done a) f h g = g a
 asks_after P (ask n k) f h g = (h.0, λ i. asks_after P (k i) f (h.1 i) g)
 
-asks_go : {M I X A : Type 0} (P : M → Type 0) (stop : X → A) (f : I → Ask M I A) (r : Result I X) → ((i : I) → Asks P (f i)) → Asks P (go_on stop f r)
+asks_go : {M I X A : Type 0} (P : M → Type 0) (stop : X → A) (f : I → Ask M I A) (r : Result I X) → ((i : I) → Asks P (f i))
+    → Asks P (go_on stop f r)
 asks_go P stop f (Ok i) g = g i
 asks_go P stop f (Err x) g = tt
 
@@ -60,7 +61,8 @@ asks_finer Q P stop how (ask n k) h g =
     asks_after P (how n) (go_on stop (λ i. finer stop how (k i))) (g n h.0)
     (λ r. asks_go P stop (λ i. finer stop how (k i)) r (λ i. asks_finer Q P stop how (k i) (h.1 i) g))
 
-asks_step : {N L T : Type 0} (P : N → Type 0) (s : Lead L T) (below : T → Ask N Item (End L)) → ((t : T) → Asks P (below t)) → Asks P (step_then below s)
+asks_step : {N L T : Type 0} (P : N → Type 0) (s : Lead L T) (below : T → Ask N Item (End L)) → ((t : T) → Asks P (below t))
+    → Asks P (step_then below s)
 asks_step P (Down t) below h = h t
 asks_step P (Reached l) below h = tt
 asks_step P (Stopped f) below h = tt
@@ -162,7 +164,8 @@ abbrev IsLowEnd : {A : Type 0} → Fed Need A → Type 0
 IsLowEnd (ended a) = Unit {0}
 IsLowEnd (lacks n) = IsLow n
 
-low_by : {A : Type 0} (n : Need) (o : Option Item) (f : Item → Fed Need A) → IsLow n → ((i : Item) → IsLowEnd (f i)) → IsLowEnd (with_answer o (lacks n) f)
+low_by : {A : Type 0} (n : Need) (o : Option Item) (f : Item → Fed Need A) → IsLow n → ((i : Item) → IsLowEnd (f i))
+    → IsLowEnd (with_answer o (lacks n) f)
 low_by n None f h g = h
 low_by n (Some i) f h g = g i
 
@@ -185,7 +188,8 @@ run_line_by (lacks (stage2_base ipa)) l h = h
 run_line_by (lacks (word w)) l h = external_level w.left l
 
 -- the fresh walk's outcome has a line in a run
-pub fresh_run_line : (m : Memory) (regs : Regs) (a : Access) (k : ℕ) → HasLine (fresh_outcome m regs a k) → HasLine (printed true (fresh_outcome m regs a k))
+pub fresh_run_line : (m : Memory) (regs : Regs) (a : Access) (k : ℕ) → HasLine (fresh_outcome m regs a k)
+    → HasLine (printed true (fresh_outcome m regs a k))
 fresh_run_line m regs a k h =
     run_line_by (fed_end (given regs (side_of a.va) m k) (walk (config_of regs) true a))
     (lacks_low (given regs (side_of a.va) m k) (walk (config_of regs) true a) (asks_low (config_of regs) a)) h

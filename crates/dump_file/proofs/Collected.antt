@@ -1,5 +1,6 @@
 -- The segments of a table, one program header after another.
-use Rattle.std.proofs.Common.{◌≡◌, ℕ, suc, ◌+◌, ◌-◌, ◌*◌, ◌<◌, ◌≤◌, List, [], ◌∷◌, ◌++◌, take, drop, Result, Ok, Err, Some, None, if◌then◌else◌, Bool, true, false, nat_lt, refl, sym, ◌∙◌, ap, arith, append_assoc}
+use Rattle.std.proofs.Common.{◌≡◌, ℕ, suc, ◌+◌, ◌-◌, ◌*◌, ◌<◌, ◌≤◌, List, [], ◌∷◌, ◌++◌, take, drop, Result, Ok, Err}
+use Rattle.std.proofs.Common.{Some, None, if◌then◌else◌, Bool, true, false, nat_lt, refl, sym, ◌∙◌, ap, arith, append_assoc}
 use Rattle.std.proofs.Math.Seq.{drop-drop}
 use Rattle.std.proofs.lemmas.Bool.Decides.{nat_tests}
 use Rattle.dump_file.specs.DumpOf.{segment_of, segments_of, is_loaded, with_header, before}
@@ -20,7 +21,8 @@ pub behind_none : (due : Result (List Segment) DumpRefusal) → behind [] due �
 behind_none (Ok others) = refl
 behind_none (Err why) = refl
 
-behind_before : (front : List Segment) (s : Segment) (due : Result (List Segment) DumpRefusal) → behind front (before s due) ≡ behind (front ++ s ∷ []) due
+behind_before : (front : List Segment) (s : Segment) (due : Result (List Segment) DumpRefusal)
+    → behind front (before s due) ≡ behind (front ++ s ∷ []) due
 behind_before front s (Ok others) = ap Ok (sym (append_assoc front (s ∷ []) others))
 behind_before front s (Err why) = refl
 

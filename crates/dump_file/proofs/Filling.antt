@@ -1,5 +1,6 @@
 -- One more read of a loop that fills a slice.
-use Rattle.std.proofs.Common.{◌≡◌, ℕ, ◌+◌, ◌-◌, ◌<◌, ◌≤◌, List, ◌++◌, length, take, drop, sym, ◌∙◌, ap, subst, refl, suc, min, arith, take_all}
+use Rattle.std.proofs.Common.{◌≡◌, ℕ, ◌+◌, ◌-◌, ◌<◌, ◌≤◌, List, ◌++◌, length, take}
+use Rattle.std.proofs.Common.{drop, sym, ◌∙◌, ap, subst, refl, suc, min, arith, take_all}
 use Rattle.std.proofs.Math.Seq.{take-add, drop-drop}
 use Rattle.std.proofs.lemmas.List.{take-append-le, drop_at, length-take-le}
 use Rattle.std.proofs.lemmas.Slice.{take-put_mid_below}
@@ -24,7 +25,8 @@ front_none Untold at into = tt
 front_none Absent at into = refl
 front_none (Bytes bytes) at into = (omega arith, refl)
 
-pub front_more : (held : Holding) (before now at done k got : ℕ) (into rest : List ℕ) → done ≤ length into → got ≤ length rest → IsFront held at into done
+pub front_more : (held : Holding) (before now at done k got : ℕ) (into rest : List ℕ) → done ≤ length into → got ≤ length rest
+    → IsFront held at into done
     → IsRead held before now (at + done) rest got → IsFront held at (put_mid done k into rest) (done + got)
 front_more Untold before now at done k got into rest h m p r = tt
 front_more Absent before now at done k got into rest h m p r = omega arith
@@ -38,7 +40,8 @@ front_more (Bytes bytes) before now at done k got into rest h m p r = (
 
 module _ {F : Type 0} (read : F → ℕ → List ℕ → F → Type 0) (at done k got : ℕ) (into rest : List ℕ) (before between after : F) where
   -- one more read from where the last one ended
-  pub turns_more : done ≤ length into → got ≤ length rest → InTurns read at before (take done into) between → read between (at + done) (take got rest) after
+  pub turns_more : done ≤ length into → got ≤ length rest → InTurns read at before (take done into) between
+      → read between (at + done) (take got rest) after
       → InTurns read at before (take (done + got) (put_mid done k into rest)) after
   turns_more h m t r = record {
     turns = suc t.turns;

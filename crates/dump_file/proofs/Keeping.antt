@@ -1,5 +1,7 @@
 -- What a look-up and a put leave of kept pages, and parts of a page.
-use Rattle.std.proofs.Common.{◌≡◌, ℕ, ◌+◌, ◌-◌, ◌*◌, ◌/◌, ◌%◌, ◌<◌, ◌≤◌, List, ◌++◌, length, take, drop, min, Vec, Global, Result, Ok, Err, Some, Bool, true, false, nat_eq, Contains, refl, sym, ◌∙◌, ap, inl, inr, subst, arith, take_all}
+use Rattle.std.proofs.Common.{◌≡◌, ℕ, ◌+◌, ◌-◌, ◌*◌, ◌/◌, ◌%◌, ◌<◌, ◌≤◌, List, ◌++◌}
+use Rattle.std.proofs.Common.{length, take, drop, min, Vec, Global, Result, Ok, Err, Some, Bool, true, false, nat_eq, Contains}
+use Rattle.std.proofs.Common.{refl, sym, ◌∙◌, ap, inl, inr, subst, arith, take_all}
 use Rattle.std.specs.Result.{OnOk, OnErr, IfOk}
 use Rattle.std.specs.Map.{lookup}
 use Rattle.std.proofs.Math.Seq.{drop-drop, take-add}
@@ -15,15 +17,19 @@ use Rattle.dump_file.specs.Paging.{AreFull, AreAmong, IsAdded, IsPart, StayOf}
 same_number : (m n : ℕ) → nat_eq m n ≡ true → n ≡ m
 same_number m n h = grind (arith, nat_tests)
 
-pub found : (pages : List (ℕ × Vec ℕ Global)) (number : ℕ) (page : Vec ℕ Global) → Some page ≡ lookup (nat_eq number) pages → Contains pages (number, page)
+pub found : (pages : List (ℕ × Vec ℕ Global)) (number : ℕ) (page : Vec ℕ Global) → Some page ≡ lookup (nat_eq number) pages
+    → Contains pages (number, page)
 found pages number page e =
     let there = Contains-lookup (nat_eq number) pages page (sym e) in
     subst (λ (n : ℕ). Contains pages (n, page)) (same_number number there.0 there.2) there.1
 
-pub among_promoted : (c d : LruCache ℕ (Vec ℕ Global)) (number : ℕ) → d ≡ lru_cache (promoted (nat_eq number) c.entries) c.cap → AreAmong c.entries d.entries
-among_promoted c d number e page m = Contains-promoted (nat_eq number) c.entries page (subst (λ (x : LruCache ℕ (Vec ℕ Global)). Contains x.entries page) e m)
+pub among_promoted : (c d : LruCache ℕ (Vec ℕ Global)) (number : ℕ) → d ≡ lru_cache (promoted (nat_eq number) c.entries) c.cap
+    → AreAmong c.entries d.entries
+among_promoted c d number e page m = Contains-promoted (nat_eq number) c.entries page (subst
+    (λ (x : LruCache ℕ (Vec ℕ Global)). Contains x.entries page) e m)
 
-put_added : (c : LruCache ℕ (Vec ℕ Global)) (number : ℕ) (page : Vec ℕ Global) → IsAdded c.entries (put_entries nat_eq c number page) number page.items
+put_added : (c : LruCache ℕ (Vec ℕ Global)) (number : ℕ) (page : Vec ℕ Global) → IsAdded c.entries
+    (put_entries nat_eq c number page) number page.items
 put_added c number page p m = elim (Contains-put_entries nat_eq c number page p m) [
   | inl old ↦ inl old
   | inr new ↦ inr (elim new.1 [ inl same ↦ same | inr there ↦ same_number number p.0 there.2 ], ap (λ (x : Vec ℕ Global). x.items) new.0)
@@ -85,7 +91,8 @@ module _ (size : ℕ) (pages : List (ℕ × Vec ℕ Global)) (before now : ℕ) 
     part_short (Bytes bytes) at new f k = λ e h. absurd (omega (arith, f.0))
 
     -- a page whose bytes came
-    pub part_whole : (held : Holding) (offset at : ℕ) (new : List ℕ) → IsFilled held before now start page n → start + offset ≡ at → offset + length new ≤ n
+    pub part_whole : (held : Holding) (offset at : ℕ) (new : List ℕ) → IsFilled held before now start page n → start + offset ≡ at
+        → offset + length new ≤ n
         → new ≡ take (length new) (drop offset page) → IsPart held size pages before now at new true
     part_whole Untold offset at new f s k c = λ e. cc
     part_whole Absent offset at new f s k c = tt
@@ -97,7 +104,8 @@ module _ (size : ℕ) (pages : List (ℕ × Vec ℕ Global)) (before now : ℕ) 
           ∙ ap (take (length new)) (drop-drop offset start bytes ∙ ap (λ (m : ℕ). drop m bytes) s),
     )
 
-    page_is : (bytes : List ℕ) (number : ℕ) → IsFilled (Bytes bytes) before now start page n → size ≡ length bytes → start ≡ 4096 * number → length page ≤ n
+    page_is : (bytes : List ℕ) (number : ℕ) → IsFilled (Bytes bytes) before now start page n → size ≡ length bytes → start ≡ 4096 * number
+        → length page ≤ n
         → n ≤ length page → page ≡ page_of bytes number
     page_is bytes number f e s k b =
         let many : n ≡ min 4096 (length (drop start bytes)) = omega (arith, length-drop start bytes) in
@@ -120,7 +128,8 @@ module _ (size : ℕ) (pages : List (ℕ × Vec ℕ Global)) (before now : ℕ) 
       ]
 
 -- the same by pages of which each was kept before
-pub part_among : {E : Type 0} (r : Result Bool E) (held : Holding) (size : ℕ) (pages between : List (ℕ × Vec ℕ Global)) (before now at : ℕ) (new : List ℕ)
+pub part_among : {E : Type 0} (r : Result Bool E) (held : Holding) (size : ℕ) (pages between : List (ℕ × Vec ℕ Global)) (before now at : ℕ)
+    (new : List ℕ)
     → AreAmong pages between → IfOk r (IsPart held size between before now at new) → IfOk r (IsPart held size pages before now at new)
 part_among (Err e) held size pages between before now at new a h = tt
 part_among (Ok came) Untold size pages between before now at new a h = h

@@ -23,7 +23,9 @@ module _ (before now n : ℕ) (new : List ℕ) (size : ℕ) (l : length new ≡ 
   head_ok (Bytes bytes) t h f e = ap (λ (x : List ℕ). table_of x (length bytes)) (sym (head_is bytes f)) ∙ ap (table_of new) (sym h) ∙ e
 
   -- a header that is refused
-  pub head_err : (held : Holding) (why : DumpRefusal) → IsOfSize held size → IsFilled held before now 0 new n → table_of new size ≡ Err why → IsRefusal held why
+  pub head_err : (held : Holding) (why : DumpRefusal) → IsOfSize held size → IsFilled held before now 0 new n → table_of new size ≡ Err why
+      → IsRefusal held why
   head_err Untold why h f e = tt
   head_err Absent why h f e = h
-  head_err (Bytes bytes) why h f e = ap (dump_by bytes) (ap (λ (x : List ℕ). table_of x (length bytes)) (sym (head_is bytes f)) ∙ ap (table_of new) (sym h) ∙ e)
+  head_err (Bytes bytes) why h f e = ap (dump_by bytes) (ap (λ (x : List ℕ). table_of x (length bytes)) (sym (head_is bytes f))
+      ∙ ap (table_of new) (sym h) ∙ e)

@@ -9,7 +9,8 @@ use Rattle.dump_file.specs.Dumps.{IsWord}
 use Rattle.dump_file.specs.Paging.{IsWordAt, StayOf}
 use Rattle.dump_file.specs.declared.dump.Segment.{Segment}
 
-pub word_served : {E : Type 0} (r : Result (Option ℕ) E) (held : Holding) (dump : Opened) (before now pa : ℕ) (s : Segment) → serving dump.segments pa ≡ Some s
+pub word_served : {E : Type 0} (r : Result (Option ℕ) E) (held : Holding) (dump : Opened) (before now pa : ℕ) (s : Segment)
+    → serving dump.segments pa ≡ Some s
     → IfOk r (IsWordAt held dump.size dump.pages before now (file_place pa s)) → IfOk r (IsWord held dump before now pa)
 word_served (Err e) held dump before now pa s f h = tt
 word_served (Ok word) Untold dump before now pa s f h = λ e. inr (h e)
@@ -17,6 +18,7 @@ word_served (Ok word) Absent dump before now pa s f h = tt
 word_served (Ok word) (Bytes bytes) dump before now pa s f h = λ st.
     h st.size st.pages ∙ ap (option_map (λ (t : Segment). little_number 8 (drop (file_place pa t) bytes))) (sym f)
 
-pub stands_after : (bytes : List ℕ) (dump : Opened) (pages : List (ℕ × Vec ℕ Global)) → StayOf (Bytes bytes) dump.size dump.pages pages → StandsFor bytes dump
+pub stands_after : (bytes : List ℕ) (dump : Opened) (pages : List (ℕ × Vec ℕ Global)) → StayOf (Bytes bytes) dump.size dump.pages pages
+    → StandsFor bytes dump
     → StandsFor bytes (record dump { pages = pages })
 stands_after bytes dump pages h st = record { size = st.size; segments = st.segments; pages = h st.size st.pages }

@@ -1,5 +1,6 @@
 -- One call of a sink after another.
-use Rattle.std.proofs.Common.{◌≡◌, ℕ, ◌+◌, ◌-◌, ◌^◌, ◌<◌, ◌≤◌, List, [], ◌++◌, length, take, drop, min, Option, Some, None, Result, Ok, Err, IsOk, IsErr, sym, ◌∙◌, ap, refl, append_assoc, append-nil, arith, subst, get_or, flat_map}
+use Rattle.std.proofs.Common.{◌≡◌, ℕ, ◌+◌, ◌-◌, ◌^◌, ◌<◌, ◌≤◌, List, [], ◌++◌, length, take, drop, min, Option, Some, None}
+use Rattle.std.proofs.Common.{Result, Ok, Err, IsOk, IsErr, sym, ◌∙◌, ap, refl, append_assoc, append-nil, arith, subst, get_or, flat_map}
 use Rattle.std.proofs.lemmas.List.{take-append-drop, drop_more, take-append-le}
 use Rattle.std.proofs.lemmas.Grind.{flat_map-append, common_steps}
 use Rattle.std.proofs.Math.Seq.{take-append-add}
@@ -43,7 +44,8 @@ goes_on a b c (Ok x) (Ok y) s t h v w = appended_then a b c s t v w
 goes_on a b c (Ok x) (Err y) s t h v w = (length s + w.0, rw back_take (appended_then a b c s (take w.0 t) v w.1))
 
 -- some text was written, and then a call fails
-pub stops : {T U E : Type 0} (a b c : Option (List ℕ)) (r : Result T E) (q : Result U E) (s t u : List ℕ) → IsErr r → IsErr q → Appended a b s → Wrote b c r t
+pub stops : {T U E : Type 0} (a b c : Option (List ℕ)) (r : Result T E) (q : Result U E) (s t u : List ℕ) → IsErr r → IsErr q → Appended a b s
+    → Wrote b c r t
     → Wrote a c q (s ++ (t ++ u))
 stops {T} {U} {E} a b c r q s t u h k v w = goes_on {T = Unit {0}} {U = U} {E = E} a b c (Ok tt) q s (t ++ u) refl v (fails_first b c r q t u h k w)
 
@@ -70,7 +72,8 @@ text_at f xs i d h =
     ∙ ap (flat_map f) (take-append-drop i xs)
 
 -- a loop that writes each element of a list stops at one
-pub loop_stops : {X T U E : Type 0} (a b c : Option (List ℕ)) (r : Result T E) (q : Result U E) (f : X → List ℕ) (xs : List X) (i : ℕ) (d : X) → i < length xs
+pub loop_stops : {X T U E : Type 0} (a b c : Option (List ℕ)) (r : Result T E) (q : Result U E) (f : X → List ℕ) (xs : List X) (i : ℕ) (d : X)
+    → i < length xs
     → IsErr r → IsErr q → Appended a b (flat_map f (take i xs)) → Wrote b c r (f (get_or xs i d)) → Wrote a c q (flat_map f xs)
 loop_stops a b c r q f xs i d h k m v w =
     same_text a c q _ _ (text_at f xs i d h) (stops a b c r q (flat_map f (take i xs)) (f (get_or xs i d)) (flat_map f (drop (i + 1) xs)) k m v w)

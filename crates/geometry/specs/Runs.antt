@@ -1,6 +1,7 @@
 -- Runs of entries with the Contiguous bit (DDI 0487, the Contiguous bit). Which levels have a run, and of how many
 -- entries, is a profile of this project.
-use Rattle.std.specs.Prelude.{ℕ, ◌+◌, ◌-◌, ◌*◌, ◌/◌, ◌%◌, ◌^◌, List, [], ◌∷◌, Option, Some, None, Bool, false, ◌==◌, ◌&&◌, nat_le, if◌then◌else◌}
+use Rattle.std.specs.Prelude.{ℕ, ◌+◌, ◌-◌, ◌*◌, ◌/◌, ◌%◌, ◌^◌, List, [], ◌∷◌, Option, Some}
+use Rattle.std.specs.Prelude.{None, Bool, false, ◌==◌, ◌&&◌, nat_le, if◌then◌else◌}
 use Rattle.geometry.specs.Tables.{class_of, row_at}
 
 -- granule, levels left, and the class of a run: it covers 2 ^ class bytes of input

@@ -1,6 +1,7 @@
 -- Levels, indices and sizes of translation tables with a granule of 2 ^ g bytes (DDI 0487, VMSAv8-64 translation
 -- table lookup). A level is told by how many levels are left below it: 3 minus its number.
-use Rattle.std.specs.Prelude.{◌≡◌, ◌⊎◌, ℕ, ◌+◌, ◌-◌, ◌*◌, ◌/◌, ◌%◌, ◌^◌, List, [], ◌∷◌, Option, Some, None, Bool, ◌==◌, ◌&&◌, nat_le}
+use Rattle.std.specs.Prelude.{◌≡◌, ◌⊎◌, ℕ, ◌+◌, ◌-◌, ◌*◌, ◌/◌, ◌%◌, ◌^◌, List, []}
+use Rattle.std.specs.Prelude.{◌∷◌, Option, Some, None, Bool, ◌==◌, ◌&&◌, nat_le}
 use Rattle.std.specs.Prelude.{if◌then◌else◌, option_map, ℤ, pos, negsuc, ◌-ℤ◌}
 
 -- 4 KB, 16 KB or 64 KB

@@ -1,5 +1,6 @@
 -- The size of a start table, and bases that fit.
-use Rattle.std.proofs.Common.{◌≡◌, ℕ, ◌*◌, ◌/◌, ◌%◌, ◌^◌, ◌<◌, ◌≤◌, arith, Bool, true, false, refl, sym, ap, ◌∙◌, ◌-◌}
+use Rattle.std.proofs.Common.{◌≡◌, ℕ, ◌*◌, ◌/◌, ◌%◌, ◌^◌, ◌<◌, ◌≤◌, arith}
+use Rattle.std.proofs.Common.{Bool, true, false, refl, sym, ap, ◌∙◌, ◌-◌}
 use Rattle.std.specs.Prelude.{◌&&◌}
 use Rattle.std.proofs.Math.Nat.{div-add-mod, mul-mod_right}
 use Rattle.std.proofs.Math.Pow.{pow_mono}

@@ -1,5 +1,6 @@
 -- What an event does to one core, and to each.
-use Rattle.std.proofs.Common.{◌≡◌, ℕ, ◌<◌, Bool, true, false, cond, List, [], ◌∷◌, length, get_or, set, refl, sym, ap, subst, inl, inr, Option, Some, None}
+use Rattle.std.proofs.Common.{◌≡◌, ℕ, ◌<◌, Bool, true, false, cond, List, [], ◌∷◌, length}
+use Rattle.std.proofs.Common.{get_or, set, refl, sym, ap, subst, inl, inr, Option, Some, None}
 use Rattle.std.specs.Prelude.{nat_lt}
 use Rattle.std.proofs.lemmas.Bool.{cases_eq, eq-eqb, ne_eqb}
 use Rattle.std.proofs.lemmas.Option.{none-some}
@@ -21,7 +22,8 @@ use Rattle.table_reads.specs.Memory.{Memory}
 use Rattle.machine_spec.specs.Header.{Header}
 use Rattle.machine_spec.specs.Moments.{settled, drained, queued, banked, stored}
 use Rattle.machine_spec.specs.Invalidations.{is_at_el1, issued_by}
-use Rattle.machine_spec.specs.Machine.{Core, World, no_core, with_bank, most_held, delivered_by, delivered, posted, mailed, mailed_by, finished, regs_in, accessed, acted, moved, answer_to}
+use Rattle.machine_spec.specs.Machine.{Core, World, no_core, with_bank, most_held, delivered_by, delivered, posted, mailed}
+use Rattle.machine_spec.specs.Machine.{mailed_by, finished, regs_in, accessed, acted, moved, answer_to}
 use Rattle.machine.specs.Events.{asked_of}
 use Rattle.machine.specs.Seats.{SeatState, no_seat, IsSeatOf, AreSeatsOf}
 
@@ -33,7 +35,8 @@ pub seat_at : (h : Header) (cores : List Core) (xs : List SeatState) (j : ℕ) (
 seat_at h cores xs j x lt are = subst (IsSeatOf h j (get_or cores j no_core)) (sym (get_or_default xs j x no_seat lt)) (are.each j lt)
 
 -- one seat is what a change makes of its core, which leaves each other core
-pub one_at : (h : Header) (cores : List Core) (f : ℕ → Core → Core) (xs : List SeatState) (j : ℕ) (x new : SeatState) → j < length xs → AreSeatsOf h cores xs
+pub one_at : (h : Header) (cores : List Core) (f : ℕ → Core → Core) (xs : List SeatState) (j : ℕ) (x new : SeatState) → j < length xs
+    → AreSeatsOf h cores xs
     → ((v : Core) → IsSeatOf h j v (get_or xs j x) → IsSeatOf h j (f j v) new) → ((c : ℕ) (v : Core) → (j ≡ c → ⊥) → f c v ≡ v)
     → (c : ℕ) → c < length (set xs j new) → IsSeatOf h c (f c (get_or cores c no_core)) (get_or (set xs j new) c no_seat)
 one_at h cores f xs j x new lt are own other c in_set =
@@ -104,7 +107,8 @@ module _ (h : Header) (w : World) (j : ℕ) where
   unfolding acted banked
   dsb_each kind c v = refl
 
-  pub tlbi_each : (from : Origin) (op : Op) (shared : Bool) (operand : ℕ) (i : Inval) → i ≡ inval_of op shared (is_at_el1 from) operand (regs_in w j) j w.step
+  pub tlbi_each : (from : Origin) (op : Op) (shared : Bool) (operand : ℕ) (i : Inval) → i
+      ≡ inval_of op shared (is_at_el1 from) operand (regs_in w j) j w.step
       → (c : ℕ) (v : Core) → mailed_by c v (Some i) ≡ moved h w (Tlbi j from op shared operand) c v
   unfolding acted banked issued_by
   tlbi_each from op shared operand i e c v = rw (← e) (reached_same v i (reaches_core i c))

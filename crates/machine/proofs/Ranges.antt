@@ -1,5 +1,6 @@
 -- The ranges of a trace are those of a memory.
-use Rattle.std.proofs.Common.{◌≡◌, ◌≤◌, ◌+◌, ◌*◌, ◌/◌, ◌^◌, ℕ, Bool, true, false, not, cond, List, [], ◌∷◌, ◌++◌, length, refl, ap, ◌∙◌, Option, Some, None, arith}
+use Rattle.std.proofs.Common.{◌≡◌, ◌≤◌, ◌+◌, ◌*◌, ◌/◌, ◌^◌, ℕ, Bool, true, false, not, cond, List, []}
+use Rattle.std.proofs.Common.{◌∷◌, ◌++◌, length, refl, ap, ◌∙◌, Option, Some, None, arith}
 use Rattle.std.specs.Prelude.{◌&&◌, ◌||◌, nat_lt, nat_le, is_some}
 use Rattle.std.specs.List.{list_any}
 use Rattle.std.proofs.Math.Path.{fun_ext}
@@ -17,7 +18,8 @@ pub same_zeros : (ranges : List (ℕ × ℕ)) → words_at_first ranges ≡ zero
 same_zeros [] = fun_ext (λ p. refl)
 same_zeros (r ∷ ranges) = fun_ext (λ p. ap (λ m. cond (nat_le r.0 p && nat_le (p + 8) (r.0 + r.1)) (Some 0) (m p)) (same_zeros ranges))
 
-found_at : (words : List ℕ) (aligned b : Bool) (i : ℕ) (rest : Bool) (later : Option ℕ) → (rest ≡ true → is_some (seen_at words aligned later) ≡ true)
+found_at : (words : List ℕ) (aligned b : Bool) (i : ℕ) (rest : Bool) (later : Option ℕ)
+    → (rest ≡ true → is_some (seen_at words aligned later) ≡ true)
     → (b || rest) ≡ true → is_some (seen_at words aligned (cond b (Some i) later)) ≡ true
 found_at words aligned true i rest later next h = refl
 found_at words aligned false i rest later next h = next h
@@ -62,7 +64,8 @@ no_overlap : (earlier ranges : List (ℕ × ℕ)) → RangesFitBehind earlier ra
 no_overlap earlier [] h = refl
 no_overlap earlier (r ∷ ranges) h = rw (none_shares 0 r earlier h.0.apart) (no_overlap (earlier ++ r ∷ []) ranges h.1)
 
-bytes_fit : (earlier ranges : List (ℕ × ℕ)) → bytes_of earlier ≤ most_memory → RangesFitBehind earlier ranges → bytes_of earlier + bytes_of ranges ≤ most_memory
+bytes_fit : (earlier ranges : List (ℕ × ℕ)) → bytes_of earlier ≤ most_memory → RangesFitBehind earlier ranges
+    → bytes_of earlier + bytes_of ranges ≤ most_memory
 bytes_fit earlier [] few h = omega (arith, few)
 bytes_fit earlier (r ∷ ranges) few h =
     let sum = h.0.sum in

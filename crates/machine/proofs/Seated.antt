@@ -1,5 +1,6 @@
 -- A core with its inbox, tied to a core of the definitions before and behind what it does.
-use Rattle.std.proofs.Common.{◌≡◌, ◌⊎◌, inl, inr, ℕ, ◌+◌, ◌<◌, ◌≤◌, Bool, true, false, cond, List, [], ◌∷◌, length, get_or, set, take, refl, sym, ap, ◌∙◌, subst, arith}
+use Rattle.std.proofs.Common.{◌≡◌, ◌⊎◌, inl, inr, ℕ, ◌+◌, ◌<◌, ◌≤◌, Bool, true, false, cond, List, []}
+use Rattle.std.proofs.Common.{◌∷◌, length, get_or, set, take, refl, sym, ap, ◌∙◌, subst, arith}
 use Rattle.std.specs.Prelude.{fold, filter, if◌then◌else◌}
 use Rattle.std.proofs.Math.Nat.{eq-or-lt_of_le}
 use Rattle.std.proofs.lemmas.List.{get_or-set_same, get_or-set_other, get_or_default, take_more}
@@ -31,7 +32,12 @@ pub visit_is : (h : Header) (c : ℕ) (v : Core) (seat : SeatState) (k : ℕ) (m
     → visit_at h seat.core v.cache m k ≡ visit_of h (world_with k m cores) c v
 visit_is h c v seat k m cores s =
     ap (λ (n : ℕ). record (visit_at h seat.core v.cache m k) { number = n }) s.number
-    ∙ ap (λ (b : Bank). record { header = h; number = c; place = record { regs = b.regs; memory = m; rows = v.cache.rows; step = k }; cache = v.cache }) s.bank
+    ∙ ap (λ (b : Bank). record {
+      header = h;
+      number = c;
+      place = record { regs = b.regs; memory = m; rows = v.cache.rows; step = k };
+      cache = v.cache;
+    }) s.bank
 
 -- INVALIDATIONS THAT A DSB COMPLETES
 

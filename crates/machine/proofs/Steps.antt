@@ -1,5 +1,6 @@
 -- One step keeps log and machine those of the trace's first events.
-use Rattle.std.proofs.Common.{◌≡◌, ℕ, ◌<◌, ◌+◌, List, [], ◌∷◌, ◌++◌, length, get_or, take, replicate, refl, sym, ap, ◌∙◌, subst, Option, Some, arith}
+use Rattle.std.proofs.Common.{◌≡◌, ℕ, ◌<◌, ◌+◌, List, [], ◌∷◌, ◌++◌, length, get_or, take}
+use Rattle.std.proofs.Common.{replicate, refl, sym, ap, ◌∙◌, subst, Option, Some, arith}
 use Rattle.std.specs.Prelude.{slice_get}
 use Rattle.std.proofs.lemmas.List.{take_more, take_at, length-append, get_or_default}
 use Rattle.std.proofs.lemmas.List.Elements.{All-nil, All-push, All-take}
@@ -78,8 +79,10 @@ run_at_first t p seats m are = record {
 }
 
 -- the same where a body names the parts by other, equal terms
-pub opens : (t : Parts) (p : Held) (seats : List SeatState) (log : List Step) (ranges : List (ℕ × ℕ)) (cores : ℕ) (size : Size) (policy : Policy) → log ≡ []
-    → ranges ≡ t.header.ranges → cores ≡ t.header.cores → size ≡ t.header.size → policy ≡ t.header.policy → memory_of p ≡ words_at_first ranges
+pub opens : (t : Parts) (p : Held) (seats : List SeatState) (log : List Step) (ranges : List (ℕ × ℕ)) (cores : ℕ) (size : Size) (policy : Policy)
+    → log ≡ []
+    → ranges ≡ t.header.ranges → cores ≡ t.header.cores → size ≡ t.header.size → policy ≡ t.header.policy
+    → memory_of p ≡ words_at_first ranges
     → ((h : Header) → h.size ≡ size → h.policy ≡ policy → AreSeatsOf h (replicate cores no_core) seats)
     → IsRun (record { trace = t; log = log; phys = p; seats = seats })
 opens t p seats log ranges cores size policy el er ec es ep memory each =
@@ -139,7 +142,8 @@ module _ (laws : RunsAreAllowed) (t : Parts) (p : Held) (seats : List SeatState)
 
   world_is : world_with (length log) (memory_of p) w.cores ≡ w
   world_is =
-      ap (λ (k : ℕ). world_with k (memory_of p) w.cores) (sym run.machine.step) ∙ ap (λ (m : Memory). world_with w.step m w.cores) (sym run.machine.memory)
+      ap (λ (k : ℕ). world_with k (memory_of p) w.cores) (sym run.machine.step) ∙ ap (λ (m : Memory). world_with w.step m w.cores)
+      (sym run.machine.memory)
 
   is_step : done ≡ step_of h w e
   is_step = ap (λ (x : Option Answer). record { event = e; answer = x }) (did.answer h w.cores run.machine.seats) ∙ ap (λ x. step_of h x e) world_is

@@ -1,5 +1,6 @@
 -- Rows that come, leave and move: each row behind a step is one before or one that was made, and rows stay told apart.
-use Rattle.std.proofs.Common.{◌≡◌, ℕ, ◌+◌, Bool, true, false, not, ◌&&◌, ◌||◌, cond, List, [], ◌∷◌, ◌++◌, length, ◌⊎◌, inl, inr, refl, sym, ap, ◌∙◌, subst}
+use Rattle.std.proofs.Common.{◌≡◌, ℕ, ◌+◌, Bool, true, false, not, ◌&&◌, ◌||◌, cond, List, [], ◌∷◌}
+use Rattle.std.proofs.Common.{◌++◌, length, ◌⊎◌, inl, inr, refl, sym, ap, ◌∙◌, subst}
 use Rattle.std.specs.Prelude.{◌==◌, nat_le, fold, filter}
 use Rattle.std.specs.List.{list_any}
 use Rattle.std.proofs.lemmas.Bool.{eq-eqb, both_ways, or_parts, not-true}
@@ -33,7 +34,8 @@ same_region_self : (r : Region) → same_region r r ≡ true
 same_region_self r = rw (equal_self r.class, equal_self r.start) refl
 
 -- rows of equal kinds, regions, keys and global flags would serve the same
-pub same_key_from : (r x : Row) → r.kind ≡ x.kind → r.region ≡ x.region → r.key.vmid ≡ x.key.vmid → r.key.asid ≡ x.key.asid → r.global ≡ x.global
+pub same_key_from : (r x : Row) → r.kind ≡ x.kind → r.region ≡ x.region → r.key.vmid ≡ x.key.vmid → r.key.asid ≡ x.key.asid
+    → r.global ≡ x.global
     → r.key.config ≡ x.key.config → same_key r x ≡ true
 same_key_from r x kd rg vm ad gl cf =
     let a : same_kind r.kind x.kind ≡ true = subst (λ z. same_kind r.kind z ≡ true) kd (kind_itself r.kind) in
@@ -99,7 +101,8 @@ module _ (olds : List Row) (apart : AllApart olds) where
 
 -- by whether its key is live, and whether its set is full
 abbrev added_by : Bool → Bool → Cache → (Row → Bool) → ℕ → Row → Cache
-added_by b d l p n r = cond b l (cond d (record { rows = without p l.rows n ++ r ∷ []; evictions = l.evictions + 1 }) (record l { rows = l.rows ++ r ∷ [] }))
+added_by b d l p n r = cond b l (cond d (record { rows = without p l.rows n ++ r ∷ []; evictions = l.evictions + 1 })
+    (record l { rows = l.rows ++ r ∷ [] }))
 
 any_not : (p : Row → Bool) (rows : List Row) (x : Row) → list_any p rows ≡ false → In x rows → p x ≡ false
 any_not p [] x h i = absurd i
@@ -179,7 +182,8 @@ other_asid g x old new unmatched key held lo ln cf vm rg gl =
     (n.0, λ e. both_ways (old.key.asid == k.asid) n.1 (eq-eqb old.key.asid k.asid (e ∙ ap (λ (z : Key). z.asid) key)))
 
 -- two that were made in one step would serve the same
-pub made_same : (k : Maker) (class x : ℕ) (ms : List Mark) (r s : Row) → r.kind ≡ s.kind → IsMade1 k class x ms r → IsMade1 k class x ms s → same_key r s ≡ true
+pub made_same : (k : Maker) (class x : ℕ) (ms : List Mark) (r s : Row) → r.kind ≡ s.kind → IsMade1 k class x ms r → IsMade1 k class x ms s
+    → same_key r s ≡ true
 made_same k class x ms r s kd a b =
     let key : r.key ≡ s.key = a.key_is ∙ sym b.key_is in
     same_key_from r s kd (a.region_is ∙ sym b.region_is) (ap (λ (z : Key). z.vmid) key) (ap (λ (z : Key). z.asid) key)

@@ -1,5 +1,6 @@
 -- What the rows of stage 2 give: each chain begins well.
-use Rattle.std.proofs.Common.{◌≡◌, ℕ, zero, suc, Bool, true, false, cond, List, [], ◌∷◌, length, inl, inr, refl, sym, ap, ◌∙◌, subst, Option, Some, None, arith}
+use Rattle.std.proofs.Common.{◌≡◌, ℕ, zero, suc, Bool, true, false, cond, List, [], ◌∷◌, length, inl}
+use Rattle.std.proofs.Common.{inr, refl, sym, ap, ◌∙◌, subst, Option, Some, None, arith}
 use Rattle.std.proofs.lemmas.List.{take_all}
 use Rattle.std.proofs.lemmas.Bool.{both_ways}
 use Rattle.sysregs.specs.Registers.{config_of, asid_of, vmid_of}
@@ -78,7 +79,8 @@ module _ (v : View) (w : Core) (f : Facts v w) where
     pub config_same : r.key.config ≡ config_at v
     pub vmid_same : r.key.vmid ≡ vmid_of (regs_after v.core v.log)
 
-  held_now : (r : Row) → Same r → (m : Mark) → IsHeld v r.key.config r.key.vmid m → IsHeld v (config_of (regs_when v (now v))) (vmid_of (regs_when v (now v))) m
+  held_now : (r : Row) → Same r → (m : Mark) → IsHeld v r.key.config r.key.vmid m → IsHeld v (config_of (regs_when v (now v)))
+      (vmid_of (regs_when v (now v))) m
   held_now r s m h =
       subst (λ n. IsHeld v (config_of (regs_when v (now v))) n m) (s.vmid_same ∙ sym (ap vmid_of (regs_now v)))
       (subst (λ c. IsHeld v c r.key.vmid m) (s.config_same ∙ sym (ap config_of (regs_now v))) h)
@@ -90,7 +92,8 @@ module _ (v : View) (w : Core) (f : Facts v w) where
       (subst (λ c. IsKeptItem v c r.key.vmid m u) (s.config_same ∙ sym (ap config_of (regs_now v))) h)
 
   -- what is stored in a row that matches is good now
-  pub stored_good : (r : Row) → Same r → (m : Mark) (o : Option ℕ) → (has_asid m ≡ true → r.global ≡ false → r.key.asid ≡ asid_of (regs_after v.core v.log)) →
+  pub stored_good : (r : Row) → Same r → (m : Mark) (o : Option ℕ) → (has_asid m ≡ true → r.global ≡ false
+      → r.key.asid ≡ asid_of (regs_after v.core v.log)) →
       IsStored v w.inbox r m o → Good v m o
   stored_good r s m None asid h = (
     record {
@@ -254,7 +257,8 @@ module _ (v : View) (w : Core) (f : Facts v w) where
           leaf_start r p x (fresh_of (place_of v w.cache.rows) a (stage2_base x)) r.trail h.0 h.1
       by_rows p x (r ∷ s ∷ more) e =
           let t = matching (matches leaf2 (key_of (regs_after v.core v.log)) x) w.cache.rows in
-          let apart : AllApart (r ∷ s ∷ more) = subst AllApart e (apart_matching (matches leaf2 (key_of (regs_after v.core v.log)) x) w.cache.rows f.apart) in
+          let apart : AllApart (r ∷ s ∷ more) = subst AllApart e (apart_matching (matches leaf2
+          (key_of (regs_after v.core v.log)) x) w.cache.rows f.apart) in
           let ir : In r t = subst (In r) (sym e) (inl refl) in
           let is : In s t = subst (In s) (sym e) (inr (inl refl)) in
           (whole_of p x r (leaf_of_row p x r ir), whole_of p x s (leaf_of_row p x s is), two_differ p x r s (apart.0 s (inl refl)) ir is)

@@ -1,5 +1,6 @@
 -- The row of a stage 1 leaf with the stage 2 of its output has its fact behind the step, and is the one of its kind.
-use Rattle.std.proofs.Common.{◌≡◌, ℕ, ◌+◌, ◌/◌, ◌^◌, Bool, true, false, not, ◌&&◌, ◌||◌, cond, List, [], ◌∷◌, ◌++◌, inl, inr, refl, sym, ap, ◌∙◌, subst, Option, Some, None, arith}
+use Rattle.std.proofs.Common.{◌≡◌, ℕ, ◌+◌, ◌/◌, ◌^◌, Bool, true, false, not, ◌&&◌, ◌||◌, cond, List, []}
+use Rattle.std.proofs.Common.{◌∷◌, ◌++◌, inl, inr, refl, sym, ap, ◌∙◌, subst, Option, Some, None, arith}
 use Rattle.std.specs.Option.{option_or}
 use Rattle.std.proofs.lemmas.Bool.{eqb-true, and_parts}
 use Rattle.std.proofs.lemmas.Option.{same_Some}
@@ -27,11 +28,13 @@ use Rattle.walk_laws.proofs.Shifts.{of_fields, same_side}
 use Rattle.tagged_tlb.specs.declared.row.Kind.{Kind}
 use Rattle.tagged_tlb.specs.declared.row.Kind.TheVariants.{Leaf1, Table1, Leaf2, Table2}
 use Rattle.machine_spec.specs.Moments.{regs_after}
-use Rattle.machine_spec.specs.Marks.{Part, nothing, table, leaf_of_stage1, leaf_of_stage2, Mark, mark, marks, is_first, is_table, is_leaf, is_global, is_leaf1, has_asid, tag_by}
+use Rattle.machine_spec.specs.Marks.{Part, nothing, table, leaf_of_stage1, leaf_of_stage2, Mark, mark, marks, is_first}
+use Rattle.machine_spec.specs.Marks.{is_table, is_leaf, is_global, is_leaf1, has_asid, tag_by}
 use Rattle.machine_spec.specs.Uses.{AllUsed}
 use Rattle.machine_spec.specs.Kept.{View, now, IsHeld}
 use Rattle.tagged_tlb.specs.declared.row.Row.{Row}
-use Rattle.machine_spec.specs.Made.{Maker, key_of, key_for, made_in, is_read_now, last_first, rows_of, leaf_row, leaf_rows, combined_rows, numbered, rows_made, chain_with}
+use Rattle.machine_spec.specs.Made.{Maker, key_of, key_for, made_in, is_read_now, last_first, rows_of, leaf_row}
+use Rattle.machine_spec.specs.Made.{leaf_rows, combined_rows, numbered, rows_made, chain_with}
 use Rattle.machine_laws.proofs.Trees.{IsOn, AllSecond}
 use Rattle.machine_laws.proofs.Facts.{In, sided, regime_for, IsStored, IsRow}
 use Rattle.machine_laws.proofs.Laws.{FirstLeaf, Laws}
@@ -61,7 +64,8 @@ all_second : (ms : List Mark) → last_first ms ≡ None → AllSecond ms
 all_second [] h = tt
 all_second (x ∷ ms) h = no_first x ms (last_first ms) (is_first x) refl refl h (all_second ms)
 
-lift : (x : Mark) (ms : List Mark) (m : Mark) (o : Option Mark) (b : Bool) → last_first ms ≡ o → is_first x ≡ b → option_or o (cond b (Some x) None) ≡ Some m
+lift : (x : Mark) (ms : List Mark) (m : Mark) (o : Option Mark) (b : Bool) → last_first ms ≡ o → is_first x ≡ b
+    → option_or o (cond b (Some x) None) ≡ Some m
     → (last_first ms ≡ Some m → LastFirst ms m) → LastFirst (x ∷ ms) m
 lift x ms m (Some y) b e f h rec = let r = rec (e ∙ h) in record { pre = x ∷ r.pre; out = r.out; is = ap (λ v. x ∷ v) r.is; second = r.second }
 lift x ms m None true e f h rec = record { pre = []; out = ms; is = ap (λ (v : Mark). v ∷ ms) (same_Some x m h); second = all_second ms e }

@@ -1,5 +1,6 @@
 -- Each event keeps the facts of each core.
-use Rattle.std.proofs.Common.{◌≡◌, ℕ, zero, suc, ◌+◌, ◌<◌, Bool, true, false, not, cond, List, [], ◌∷◌, ◌++◌, length, inl, inr, refl, sym, ap, ◌∙◌, subst, Option, Some, arith}
+use Rattle.std.proofs.Common.{◌≡◌, ℕ, zero, suc, ◌+◌, ◌<◌, Bool, true, false, not, cond, List, [], ◌∷◌}
+use Rattle.std.proofs.Common.{◌++◌, length, inl, inr, refl, sym, ap, ◌∙◌, subst, Option, Some, arith}
 use Rattle.std.specs.Prelude.{filter, fold, get_or, nat_lt, ◌==◌}
 use Rattle.std.proofs.lemmas.List.{length-append}
 use Rattle.std.proofs.lemmas.Bool.{cases_Bool, both_ways, not-true}
@@ -21,7 +22,8 @@ use Rattle.machine_spec.specs.Kept.{View, now}
 use Rattle.tagged_tlb.specs.declared.row.Row.{Row}
 use Rattle.tagged_tlb.specs.Sets.{Cache, filled}
 use Rattle.machine_spec.specs.Served.{Place, Reply, Halt, came, clash, served}
-use Rattle.machine_spec.specs.Machine.{Core, World, no_core, with_bank, with_cache, killed, delivered_by, delivered, most_held, posted, mailed, finished, Visit, made_by, visited_by, visited, visit_of, core_numbered, regs_in, acted, moved, at_each, after_event, step_of}
+use Rattle.machine_spec.specs.Machine.{Core, World, no_core, with_bank, with_cache, killed, delivered_by, delivered, most_held, posted, mailed, finished, Visit}
+use Rattle.machine_spec.specs.Machine.{made_by, visited_by, visited, visit_of, core_numbered, regs_in, acted, moved, at_each, after_event, step_of}
 use Rattle.trace_lang.specs.Traces.{core_of}
 use Rattle.machine_laws.proofs.Facts.{In, sided, view_of, IsApart, AllApart, Facts, AllFacts}
 use Rattle.machine_laws.proofs.Fine.{place_of, ServedOk, ServesWell, longer, issued_now, MadeOk, MakesWell}
@@ -65,7 +67,8 @@ left_apart : (is : List Inval) (l : Cache) → AllApart l.rows → AllApart (fol
 left_apart [] l h = h
 left_apart (j ∷ js) l h = left_apart js (killed l j) (pairs_filter IsApart (λ (x : Row). not (covers j x.tag)) l.rows h)
 
-pub rows_left : (is : List Inval) (l : Cache) (r : Row) → In r (fold killed l is).rows → In r l.rows × ((i : Inval) → In i is → covers i r.tag ≡ true → ⊥)
+pub rows_left : (is : List Inval) (l : Cache) (r : Row) → In r (fold killed l is).rows → In r l.rows
+    × ((i : Inval) → In i is → covers i r.tag ≡ true → ⊥)
 rows_left [] l r h = (h, λ i m cov. m)
 rows_left (j ∷ js) l r h =
     let p = rows_left js (killed l j) r h in
@@ -116,7 +119,8 @@ module _ (v : View) (s : Step) (w : Core) (f : Facts v w) (b : Bank) (re : b ≡
   mailed_on i true quiet is = posted_on w i (less_same w) quiet is
   mailed_on i false quiet is = posted_on (delivered w) i (less_by w w.inbox refl) quiet is
 
-  issued_on : (i : Inval) (reach : Bool) → reaches_core i v.core ≡ reach → ((j : Inval) → completes s.event j ≡ false) → issued_now v s.event ≡ Some i
+  issued_on : (i : Inval) (reach : Bool) → reaches_core i v.core ≡ reach → ((j : Inval) → completes s.event j ≡ false)
+      → issued_now v s.event ≡ Some i
       → Facts (longer v s) (with_bank (cond reach (mailed w i) w) b)
   issued_on i true e quiet is = mailed_on i (nat_lt (length w.inbox) most_held) quiet is
   issued_on i false e quiet is = moves v s w (with_bank w b) f re
@@ -179,7 +183,8 @@ access_on serves makes v s w f b re p e a false quiet none = less_on v s w f b r
 -- A CORE OF THE MACHINE
 
 -- a function of number and value at one place of a list
-each_from : {X : Type 0} (f : ℕ → X → X) (n : ℕ) (xs : List X) (c : ℕ) (d : X) → c < length xs → get_or (at_each f n xs) c d ≡ f (n + c) (get_or xs c d)
+each_from : {X : Type 0} (f : ℕ → X → X) (n : ℕ) (xs : List X) (c : ℕ) (d : X) → c < length xs
+    → get_or (at_each f n xs) c d ≡ f (n + c) (get_or xs c d)
 each_from f n [] c d lt = absurd (omega arith)
 each_from f n (x ∷ xs) zero d lt = ap (λ k. f k x) (omega arith)
 each_from f n (x ∷ xs) (suc c) d lt = each_from f (n + 1) xs c d (omega arith) ∙ ap (λ k. f k (get_or xs c d)) (omega arith)
@@ -196,7 +201,8 @@ place_with regs memory rows step = record { regs = regs; memory = memory; rows =
 
 module _ (h : Header) (log : List Step) (w : World) (all : AllFacts h log w) where
   -- what a core meets is what the facts say
-  pub place_is : (c : ℕ) (t : Side) → c < h.cores → (visit_of h w c (core_numbered w c)).place ≡ place_of (view_of h log c t) (core_numbered w c).cache.rows
+  pub place_is : (c : ℕ) (t : Side) → c < h.cores → (visit_of h w c (core_numbered w c)).place ≡ place_of (view_of h log c t)
+      (core_numbered w c).cache.rows
   place_is c t lt =
       let rows : List Row = (core_numbered w c).cache.rows in
       ap (λ (b : Bank). place_with b.regs w.memory rows w.step) (all.each c t lt).bank_is

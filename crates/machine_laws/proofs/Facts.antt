@@ -51,7 +51,8 @@ pub record IsLast (v : View) (inbox : List Inval) (r : Row) (m : Mark) : Type 0 
   pub held : IsHeld v r.key.config r.key.vmid m
   pub word : m.base ≡ false
   pub tag_is : tag_of v m ≡ r.tag
-  pub pending : (k : ℕ) (i : Inval) → m.item.moment ≤ k → inval_at v.log k ≡ Some i → reaches_core i v.core ≡ true → covers i r.tag ≡ true → In i inbox
+  pub pending : (k : ℕ) (i : Inval) → m.item.moment ≤ k → inval_at v.log k ≡ Some i → reaches_core i v.core ≡ true → covers i r.tag ≡ true
+      → In i inbox
   pub asid : has_asid m ≡ true → (asid_of (regs_when v m.item.moment) ≡ r.key.asid) × (r.global ≡ false)
 
 -- an item of a row's trail, with its use where that has been
@@ -115,7 +116,8 @@ IsApart2 r s = r.kind ≡ leaf2 → s.kind ≡ leaf2 → r.key.config ≡ s.key.
 
 -- two combined rows that serve the same are not global, and of two ASIDs
 abbrev pub IsApart1 : Row → Row → Type 0
-IsApart1 r s = r.kind ≡ leaf1 → s.kind ≡ leaf1 → r.key.config ≡ s.key.config → r.key.vmid ≡ s.key.vmid → r.region ≡ s.region → r.global ≡ s.global →
+IsApart1 r s = r.kind ≡ leaf1 → s.kind ≡ leaf1 → r.key.config ≡ s.key.config → r.key.vmid ≡ s.key.vmid → r.region ≡ s.region
+    → r.global ≡ s.global →
     (r.global ≡ false) × (r.key.asid ≡ s.key.asid → ⊥)
 
 abbrev pub IsApart : Row → Row → Type 0

@@ -1,5 +1,6 @@
 -- What lookups among rows find, and that the rows which served are live.
-use Rattle.std.proofs.Common.{◌≡◌, ℕ, Bool, true, false, cond, List, [], ◌∷◌, ◌⊎◌, inl, inr, refl, sym, ap, ◌∙◌, subst, Option, Some, None, ◌/◌, ◌^◌}
+use Rattle.std.proofs.Common.{◌≡◌, ℕ, Bool, true, false, cond, List, [], ◌∷◌, ◌⊎◌, inl, inr, refl}
+use Rattle.std.proofs.Common.{sym, ap, ◌∙◌, subst, Option, Some, None, ◌/◌, ◌^◌}
 use Rattle.std.specs.Prelude.{filter, ◌==◌, ◌&&◌, ◌||◌, nat_lt}
 use Rattle.std.proofs.lemmas.Bool.{eqb-true, both_ways, and_parts}
 use Rattle.std.proofs.lemmas.Option.{same_Some}
@@ -22,7 +23,8 @@ use Rattle.machine_laws.proofs.Equal.{kind_same}
 
 -- IN THE ORDER OF MAKING
 
-inserted_if : (r s x : Row) (rs ns : List Row) (b : Bool) → (In x ns → In x (r ∷ rs)) → In x (cond b (r ∷ s ∷ rs) (s ∷ ns)) → In x (r ∷ s ∷ rs)
+inserted_if : (r s x : Row) (rs ns : List Row) (b : Bool) → (In x ns → In x (r ∷ rs)) → In x (cond b (r ∷ s ∷ rs) (s ∷ ns))
+    → In x (r ∷ s ∷ rs)
 inserted_if r s x rs ns true h i = i
 inserted_if r s x rs ns false h (inl e) = inr (inl e)
 inserted_if r s x rs ns false h (inr i) = elim (h i) [ inl e ↦ inl e | inr j ↦ inr (inr j) ]
@@ -103,13 +105,15 @@ asid_or true b h e = absurd (both_ways true e refl)
 asid_or false b h e = h
 
 -- one of stage 1 also has the ASID, unless its leaf is global
-pub matched1 : (kind : Kind) (k : Key) (x : ℕ) (r : Row) → matches1 kind k x r ≡ true → Match kind k x r × (r.global ≡ false → r.key.asid ≡ k.asid)
+pub matched1 : (kind : Kind) (k : Key) (x : ℕ) (r : Row) → matches1 kind k x r ≡ true
+    → Match kind k x r × (r.global ≡ false → r.key.asid ≡ k.asid)
 matched1 kind k x r h =
     let p = and_parts (matches kind k x r) (r.global || (r.key.asid == k.asid)) h in
     (matched kind k x r p.0, λ e. eqb-true r.key.asid k.asid (asid_or r.global (r.key.asid == k.asid) p.1 e))
 
 -- the same region, where both hold an address and have one class
-pub region_same : (r s : Row) (x : ℕ) → holds r.region x ≡ true → holds s.region x ≡ true → r.region.class ≡ s.region.class → r.region ≡ s.region
+pub region_same : (r s : Row) (x : ℕ) → holds r.region x ≡ true → holds s.region x ≡ true → r.region.class ≡ s.region.class
+    → r.region ≡ s.region
 region_same r s x hr hs e =
     let a : x / 2 ^ r.region.class ≡ r.region.start = eqb-true (x / 2 ^ r.region.class) r.region.start hr in
     let b : x / 2 ^ s.region.class ≡ s.region.start = eqb-true (x / 2 ^ s.region.class) s.region.start hs in

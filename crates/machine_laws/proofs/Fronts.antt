@@ -10,7 +10,8 @@ module _ (P Q : Mark → Option ℕ → Type 0) (closed : (m : Mark) (u : ℕ) �
   some_goes m o q u e f p = subst (Q m) (sym f) (closed m u (subst (P m) e p))
 
   -- up to an item of stage 1, whose own use is to come
-  pub front_first : (above : Option ℕ) (pre : List Mark) (m : Mark) (ms : List Mark) → is_first m ≡ true → Q m None → AllUsed P above (pre ++ m ∷ ms)
+  pub front_first : (above : Option ℕ) (pre : List Mark) (m : Mark) (ms : List Mark) → is_first m ≡ true → Q m None
+      → AllUsed P above (pre ++ m ∷ ms)
       → AllUsed Q above (pre ++ m ∷ [])
   front_first above [] m ms f q p = (subst (Q m) (sym (use_first above m [] f)) q, tt)
   front_first above (x ∷ pre) m ms f q p =
@@ -30,7 +31,8 @@ module _ (P Q : Mark → Option ℕ → Type 0) (closed : (m : Mark) (u : ℕ) �
   )
 
   -- a whole trail, of which the stage 1 leaf alone has its use to come
-  pub whole_leaf : (above : Option ℕ) (pre : List Mark) (m : Mark) (ms : List Mark) → is_first m ≡ true → is_leaf m.part ≡ true → AllSecond ms → Q m None
+  pub whole_leaf : (above : Option ℕ) (pre : List Mark) (m : Mark) (ms : List Mark) → is_first m ≡ true → is_leaf m.part ≡ true → AllSecond ms
+      → Q m None
       → AllUsed P above (pre ++ m ∷ ms) → AllUsed Q above (pre ++ m ∷ ms)
   whole_leaf above [] m ms f l s q p = (
     subst (Q m) (sym (use_first above m ms f ∙ none_of ms s)) q,
@@ -45,7 +47,8 @@ module _ (P Q : Mark → Option ℕ → Type 0) (closed : (m : Mark) (u : ℕ) �
       → Q x (use_of None x (pre ++ m ∷ []))
   head2 above x [] m ms s p = subst (Q x) (sym (use_second None x (m ∷ []) s)) (closed x m.item.moment s (subst (P x) (use_second above x (m ∷ ms) s) p))
   head2 above x (y ∷ pre) m ms s p =
-      subst (Q x) (sym (use_second None x (y ∷ (pre ++ m ∷ [])) s)) (closed x y.item.moment s (subst (P x) (use_second above x (y ∷ (pre ++ m ∷ ms)) s) p))
+      subst (Q x) (sym (use_second None x (y ∷ (pre ++ m ∷ [])) s)) (closed x y.item.moment s (subst (P x)
+      (use_second above x (y ∷ (pre ++ m ∷ ms)) s) p))
 
   -- a chain of stage 2 up to an item whose own use is to come, from the rest of the trail that begins with it
   pub front_second : (above : Option ℕ) (pre : List Mark) (m : Mark) (ms : List Mark) → AllSecond pre → is_first m ≡ false → Q m None
@@ -57,6 +60,7 @@ module _ (P Q : Mark → Option ℕ → Type 0) (closed : (m : Mark) (u : ℕ) �
   )
 
 -- the later part of a list
-pub used_drop : (P : Mark → Option ℕ → Type 0) (above : Option ℕ) (xs ys : List Mark) → AllUsed P above (xs ++ ys) → (above2 : Option ℕ) × AllUsed P above2 ys
+pub used_drop : (P : Mark → Option ℕ → Type 0) (above : Option ℕ) (xs ys : List Mark) → AllUsed P above (xs ++ ys)
+    → (above2 : Option ℕ) × AllUsed P above2 ys
 used_drop P above [] ys p = (above, p)
 used_drop P above (x ∷ xs) ys p = used_drop P (above_of above x) xs ys p.1

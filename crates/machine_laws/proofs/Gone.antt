@@ -1,5 +1,6 @@
 -- Why rows leave, and in which order the rows of a core stand under lru.
-use Rattle.std.proofs.Common.{◌≡◌, ℕ, zero, suc, ◌+◌, ◌<◌, Bool, true, false, not, cond, List, [], ◌∷◌, ◌++◌, length, ◌⊎◌, inl, inr, refl, sym, ap, ◌∙◌, subst, append_assoc, append-nil, Option, Some, None, arith}
+use Rattle.std.proofs.Common.{◌≡◌, ℕ, zero, suc, ◌+◌, ◌<◌, Bool, true, false, not, cond, List, [], ◌∷◌, ◌++◌, length}
+use Rattle.std.proofs.Common.{◌⊎◌, inl, inr, refl, sym, ap, ◌∙◌, subst, append_assoc, append-nil, Option, Some, None, arith}
 use Rattle.std.specs.Prelude.{slice_get, ◌==◌, ◌&&◌, nat_le, nat_lt, fold, filter, take}
 use Rattle.std.specs.List.{list_any}
 use Rattle.std.proofs.lemmas.Bool.{cases_Bool, both_ways, not-true, eqb-true, eq-eqb}
@@ -92,7 +93,8 @@ module _ {X : Type 0} (p : X → Bool) (y : X) where
   lose_first x xs less those false (inl e) h = inl (inl e)
   lose_first x xs less those false (inr i) h = behind_first x less those zero (h i)
 
-  lose_later : (x : X) (xs one two those : List X) (n : ℕ) (b : Bool) → In y (x ∷ xs) → (In y xs → Loses one those n) → (In y xs → Loses two those (suc n))
+  lose_later : (x : X) (xs one two those : List X) (n : ℕ) (b : Bool) → In y (x ∷ xs) → (In y xs → Loses one those n)
+      → (In y xs → Loses two those (suc n))
       → Loses (cond b (x ∷ one) (x ∷ two)) (cond b (x ∷ those) those) (suc n)
   lose_later x xs one two those n true (inl e) f g = inl (inl e)
   lose_later x xs one two those n true (inr i) f g = behind_first x one those n (f i)
@@ -133,7 +135,8 @@ module _ (h : Header) (c : ℕ) where
   kept : (u rows : List Row) (r : Row) → ((x : Row) → In x rows → is_row x r ≡ false) → AreRanked u rows → AreRanked (u ++ r ∷ []) rows
   kept u rows r apart a = pairs_map (Ranks u) (Ranks (u ++ r ∷ [])) rows (λ x i y p. (p.0, λ l. since_more u x y r (apart x i) (p.1 l))) a
 
-  last : (u rows : List Row) (r : Row) → ((x : Row) → In x rows → is_row x r ≡ false) → AreRanked u rows → AreRanked (u ++ r ∷ []) (rows ++ r ∷ [])
+  last : (u rows : List Row) (r : Row) → ((x : Row) → In x rows → is_row x r ≡ false) → AreRanked u rows
+      → AreRanked (u ++ r ∷ []) (rows ++ r ∷ [])
   last u rows r apart a = pairs_push (Ranks (u ++ r ∷ [])) rows r (λ x i. (apart x i, λ l. since_new u x r)) (kept u rows r apart a)
 
   -- one row of each making
@@ -311,7 +314,8 @@ module _ (h : Header) (c : ℕ) where
       made_stays before used x on used.made [] refl ((by_policy h.policy refl u before.rows used.served live state.ranked).1 x i)
   filled_keeps before used n u state live x false off i = inl i
 
-  pub filled_stays : (before : Cache) (used : Used) (n : ℕ) (u : List Row) → IsRanked n u before.rows → ((x : Row) → In x used.served → In x before.rows)
+  pub filled_stays : (before : Cache) (used : Used) (n : ℕ) (u : List Row) → IsRanked n u before.rows
+      → ((x : Row) → In x used.served → In x before.rows)
       → (x : Row)
       → In x before.rows → In x (filled h c before used.served used.made).rows ⊎ IsEvicted h c before used x
   filled_stays before used n u state live x i = filled_keeps before used n u state live x (keeps_rows h.size) refl i
@@ -353,7 +357,8 @@ module _ (h : Header) (c : ℕ) where
     | inr f ↦ inl (In-filter (λ (r : Row). not (covers i r.tag)) l.rows x j (ap not f))
   ]
 
-  pub all_keep : (is : List Inval) (l : Cache) (x : Row) → In x l.rows → In x (fold killed l is).rows ⊎ ((i : Inval) × In i is × (covers i x.tag ≡ true))
+  pub all_keep : (is : List Inval) (l : Cache) (x : Row) → In x l.rows → In x (fold killed l is).rows ⊎ ((i : Inval) × In i is
+      × (covers i x.tag ≡ true))
   all_keep [] l x j = inl j
   all_keep (i ∷ is) l x j = elim (killed_keeps l i x j) [
     | inl k ↦ elim (all_keep is (killed l i) x k) [ inl m ↦ inl m | inr m ↦ inr (m.0, inr m.1, m.2) ]
@@ -365,7 +370,8 @@ module _ (h : Header) (c : ℕ) where
   delivered_kills v (i ∷ later) = refl
 
   mail_kills : (v : Core) (i : Inval) (reach room_left : Bool)
-      → (cond reach (cond room_left (posted v i) (posted (delivered v) i)) v).cache ≡ fold killed v.cache (cond (reach && not room_left) (take 1 v.inbox) [])
+      → (cond reach (cond room_left (posted v i) (posted (delivered v) i)) v).cache ≡ fold killed v.cache (cond (reach && not room_left)
+      (take 1 v.inbox) [])
   mail_kills v i true true = refl
   mail_kills v i true false = delivered_kills v v.inbox
   mail_kills v i false true = refl

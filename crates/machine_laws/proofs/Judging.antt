@@ -1,5 +1,6 @@
 -- What judging makes of a trail that leads to a translation: nothing, or it cuts the trail behind the leaf of stage 1.
-use Rattle.std.proofs.Common.{◌≡◌, ℕ, zero, suc, Bool, true, false, cond, not, List, [], ◌∷◌, ◌++◌, inl, inr, refl, sym, ap, ◌∙◌, subst, append_assoc, append-nil}
+use Rattle.std.proofs.Common.{◌≡◌, ℕ, zero, suc, Bool, true, false, cond, not, List, [], ◌∷◌, ◌++◌}
+use Rattle.std.proofs.Common.{inl, inr, refl, sym, ap, ◌∙◌, subst, append_assoc, append-nil}
 use Rattle.std.specs.Prelude.{Result, Err}
 use Rattle.std.proofs.lemmas.Bool.{both_ways}
 use Rattle.sysregs.specs.declared.regs.Config.{Config}
@@ -27,8 +28,10 @@ use Rattle.machine_spec.specs.Allowed.{is_of_word}
 use Rattle.machine_laws.proofs.Trees.{IsOn, chain, Plan, fin, own, via, joined, flat, rest_by}
 use Rattle.machine_laws.proofs.Facts.{regime_for}
 use Rattle.machine_laws.proofs.Laws.{IsCut, Judged}
-use Rattle.machine_laws.proofs.Stands.{on_append, marks_append, on_after, marks_after, Split, on_split, joined_is, via_on, via_marks, mark_first, mark_base, second_marks}
-use Rattle.machine_laws.proofs.PlanOf.{word_need, early2, read_fault, read_next, word_behind, entry_plan, plan_of, output_plan, out_of, from_plan, root_table, behind_plan, whole_plan, plan_for, plan_is_walk}
+use Rattle.machine_laws.proofs.Stands.{on_append, marks_append, on_after, marks_after, Split, on_split, joined_is}
+use Rattle.machine_laws.proofs.Stands.{via_on, via_marks, mark_first, mark_base, second_marks}
+use Rattle.machine_laws.proofs.PlanOf.{word_need, early2, read_fault, read_next, word_behind, entry_plan, plan_of, output_plan, out_of}
+use Rattle.machine_laws.proofs.PlanOf.{from_plan, root_table, behind_plan, whole_plan, plan_for, plan_is_walk}
 use Rattle.machine_laws.proofs.Sounds.{gives_word, judged_gives, out_second}
 
 record CutAt (r : Regime) (t u : Ask Need Item (End Landing)) (xs : List Item) : Type 0 where
@@ -167,7 +170,8 @@ module _ (r : Regime) (a : Access) (l : Landing) where
       (t : Table1) (xs : List Item) → IsOn r (flat r (plan_of r (out_of without) (bf t))) xs There
       → CutAt r (flat r (plan_of r (out_of without) (bf t))) (flat r (plan_of r (out_of with) (bt t))) xs
 
-  turn_cut : (bf bt : Below) → BelowCut bf bt → (m : Mark) (left : ℕ) (t : Table1) (i : Item) (xs : List Item) → is_first m ≡ true → m.base ≡ false
+  turn_cut : (bf bt : Below) → BelowCut bf bt → (m : Mark) (left : ℕ) (t : Table1) (i : Item) (xs : List Item) → is_first m ≡ true
+      → m.base ≡ false
       → Turn1 r left i
       → IsOn r (flat r (Onward without bf left t i)) xs There → CutBehind r m (flat r (Onward without bf left t i)) (flat r (Onward with bt left t i)) xs
   turn_cut bf bt rec m left t i xs f w (table next bits al d) h =
@@ -200,7 +204,8 @@ module _ (r : Regime) (a : Access) (l : Landing) where
   word_cut e p kf kt rec xs h =
       own_cut (word_need e p) kf kt (λ i ys k. rec (mark r (word_need e p) i) i ys (mark_first r (word_need e p) i) (mark_base r (word_need e p) i) k) xs h
 
-  read_cut : (b : Bool) (e : Entry1) (m : Leaf2) (kf kt : Item → Plan) → KCut kf kt → (xs : List Item) → IsOn r (flat r (rest_by (read_next b e m) kf)) xs There
+  read_cut : (b : Bool) (e : Entry1) (m : Leaf2) (kf kt : Item → Plan) → KCut kf kt → (xs : List Item)
+      → IsOn r (flat r (rest_by (read_next b e m) kf)) xs There
       → CutAt r (flat r (rest_by (read_next b e m) kf)) (flat r (rest_by (read_next b e m) kt)) xs
   read_cut true e m kf kt rec xs h = word_cut e m.pa kf kt rec xs h
   read_cut false e m kf kt rec xs h = cut_same (done (stops (read_fault m))) xs h

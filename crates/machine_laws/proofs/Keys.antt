@@ -1,5 +1,6 @@
 -- What the last items of a trail tell: the class of its landing, and whether its leaf is global.
-use Rattle.std.proofs.Common.{◌≡◌, ℕ, zero, suc, Bool, true, false, cond, List, [], ◌∷◌, ◌++◌, ◌⊎◌, inl, inr, refl, sym, ap, ◌∙◌, subst, Option, Some, None, append-nil}
+use Rattle.std.proofs.Common.{◌≡◌, ℕ, zero, suc, Bool, true, false, cond, List, [], ◌∷◌, ◌++◌, ◌⊎◌}
+use Rattle.std.proofs.Common.{inl, inr, refl, sym, ap, ◌∙◌, subst, Option, Some, None, append-nil}
 use Rattle.std.specs.Option.{option_or}
 use Rattle.std.specs.Prelude.{Result, Ok, Err}
 use Rattle.std.proofs.lemmas.Bool.{both_ways}
@@ -84,7 +85,8 @@ module _ (r : Regime) (p : Bool) (x : ℕ) where
   ends_leaf m [] l h = (refl, leaf_same l m h)
   ends_leaf m (y ∷ ys) l h = absurd h
 
-  ends_step : (below : ℕ → Ask Need Item (End Leaf2)) → ((n : ℕ) (xs : List Item) (l : Leaf2) → IsOn r (below n) xs (done (reaches l)) → Ends2 r xs l)
+  ends_step : (below : ℕ → Ask Need Item (End Leaf2)) → ((n : ℕ) (xs : List Item) (l : Leaf2) → IsOn r (below n) xs (done (reaches l))
+      → Ends2 r xs l)
       → (left : ℕ) (i : Item) (xs : List Item) (l : Leaf2) → i.level ≡ level_of left → Turn2 r left i
       → IsOn r (step_then below (step2 (asked2 r p x) left i.pa i.value)) xs (done (reaches l)) → Ends2 r (i ∷ xs) l
   ends_step below rec left i xs l e (table next a d) h = ends_more i xs l (rec next xs l (rw (d p x) at h))
@@ -120,7 +122,8 @@ module _ (r : Regime) (p : Bool) (x : ℕ) where
   ends_chain (i ∷ xs) l h = ends_more i xs l (ends_behind (is_too_large r.stage2 i.value) i.value xs l h.1)
 
 -- equal entries are of equal place, level and value
-pub entries_same : (xs ys : List Item) (i j : Item) → last_entry xs ≡ Some (entry_of i) → last_entry ys ≡ Some (entry_of j) → last_entry xs ≡ last_entry ys
+pub entries_same : (xs ys : List Item) (i j : Item) → last_entry xs ≡ Some (entry_of i) → last_entry ys ≡ Some (entry_of j)
+    → last_entry xs ≡ last_entry ys
     → entry_of i ≡ entry_of j
 entries_same xs ys i j a b e = same_Some (entry_of i) (entry_of j) (sym a ∙ e ∙ b)
 
@@ -168,7 +171,8 @@ none_first [] s = refl
 none_first (m ∷ ms) s = ap (λ o. option_or o (cond (is_first m) (Some m) None)) (none_first ms s.1) ∙ if_false (is_first m) (Some m) s.0
 
 -- the last item of stage 1, and the last mark, where only stage 2 follows
-entry1_last : (front rest : List Item) (i : Item) → LastIs front i → is_stage1 i.stage ≡ true → AllItems2 rest → last_entry1 (front ++ rest) ≡ Some (entry_of i)
+entry1_last : (front rest : List Item) (i : Item) → LastIs front i → is_stage1 i.stage ≡ true → AllItems2 rest
+    → last_entry1 (front ++ rest) ≡ Some (entry_of i)
 entry1_last [] rest i l f s = absurd l
 entry1_last (x ∷ []) rest i l f s =
     let b : is_stage1 x.stage ≡ true = ap (λ (z : Item). is_stage1 z.stage) l ∙ f in
@@ -240,7 +244,8 @@ module _ (r : Regime) (e : Entry1) where
       let w = behind_end d.end d.rest i d.more in
       let t : Ask Need Item (Result Item Fault) = after ch (read1_by r.config e) in
       let m : marks r t xs ≡ marks r t d.front ++ marks r (read1_by r.config e d.end) d.rest =
-      ap (marks r t) d.is ∙ marks_append r t (read1_by r.config e d.end) d.front d.rest (on_after r ch (done d.end) (read1_by r.config e) d.front d.on_front) in
+      ap (marks r t) d.is ∙ marks_append r t (read1_by r.config e d.end) d.front d.rest (on_after r ch (done d.end)
+      (read1_by r.config e) d.front d.on_front) in
       record {
         place = w.place;
         last = subst (λ (v : List Item). LastIs v i) (sym d.is) (last_app d.front d.rest i w.last);
@@ -268,7 +273,8 @@ stop1_end : (r : Regime) (f : Fault) (xs : List Item) (l : Leaf1) → IsOn {A = 
 stop1_end r f [] l h = absurd cc
 stop1_end r f (y ∷ ys) l h = h
 
-leaf1_end : (r : Regime) (m : Leaf1) (xs : List Item) (l : Leaf1) → IsOn {A = End Leaf1} r (done (reaches m)) xs (done (reaches l)) → (xs ≡ []) × (l ≡ m)
+leaf1_end : (r : Regime) (m : Leaf1) (xs : List Item) (l : Leaf1) → IsOn {A = End Leaf1} r (done (reaches m)) xs (done (reaches l))
+    → (xs ≡ []) × (l ≡ m)
 leaf1_end r m [] l h = (refl, leaf1_same l m h)
 leaf1_end r m (y ∷ ys) l h = absurd h
 
@@ -365,7 +371,8 @@ module _ (r : Regime) (a : Access) where
         let d = on_split r (word_of r E) Go xs (reaches l) h in
         subst (λ (v : List Item). Ends1 r Level v l) (sym d.is) (level_at d.front d.rest d.end l d.on_front d.more)
 
-  ends1_from : (left : ℕ) (t : Table1) (xs : List Item) (l : Leaf1) → IsOn r (stage1_from Q left t) xs (done (reaches l)) → Ends1 r (stage1_from Q left t) xs l
+  ends1_from : (left : ℕ) (t : Table1) (xs : List Item) (l : Leaf1) → IsOn r (stage1_from Q left t) xs (done (reaches l))
+      → Ends1 r (stage1_from Q left t) xs l
   ends1_from zero t xs l h = level_end (λ _. done (stops (fault1 Translation 0))) (λ n ys k g. absurd (stop1_end r _ ys k g)) 0 t xs l h
   ends1_from (suc left) t xs l h = level_end (walk1_from Q left) (ends1_from left) (suc left) t xs l h
 
@@ -392,7 +399,8 @@ module _ (r : Regime) (a : Access) where
       }
 
   -- stage 1 that is on and doesn't refuse the access
-  ends1 : (xs : List Item) (l : Leaf1) → r.config.m ≡ true → is_refused1 r.config a ≡ false → IsOn r (stage1 Q) xs (done (reaches l)) → Ends1 r (stage1 Q) xs l
+  ends1 : (xs : List Item) (l : Leaf1) → r.config.m ≡ true → is_refused1 r.config a ≡ false → IsOn r (stage1 Q) xs (done (reaches l))
+      → Ends1 r (stage1 Q) xs l
   ends1 xs l on ok h =
       let e : stage1 Q ≡ ask stage1_base (λ i. stage1_behind Q i.value) = on_case r.config.m (is_refused1 r.config a) _ _ _ on ok in
       subst (λ t. Ends1 r t xs l) (sym e) (ends1_base xs l (subst (λ t. IsOn r t xs (done (reaches l))) e h))
@@ -427,7 +435,8 @@ record Output (r : Regime) (vm : Bool) (rest : List Item) (d : Leaf1) (l : Landi
   level : vm ≡ true → item.level ≡ level_of left
   class_is : l.class ≡ cond vm (smaller d.class (class_at2 r left item.pa item.value)) d.class
 
-done_end : (r : Regime) (n : Landing) (xs : List Item) (l : Landing) → IsOn {A = End Landing} r (done (reaches n)) xs (done (reaches l)) → (xs ≡ []) × (l ≡ n)
+done_end : (r : Regime) (n : Landing) (xs : List Item) (l : Landing) → IsOn {A = End Landing} r (done (reaches n)) xs (done (reaches l))
+    → (xs ≡ []) × (l ≡ n)
 done_end r n [] l h = (refl, landing_same l n h)
 done_end r n (x ∷ xs) l h = absurd h
 
@@ -466,7 +475,13 @@ module _ (r : Regime) (a : Access) (d : Leaf1) where
       subst (λ (v : List Item). Output r true v d l) (sym w.is) (output_end w.front w.rest w.end l w.on_front w.more)
   output false i rest l h =
       let g = done_end r (landed d) rest l h in
-      record { item = i; left = 0; last = λ v. absurd (both_ways false refl v); level = λ v. absurd (both_ways false refl v); class_is = ap (λ z. z.class) g.1 }
+      record {
+        item = i;
+        left = 0;
+        last = λ v. absurd (both_ways false refl v);
+        level = λ v. absurd (both_ways false refl v);
+        class_is = ap (λ z. z.class) g.1;
+      }
 
 behind_second : (q : Asked) (e : End Leaf1) → IsSecond (stage2_behind q e)
 behind_second q e = subst IsSecond (out_is q e) (out_second q e)
@@ -484,7 +499,8 @@ module _ (r : Regime) (a : Access) (on : r.config.m ≡ true) (ok : is_refused1 
       let s : IsSecond (stage2_behind (Q r a) (reaches d)) = behind_second (Q r a) (reaches d) in
       let m : marks r W (front ++ rest) ≡ marks r (stage1 (Q r a)) front ++ marks r (stage2_behind (Q r a) (reaches d)) rest =
       marks_append r W (stage2_behind (Q r a) (reaches d)) front rest (on_after r (stage1 (Q r a)) (done (reaches d)) (stage2_behind (Q r a)) front h)
-      ∙ ap (λ v. v ++ marks r (stage2_behind (Q r a) (reaches d)) rest) (marks_after r (stage1 (Q r a)) (done (reaches d)) (stage2_behind (Q r a)) front h) in
+      ∙ ap (λ v. v ++ marks r (stage2_behind (Q r a) (reaches d)) rest) (marks_after r (stage1 (Q r a)) (done (reaches d))
+      (stage2_behind (Q r a)) front h) in
       record {
         item1 = one.item;
         left1 = one.left;

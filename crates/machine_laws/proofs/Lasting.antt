@@ -1,5 +1,6 @@
 -- Facts of a core in a longer log: one step of a core, whatever it does, keeps them.
-use Rattle.std.proofs.Common.{◌≡◌, ℕ, ◌<◌, ◌≤◌, true, false, List, [], ◌∷◌, ◌++◌, length, ◌⊎◌, inl, inr, sym, ap, ◌∙◌, subst, Option, Some, None, arith}
+use Rattle.std.proofs.Common.{◌≡◌, ℕ, ◌<◌, ◌≤◌, true, false, List, [], ◌∷◌, ◌++◌, length}
+use Rattle.std.proofs.Common.{◌⊎◌, inl, inr, sym, ap, ◌∙◌, subst, Option, Some, None, arith}
 use Rattle.std.proofs.lemmas.List.{length-append}
 use Rattle.std.proofs.lemmas.Bool.{cases_lt, both_ways}
 use Rattle.std.proofs.lemmas.Option.{same_Some}
@@ -30,7 +31,8 @@ use Rattle.machine_laws.proofs.Logs.{event-old, event-last, inval-old, inval-las
 use Rattle.machine_laws.proofs.Uses.{used_map}
 
 -- what a row promises holds of a weaker condition too, and doesn't look at its number
-pub numbered_by : (P Q : Side → Mark → Option ℕ → Type 0) → ((s : Side) (m : Mark) (o : Option ℕ) → P s m o → Q s m o) → (r : Row) (d : Made) (k : Kind)
+pub numbered_by : (P Q : Side → Mark → Option ℕ → Type 0) → ((s : Side) (m : Mark) (o : Option ℕ) → P s m o → Q s m o)
+    → (r : Row) (d : Made) (k : Kind)
     → IsRowBy P r k → IsRowBy Q (record r { made = d }) k
 numbered_by P Q f r d Leaf1 h = λ a s.
     let g = h a (record { held = s.held; on = s.on; accepted = s.accepted }) in
@@ -87,7 +89,8 @@ numbered_by P Q f r d Table2 h = (
       },
 )
 
-pub row_map : (P Q : Side → Mark → Option ℕ → Type 0) → ((s : Side) (m : Mark) (o : Option ℕ) → P s m o → Q s m o) → (r : Row) (k : Kind) → IsRowBy P r k
+pub row_map : (P Q : Side → Mark → Option ℕ → Type 0) → ((s : Side) (m : Mark) (o : Option ℕ) → P s m o → Q s m o) → (r : Row) (k : Kind)
+    → IsRowBy P r k
     → IsRowBy Q r k
 row_map P Q f r k h = numbered_by P Q f r r.made k h
 
@@ -141,7 +144,8 @@ module _ (v : View) (s : Step) where
   pending_on : (inbox next : List Inval) (r : Row) (m : Mark) → Stays inbox next r
       → ((i : Inval) → issued_now v s.event ≡ Some i → reaches_core i v.core ≡ true → In i next)
       → IsLast v inbox r m
-      → (k : ℕ) (i : Inval) → m.item.moment ≤ k → inval_at (v.log ++ s ∷ []) k ≡ Some i → reaches_core i v.core ≡ true → covers i r.tag ≡ true
+      → (k : ℕ) (i : Inval) → m.item.moment ≤ k → inval_at (v.log ++ s ∷ []) k ≡ Some i → reaches_core i v.core ≡ true
+      → covers i r.tag ≡ true
       → (k < length v.log) ⊎ (length v.log ≤ k) → In i next
   pending_on inbox next r m old new f k i h j reach cov (inl lt) =
       old i (f.pending k i h (sym (inval-old v.log s k lt) ∙ j) reach cov) cov

@@ -91,7 +91,8 @@ pub record Laws : Type 0 where
       → marks (regime_of c s) (chain (regime_of c s) p x) trail ≡ pre ++ m ∷ [] →
       m.part ≡ table true → holds m.region y ≡ true → ChainTable (regime_of c t) q trail (pre ++ m ∷ []) y
   pub first_table : (c : Config) (a b : Access) (trail : List Item) (u : Ask Need Item (End Landing)) (pre : List Mark) (m : Mark) →
-      c.m ≡ true → is_refused1 c b ≡ false → IsOn (regime_for c a) (walk c true a) trail u → marks (regime_for c a) (walk c true a) trail ≡ pre ++ m ∷ [] →
+      c.m ≡ true → is_refused1 c b ≡ false → IsOn (regime_for c a) (walk c true a) trail u
+      → marks (regime_for c a) (walk c true a) trail ≡ pre ++ m ∷ [] →
       is_first m ≡ true → m.part ≡ table true → holds m.region (untagged b.va) ≡ true → FirstTable c trail (pre ++ m ∷ []) b
   pub first_leaf : (c : Config) (a b : Access) (trail : List Item) (l : Landing) →
       c.m ≡ true → is_refused1 c b ≡ false → IsOn (regime_for c a) (walk c true a) trail (done (reaches l)) →

@@ -1,5 +1,6 @@
 -- Over every run rows leave for a cause, and under lru they stand in the order of their last use.
-use Rattle.std.proofs.Common.{◌≡◌, ℕ, ◌+◌, ◌<◌, Bool, true, false, cond, List, [], ◌∷◌, ◌++◌, length, ◌⊎◌, inl, inr, refl, sym, ap, ◌∙◌, subst, append_assoc, append-nil}
+use Rattle.std.proofs.Common.{◌≡◌, ℕ, ◌+◌, ◌<◌, Bool, true, false, cond, List, [], ◌∷◌, ◌++◌, length}
+use Rattle.std.proofs.Common.{◌⊎◌, inl, inr, refl, sym, ap, ◌∙◌, subst, append_assoc, append-nil}
 use Rattle.std.specs.Prelude.{◌==◌, fold, filter}
 use Rattle.std.proofs.lemmas.List.{length-replicate, get_or-replicate}
 use Rattle.sysregs.specs.Registers.{config_of}
@@ -20,10 +21,13 @@ use Rattle.tagged_tlb.specs.declared.row.Row.{Row}
 use Rattle.machine_spec.specs.Made.{Maker, rows_of, combined_rows}
 use Rattle.tagged_tlb.specs.Sets.{Cache, same_set, filled}
 use Rattle.machine_spec.specs.Served.{Reply, Halt, came, clash, served}
-use Rattle.machine_spec.specs.Machine.{Core, World, no_core, killed, Visit, visited_by, visit_of, core_numbered, regs_in, accessed, acted, moved, after_event, opened, world_after}
-use Rattle.machine_laws.specs.Leaving.{In, Used, effective, IsRemoved, used_by, used_here, used_at, uses_from, uses_of, IsEvicted, RowsLeaveForACause, LruLosesTheLongestUnused}
+use Rattle.machine_spec.specs.Machine.{Core, World, no_core, killed, Visit, visited_by, visit_of, core_numbered, regs_in}
+use Rattle.machine_spec.specs.Machine.{accessed, acted, moved, after_event, opened, world_after}
+use Rattle.machine_laws.specs.Leaving.{In, Used, effective, IsRemoved, used_by, used_here, used_at, uses_from, uses_of}
+use Rattle.machine_laws.specs.Leaving.{IsEvicted, RowsLeaveForACause, LruLosesTheLongestUnused}
 use Rattle.machine_laws.proofs.Events.{each_length}
-use Rattle.machine_laws.proofs.Gone.{IsNumbered, numbered_are, numbered_front, Ranks, AreRanked, IsRanked, filled_ranked, filled_next, filled_stays, thin_all, thin_next, all_keep, pushed_kills, deliver_kills}
+use Rattle.machine_laws.proofs.Gone.{IsNumbered, numbered_are, numbered_front, Ranks, AreRanked, IsRanked, filled_ranked, filled_next}
+use Rattle.machine_laws.proofs.Gone.{filled_stays, thin_all, thin_next, all_keep, pushed_kills, deliver_kills}
 use Rattle.machine_laws.proofs.Lists.{from_end, In-append}
 use Rattle.machine_laws.proofs.Outlived.{rows_new, combined_new, moved_at}
 use Rattle.machine_laws.proofs.Own.{served_live}

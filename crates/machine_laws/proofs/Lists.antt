@@ -1,5 +1,6 @@
 -- Membership by recursion, and induction on a list's end.
-use Rattle.std.proofs.Common.{◌≡◌, ℕ, zero, suc, Bool, true, false, cond, List, [], ◌∷◌, ◌++◌, drop, ◌⊎◌, inl, inr, refl, sym, subst, append_assoc, append-nil, Option, Some, None}
+use Rattle.std.proofs.Common.{◌≡◌, ℕ, zero, suc, Bool, true, false, cond, List, [], ◌∷◌, ◌++◌, drop, ◌⊎◌}
+use Rattle.std.proofs.Common.{inl, inr, refl, sym, subst, append_assoc, append-nil, Option, Some, None}
 use Rattle.std.specs.Prelude.{filter, find}
 use Rattle.std.proofs.lemmas.Option.{same_Some}
 use Rattle.tagged_tlb.specs.Sets.{without}

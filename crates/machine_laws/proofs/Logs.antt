@@ -1,5 +1,6 @@
 -- What a log means after one more step.
-use Rattle.std.proofs.Common.{◌≡◌, ℕ, zero, suc, ◌<◌, ◌≤◌, List, [], ◌∷◌, ◌++◌, length, map, take, inl, inr, refl, sym, ap, ◌∙◌, subst, Some, Option, arith}
+use Rattle.std.proofs.Common.{◌≡◌, ℕ, zero, suc, ◌<◌, ◌≤◌, List, [], ◌∷◌, ◌++◌, length, map}
+use Rattle.std.proofs.Common.{take, inl, inr, refl, sym, ap, ◌∙◌, subst, Some, Option, arith}
 use Rattle.std.specs.Prelude.{slice_get}
 use Rattle.std.specs.Option.{option_and_then}
 use Rattle.std.proofs.lemmas.Bool.{cases_lt}
@@ -58,7 +59,8 @@ regs-old log s c k h = ap (regs_after c) (take-append-le k log (s ∷ []) h)
 pub bank-last : (c : ℕ) (log : List Step) (s : Step) → bank_after c (log ++ s ∷ []) ≡ banked c (bank_after c log) s.event
 bank-last c log s = fold_push (λ b (s : Step). banked c b s.event) no_bank log s
 
-pub memory-old : (h : Header) (log : List Step) (s : Step) (k : ℕ) → k ≤ length log → memory_after h (take k (log ++ s ∷ [])) ≡ memory_after h (take k log)
+pub memory-old : (h : Header) (log : List Step) (s : Step) (k : ℕ) → k ≤ length log → memory_after h (take k (log ++ s ∷ []))
+    ≡ memory_after h (take k log)
 memory-old h log s k le = ap (memory_after h) (take-append-le k log (s ∷ []) le)
 
 pub memory-last : (h : Header) (log : List Step) (s : Step) → memory_after h (log ++ s ∷ []) ≡ stored (memory_after h log) s.event

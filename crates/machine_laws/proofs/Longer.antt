@@ -1,5 +1,6 @@
 -- What a log means behind one more step that issues no invalidation.
-use Rattle.std.proofs.Common.{◌≡◌, ℕ, ◌<◌, ◌≤◌, true, false, List, [], ◌∷◌, ◌++◌, length, take, refl, sym, ap, ◌∙◌, subst, Some, arith}
+use Rattle.std.proofs.Common.{◌≡◌, ℕ, ◌<◌, ◌≤◌, true, false, List, [], ◌∷◌, ◌++◌}
+use Rattle.std.proofs.Common.{length, take, refl, sym, ap, ◌∙◌, subst, Some, arith}
 use Rattle.std.proofs.lemmas.List.{take-append-le, take_at}
 use Rattle.sysregs.specs.declared.regs.Regs.{Regs}
 use Rattle.sysregs.specs.declared.regs.Side.{Side}
@@ -55,7 +56,8 @@ module _ (v : View) (s : Step) (t : Side) where
       }
 
   -- an item that is kept up to a use stays so
-  pub kept_on : (cf : Config) (vm : ℕ) (m : Mark) (use_ : ℕ) → OfBoth v.side t m → use_ ≤ now v → IsKeptItem v cf vm m use_ → IsKeptItem Behind cf vm m use_
+  pub kept_on : (cf : Config) (vm : ℕ) (m : Mark) (use_ : ℕ) → OfBoth v.side t m → use_ ≤ now v → IsKeptItem v cf vm m use_
+      → IsKeptItem Behind cf vm m use_
   kept_on cf vm m use_ both h f = record {
     past = f.past;
     held = held_on cf vm m both (omega (arith, f.past)) f.held;
@@ -69,7 +71,8 @@ module _ (v : View) (s : Step) (t : Side) where
   }
 
   -- behind a step that issues none, no invalidation has a number from the old length on
-  pub none_since : ((i : Inval) → issued_now v s.event ≡ Some i → ⊥) → (k : ℕ) (i : Inval) → now v ≤ k → inval_at (v.log ++ s ∷ []) k ≡ Some i → ⊥
+  pub none_since : ((i : Inval) → issued_now v s.event ≡ Some i → ⊥) → (k : ℕ) (i : Inval) → now v ≤ k
+      → inval_at (v.log ++ s ∷ []) k ≡ Some i → ⊥
   none_since none k i past at =
       let q : k ≡ length v.log = at_last v.log s k past (inval-within (v.log ++ s ∷ []) k i at) in
       let at2 : inval_at (v.log ++ s ∷ []) (length v.log) ≡ Some i = subst (λ x. inval_at (v.log ++ s ∷ []) x ≡ Some i) q at in

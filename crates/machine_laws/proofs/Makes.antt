@@ -1,5 +1,6 @@
 -- Every reply makes rows well: the rows behind the step have their facts, and are told apart.
-use Rattle.std.proofs.Common.{◌≡◌, ℕ, Bool, true, false, cond, List, [], ◌++◌, ◌/◌, ◌^◌, ◌⊎◌, inl, inr, refl, sym, ◌∙◌, subst, Option, Some, None}
+use Rattle.std.proofs.Common.{◌≡◌, ℕ, Bool, true, false, cond, List, [], ◌++◌, ◌/◌, ◌^◌}
+use Rattle.std.proofs.Common.{◌⊎◌, inl, inr, refl, sym, ◌∙◌, subst, Option, Some, None}
 use Rattle.std.specs.Prelude.{fold}
 use Rattle.std.proofs.lemmas.Bool.{eq-eqb}
 use Rattle.sysregs.specs.Sides.{side_of}
@@ -44,7 +45,8 @@ stored_numbered v inbox r d m (Some u) f = f
 -- a row's fact doesn't look at its number
 row_numbered : (v : View) (inbox : List Inval) (r : Row) (d : Made) → IsRow v inbox r → IsRow v inbox (renumbered r d)
 row_numbered v inbox r d h =
-    numbered_by (λ s. IsStored (sided v s) inbox r) (λ s. IsStored (sided v s) inbox (renumbered r d)) (λ s. stored_numbered (sided v s) inbox r d) r d r.kind h
+    numbered_by (λ s. IsStored (sided v s) inbox r) (λ s. IsStored (sided v s) inbox (renumbered r d))
+    (λ s. stored_numbered (sided v s) inbox r d) r d r.kind h
 
 keyed_of : (v : View) (inbox : List Inval) (r : Row) → IsRow v inbox r → IsKeyed r
 keyed_of v inbox r h e = let q = subst (IsRowBy (λ s. IsStored (sided v s) inbox r) r) e h in (q.0, q.1)

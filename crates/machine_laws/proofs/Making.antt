@@ -1,5 +1,6 @@
 -- Every row that is made of a word has its fact behind the step.
-use Rattle.std.proofs.Common.{◌≡◌, ℕ, zero, suc, ◌≤◌, ◌/◌, ◌^◌, Bool, true, false, cond, List, [], ◌∷◌, ◌++◌, length, ◌⊎◌, inl, inr, refl, sym, ap, ◌∙◌, subst, append_assoc, Option, Some, None, arith}
+use Rattle.std.proofs.Common.{◌≡◌, ℕ, zero, suc, ◌≤◌, ◌/◌, ◌^◌, Bool, true, false, cond, List, [], ◌∷◌, ◌++◌, length}
+use Rattle.std.proofs.Common.{◌⊎◌, inl, inr, refl, sym, ap, ◌∙◌, subst, append_assoc, Option, Some, None, arith}
 use Rattle.std.specs.Prelude.{Result, Ok, Err}
 use Rattle.std.proofs.lemmas.List.{length-append, take_all}
 use Rattle.std.proofs.lemmas.Bool.{eqb-true, both_ways}
@@ -43,7 +44,8 @@ use Rattle.walk_laws.proofs.Shifts.{of_fields, same_side}
 use Rattle.tagged_tlb.specs.declared.row.Kind.{Kind}
 use Rattle.tagged_tlb.specs.declared.row.Kind.TheVariants.{Table1 as table1, Leaf2 as leaf2, Table2 as table2}
 use Rattle.machine_spec.specs.Moments.{regs_after}
-use Rattle.machine_spec.specs.Marks.{Part, nothing, table, leaf_of_stage1, leaf_of_stage2, part1, part_of, Mark, mark, marks, is_first, is_leaf, is_table, has_asid, tag_by}
+use Rattle.machine_spec.specs.Marks.{Part, nothing, table, leaf_of_stage1, leaf_of_stage2, part1, part_of, Mark}
+use Rattle.machine_spec.specs.Marks.{mark, marks, is_first, is_leaf, is_table, has_asid, tag_by}
 use Rattle.machine_spec.specs.Uses.{AllUsed}
 use Rattle.machine_spec.specs.Kept.{View, now, regs_when, IsHeld, IsKeptItem}
 use Rattle.tagged_tlb.specs.declared.row.Row.{Row}
@@ -174,7 +176,8 @@ module _ (q : Asked) where
 -- a table of stage 1 has a small region around the address
 abbrev IsNearTable : Regime → ℕ → Mark → Type 0
 IsNearTable r x m =
-    is_first m ≡ true → (b : Bool) → m.part ≡ table b → (m.region.class ≤ class_of r.stage1.granule r.stage1.start) × (m.region.start ≡ x / 2 ^ m.region.class)
+    is_first m ≡ true → (b : Bool) → m.part ≡ table b → (m.region.class ≤ class_of r.stage1.granule r.stage1.start)
+    × (m.region.start ≡ x / 2 ^ m.region.class)
 
 table_class : (r : Regime) (kind : Kind1) (left pa : ℕ) (b : Bool) → part1 r kind ≡ table b → left ≤ r.stage1.start
     → class_by (mapping1 kind) r.stage1 left pa ≤ class_of r.stage1.granule r.stage1.start
@@ -182,7 +185,8 @@ table_class r Invalid left pa b h l = absurd cc
 table_class r (Table address bits) left pa b h l = class_up r.stage1.granule left r.stage1.start l
 table_class r (Leaf out attr_index bits sh af global contiguous) left pa b h l = absurd cc
 
-near_word : (r : Regime) (st : Stage) (left value pa : ℕ) (b : Bool) → is_stage1 st ≡ true → part_of r st left value ≡ table b → left ≤ r.stage1.start
+near_word : (r : Regime) (st : Stage) (left value pa : ℕ) (b : Bool) → is_stage1 st ≡ true → part_of r st left value ≡ table b
+    → left ≤ r.stage1.start
     → class_by (mapping_of r st left value) (sizes_of r st) left pa ≤ class_of r.stage1.granule r.stage1.start
 near_word r S1 left value pa b f h l = table_class r (means1_of r.config r.side left value) left pa b h l
 near_word r S2 left value pa b f h l = absurd cc
@@ -239,7 +243,8 @@ only_case false x r h = absurd h
 abbrev IsOneOf : Maker → Mark → List Item → List Item → Stage → Part → Row → Type 0
 IsOneOf k m whole part st p r =
     ((st ≡ S1) × (p ≡ table true) × (r ≡ row_of k m table1 whole))
-    ⊎ (((st ≡ S2) × (p ≡ table true) × (r ≡ row_of k m table2 part)) ⊎ ((st ≡ S2) × (p ≡ leaf_of_stage2 true) × (r ≡ row_of k m leaf2 part)))
+    ⊎ (((st ≡ S2) × (p ≡ table true) × (r ≡ row_of k m table2 part)) ⊎ ((st ≡ S2) × (p ≡ leaf_of_stage2 true)
+    × (r ≡ row_of k m leaf2 part)))
 
 row_cases : (k : Maker) (m : Mark) (whole part : List Item) (st : Stage) (p : Part) (r : Row) → In r (rows_by k m whole part st p)
     → IsOneOf k m whole part st p r
@@ -286,7 +291,8 @@ module _ (laws : Laws) (v : View) (s : Step) (none : (i : Inval) → issued_now 
   held_at above pre m ms h = subst (λ g. IsHeld v (config_of g) (vmid_of g) m) when_now (used_drop (Good v) above pre (m ∷ ms) h).1.0.0.held
 
   -- an item whose use has been
-  pub closed : (t : Side) (r : Row) → r.key.config ≡ config_at v → r.key.vmid ≡ vmid_of regs → (m : Mark) (u : ℕ) → OfBoth v.side t m → Good v m (Some u)
+  pub closed : (t : Side) (r : Row) → r.key.config ≡ config_at v → r.key.vmid ≡ vmid_of regs → (m : Mark) (u : ℕ) → OfBoth v.side t m
+      → Good v m (Some u)
       → Then t r m (Some u)
   closed t r ec ev m u both h =
       let f : IsKeptItem v (config_at v) (vmid_of regs) m u = subst (λ g. IsKeptItem v (config_of g) (vmid_of g) m u) when_now h.0 in
@@ -297,7 +303,8 @@ module _ (laws : Laws) (v : View) (s : Step) (none : (i : Inval) → issued_now 
       )
 
   -- an item that was read now, and whose use is to come
-  pub last : (t : Side) (r : Row) → r.key.config ≡ config_at v → r.key.vmid ≡ vmid_of regs → (m : Mark) → OfBoth v.side t m → m.item.moment ≡ now v
+  pub last : (t : Side) (r : Row) → r.key.config ≡ config_at v → r.key.vmid ≡ vmid_of regs → (m : Mark) → OfBoth v.side t m
+      → m.item.moment ≡ now v
       → m.base ≡ false → tag_by regs m ≡ r.tag
       → (has_asid m ≡ true → (asid_of regs ≡ r.key.asid) × (r.global ≡ false)) → HeldNow m → Then t r m None
   last t r ec ev m both at b tag asid held =
@@ -326,7 +333,8 @@ module _ (laws : Laws) (v : View) (s : Step) (none : (i : Inval) → issued_now 
 
     table1_row : (tr : List Item) (u : Ask Need Item (End Landing)) (ws : List Mark) (m : Mark) (rest : List Mark) → IsOn R (here v a) tr u
         → marks R (here v a) tr ≡ ws ++ m ∷ []
-        → m.item.moment ≡ now v → is_first m ≡ true → m.part ≡ table true → m.base ≡ false → HeldNow m → AllUsed (Good v) None (ws ++ m ∷ rest)
+        → m.item.moment ≡ now v → is_first m ≡ true → m.part ≡ table true → m.base ≡ false → HeldNow m
+        → AllUsed (Good v) None (ws ++ m ∷ rest)
         → IsRow (longer v s) inbox (row_with (key_of regs) m table1 tr)
     table1_row tr u ws m rest on is at first part base held used =
         let r : Row = row_with (key_of regs) m table1 tr in (
@@ -355,7 +363,8 @@ module _ (laws : Laws) (v : View) (s : Step) (none : (i : Inval) → issued_now 
     module _ (p : Bool) (x : ℕ) (ref : is_refused2 (config_at v) x ≡ false) (part : List Item) (u : Ask Need Item (End Leaf2)) (pm : List Mark) (m : Mark)
         (rest : List Mark) (above : Option ℕ)
         (on : IsOn R (chain R p x) part u) (is : marks R (chain R p x) part ≡ pm ++ m ∷ []) (sec : AllSecond pm)
-        (at : m.item.moment ≡ now v) (first : is_first m ≡ false) (base : m.base ≡ false) (held : HeldNow m) (used : AllUsed (Good v) above (pm ++ m ∷ rest))
+        (at : m.item.moment ≡ now v) (first : is_first m ≡ false) (base : m.base ≡ false) (held : HeldNow m)
+        (used : AllUsed (Good v) above (pm ++ m ∷ rest))
       where
         stored2 : (kind : Kind) (t : Side) → AllUsed (Then t (row_with key2 m kind part)) None (pm ++ m ∷ [])
         stored2 kind t =
@@ -418,7 +427,8 @@ module _ (laws : Laws) (v : View) (s : Step) (none : (i : Inval) → issued_now 
     stage_first : (m : Mark) (b : Bool) (st : Stage) → m.stage ≡ st → is_first m ≡ b → is_stage1 st ≡ b
     stage_first m b st e f = sym (ap is_stage1 e) ∙ f
 
-    first_item : (whole part : List Item) (n : Need) (k : Item → Walk) (y : Item) (ys : List Item) → is_need1 n ≡ true → IsOn R (here v a) whole (ask n k)
+    first_item : (whole part : List Item) (n : Need) (k : Item → Walk) (y : Item) (ys : List Item) → is_need1 n ≡ true
+        → IsOn R (here v a) whole (ask n k)
         → fits R n y ≡ true → Uses1 whole (ask n k) (y ∷ ys)
         → All (row_at maker (mark R n y) (whole ++ y ∷ []) part)
     first_item whole part n k y ys need1 on fit used r h =
@@ -486,7 +496,8 @@ module _ (laws : Laws) (v : View) (s : Step) (none : (i : Inval) → issued_now 
         subst (λ i. All (row_at maker m (whole ++ i ∷ []) (chain_with part m) ++ rows_of maker (whole ++ i ∷ []) (chain_with part m) rest))
         (sym (mark_item R n y))
         (subst (λ q. All (row_at maker m (whole ++ y ∷ []) q ++ rows_of maker (whole ++ y ∷ []) q rest)) (sym (with_is n y first base part f b))
-        (all_append (row_at maker m (whole ++ y ∷ []) (with_by first base part y)) (rows_of maker (whole ++ y ∷ []) (with_by first base part y) rest) one more))
+        (all_append (row_at maker m (whole ++ y ∷ []) (with_by first base part y)) (rows_of maker (whole ++ y ∷ [])
+        (with_by first base part y) rest) one more))
 
     module _ (p : Bool) (x : ℕ) (ref : is_refused2 (config_at v) x ≡ false) (go : End Leaf2 → Walk) (w : Walk)
         (later : (e : End Leaf2) (whole part xs : List Item) → IsOn R (here v a) whole (go e) → IsOn R (go e) xs w → Uses1 whole (go e) xs
@@ -505,7 +516,8 @@ module _ (laws : Laws) (v : View) (s : Step) (none : (i : Inval) → issued_now 
           ∙ append_assoc pm (mark R n y ∷ []) rest in
           rows_more n y false false whole part rest words.0 words.1
           (second_item p x ref (whole ++ y ∷ []) part n k y rest above words.0 q h.0 u2)
-          (rows_chain (k y) (whole ++ y ∷ []) (part ++ y ∷ []) ys above (words.2 y) (on_append R (chain R p x) (ask n k) (k y) part (y ∷ []) q (h.0, refl))
+          (rows_chain (k y) (whole ++ y ∷ []) (part ++ y ∷ []) ys above (words.2 y) (on_append R (chain R p x) (ask n k)
+          (k y) part (y ∷ []) q (h.0, refl))
           (on_append R (here v a) (after (ask n k) go) (after (k y) go) whole (y ∷ []) on (h.0, refl)) h.1 (uses_on whole n (λ i. after (k i) go) y ys on u1)
           (subst (AllUsed (Good v) above) (sym eq) u2))
 
@@ -539,7 +551,8 @@ module _ (laws : Laws) (v : View) (s : Step) (none : (i : Inval) → issued_now 
 
     rows_rest : (q : Result Need (End Landing)) (k : Item → Plan) → ((n : Need) → q ≡ Ok n → is_need1 n ≡ true) → ((i : Item) → RowsOf (k i))
         → (whole part xs : List Item) (w : Walk)
-        → IsOn R (here v a) whole (joined q (λ i. flat R (k i))) → IsOn R (joined q (λ i. flat R (k i))) xs w → Uses1 whole (joined q (λ i. flat R (k i))) xs
+        → IsOn R (here v a) whole (joined q (λ i. flat R (k i))) → IsOn R (joined q (λ i. flat R (k i))) xs w
+        → Uses1 whole (joined q (λ i. flat R (k i))) xs
         → All (rows_of maker whole part (marks R (joined q (λ i. flat R (k i))) xs))
     rows_rest (Err e) k okay rec whole part xs w on h u = λ r i. absurd i
     rows_rest (Ok n) k okay rec whole part xs w on h u = rows_own n k (okay n refl) rec whole part xs w on h u
@@ -559,7 +572,8 @@ module _ (laws : Laws) (v : View) (s : Step) (none : (i : Inval) → issued_now 
         let eq : marks R (chain R p x) (y ∷ []) ++ rest ≡ m ∷ rest = ap (λ z. m ∷ (z ++ rest)) (marks_nil R (begun y)) in
         rows_more (stage2_base x) y false true whole part rest refl refl
         (none_at (whole ++ y ∷ []) (y ∷ []) (stage2_base x) y refl)
-        (rows_chain p x sound.0 go w (λ e w2 p2 x2 on2 h2 u2. rows_rest (next e) k (λ n q. (okay e n q).0) (λ i. rows_plan (k i) (more i)) w2 p2 x2 w on2 h2 u2)
+        (rows_chain p x sound.0 go w (λ e w2 p2 x2 on2 h2 u2. rows_rest (next e) k (λ n q. (okay e n q).0)
+        (λ i. rows_plan (k i) (more i)) w2 p2 x2 w on2 h2 u2)
         (begun y) (whole ++ y ∷ []) (y ∷ []) ys d.0 (laws.behind_words R p x y.value) (h.0, refl)
         (on_append R (here v a) (flat R (via p x next k)) (after (begun y) go) whole (y ∷ []) on (h.0, refl)) h.1
         (uses_on whole (stage2_base x) (λ i. after (begun i) go) y ys on u) (subst (AllUsed (Good v) d.0) (sym eq) d.1))

@@ -11,7 +11,8 @@ use Rattle.trails.specs.declared.item.What.{What}
 use Rattle.trails.specs.declared.item.What.TheVariants.{Base, Word}
 use Rattle.walk_spec.specs.Ask.{Ask, done, ask, on}
 use Rattle.walk_spec.specs.declared.region.Region.{Region}
-use Rattle.walk_spec.specs.Needs.{Regime, Need, stage1_base, stage2_base, word, WordNeed, fits, is_word, is_base, stage_eq, level_eq, is_run_mate, region_of, sizes_of}
+use Rattle.walk_spec.specs.Needs.{Regime, Need, stage1_base, stage2_base, word, WordNeed, fits, is_word, is_base}
+use Rattle.walk_spec.specs.Needs.{stage_eq, level_eq, is_run_mate, region_of, sizes_of}
 use Rattle.walk_laws.proofs.Stepping.{Takes, InStep}
 use Rattle.walk_laws.proofs.Places.{SameRegion, first_of_and, second_of_and}
 use Rattle.walk_laws.proofs.Tables2.{level_of_one}

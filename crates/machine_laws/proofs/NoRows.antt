@@ -1,5 +1,6 @@
 -- Without rows each access is the fresh walk of its moment.
-use Rattle.std.proofs.Common.{◌≡◌, ℕ, ◌-◌, ◌<◌, ◌++◌, length, take, Bool, true, false, not, cond, List, [], ◌∷◌, refl, inl, inr, sym, ap, ◌∙◌, subst, Option, Some, None, arith}
+use Rattle.std.proofs.Common.{◌≡◌, ℕ, ◌-◌, ◌<◌, ◌++◌, length, take, Bool, true, false, not, cond, List, []}
+use Rattle.std.proofs.Common.{◌∷◌, refl, inl, inr, sym, ap, ◌∙◌, subst, Option, Some, None, arith}
 use Rattle.std.specs.Prelude.{◌&&◌, ◌==◌, nat_lt, fold, filter, slice_get, option_map}
 use Rattle.std.specs.List.{list_any}
 use Rattle.std.proofs.lemmas.Bool.{cases_Bool, eq-eqb, ltb-true}
@@ -256,7 +257,8 @@ module _ (serves : ServesWell) (makes : MakesWell) (h : Header) (none : h.size �
   bare_first : (c : ℕ) → c < h.cores → IsBare (core_numbered (opened h) c)
   bare_first c lt = ap (λ (v : Core). v.cache) (get_or-replicate h.cores c no_core no_core lt)
 
-  bare_next : (w : World) (e : Event) → length w.cores ≡ h.cores → ((c : ℕ) → c < h.cores → IsBare (core_numbered w c)) → (c : ℕ) → c < h.cores
+  bare_next : (w : World) (e : Event) → length w.cores ≡ h.cores → ((c : ℕ) → c < h.cores → IsBare (core_numbered w c)) → (c : ℕ)
+      → c < h.cores
       → IsBare (core_numbered (after_event h w e) c)
   bare_next w e count b c lt =
       ap (λ (v : Core). v.cache) (each_at (moved h w e) w.cores c no_core (omega (arith, count, lt))) ∙ bare_moved h w none c (core_numbered w c) (b c lt) e

@@ -1,5 +1,6 @@
 -- Behind a broadcast VMALLS12E1 and the barrier of its issuer no core has a row of its VMID that was made before it.
-use Rattle.std.proofs.Common.{◌≡◌, ℕ, ◌+◌, ◌<◌, ◌⊎◌, Bool, true, false, not, cond, List, [], ◌∷◌, ◌++◌, length, inl, inr, refl, sym, ap, ◌∙◌, subst, arith, Option, Some, None}
+use Rattle.std.proofs.Common.{◌≡◌, ℕ, ◌+◌, ◌<◌, ◌⊎◌, Bool, true, false, not, cond, List, [], ◌∷◌}
+use Rattle.std.proofs.Common.{◌++◌, length, inl, inr, refl, sym, ap, ◌∙◌, subst, arith, Option, Some, None}
 use Rattle.std.specs.Prelude.{filter, fold, nat_lt, All, ◌==◌, ◌&&◌}
 use Rattle.std.proofs.lemmas.Bool.{both_ways, cases_Bool, eq-eqb}
 use Rattle.std.proofs.lemmas.List.{length-replicate, get_or-replicate}
@@ -30,9 +31,11 @@ use Rattle.machine_spec.specs.Header.{Header}
 use Rattle.machine_spec.specs.Invalidations.{issued_by, completes}
 use Rattle.machine_spec.specs.Marks.{Part, nothing, table, leaf_of_stage1, leaf_of_stage2, Mark, marks, is_leaf1}
 use Rattle.tagged_tlb.specs.declared.row.Row.{Row}
-use Rattle.machine_spec.specs.Made.{Maker, key_for, only_if, row_of, rows_by, is_read_now, chain_with, rows_of, last_first, leaf_row, leaf_rows, combined_rows, numbered, rows_made}
+use Rattle.machine_spec.specs.Made.{Maker, key_for, only_if, row_of, rows_by, is_read_now, chain_with, rows_of}
+use Rattle.machine_spec.specs.Made.{last_first, leaf_row, leaf_rows, combined_rows, numbered, rows_made}
 use Rattle.machine_spec.specs.Served.{Place, Reply, Halt, came, clash, served}
-use Rattle.machine_spec.specs.Machine.{Core, World, no_core, delivered_by, delivered, most_held, posted, mailed, mailed_by, finished, Visit, made_by, visited_by, visit_of, core_numbered, regs_in, accessed, acted, moved, after_event, opened, world_after}
+use Rattle.machine_spec.specs.Machine.{Core, World, no_core, delivered_by, delivered, most_held, posted, mailed, mailed_by, finished, Visit, made_by}
+use Rattle.machine_spec.specs.Machine.{visited_by, visit_of, core_numbered, regs_in, accessed, acted, moved, after_event, opened, world_after}
 use Rattle.machine_laws.specs.Rules.{NoRowOutlivesItsVmid}
 use Rattle.machine_laws.proofs.Facts.{In}
 use Rattle.machine_laws.proofs.Lists.{In-filter, In-from_filter, In-left, In-last, In-append}
@@ -256,7 +259,8 @@ module _ (h : Header) where
 
   rows_come : (w : World) → length w.cores ≡ h.cores → (e : Event) (c : ℕ) → c < h.cores
       → AllCome w.step (core_numbered w c) (core_numbered (after_event h w e) c)
-  rows_come w count e c lt = subst (λ (u : Core). AllCome w.step (core_numbered w c) u) (sym (moved_at w count e c lt)) (event_come h w e c (core_numbered w c))
+  rows_come w count e c lt = subst (λ (u : Core). AllCome w.step (core_numbered w c) u) (sym (moved_at w count e c lt))
+      (event_come h w e c (core_numbered w c))
 
   tagged_on : (w : World) → IsTagged h w → (e : Event) → IsTagged h (after_event h w e)
   tagged_on w t e = record {
@@ -353,7 +357,8 @@ module _ (h : Header) where
 pub no_row_outlives_its_vmid : NoRowOutlivesItsVmid
 no_row_outlives_its_vmid h before between core own c lt =
     let before_dsb : World = fold (after_event h) (after_event h (world_after h before) (issue core)) between in
-    subst (λ (w : World). All (λ r. r.key.vmid ≡ vmid_of (regs_in (world_after h before) core) → length before < r.made.step) (core_numbered w c).cache.rows)
+    subst (λ (w : World). All (λ r. r.key.vmid ≡ vmid_of (regs_in (world_after h before) core) → length before < r.made.step)
+    (core_numbered w c).cache.rows)
     (sym (world_is h before between core))
     (all_of_in (λ (r : Row). r.key.vmid ≡ vmid_of (regs_in (world_after h before) core) → length before < r.made.step)
     (core_numbered (after_event h before_dsb (Dsb core Ish)) c).cache.rows

@@ -36,6 +36,7 @@ module _ {X : Type 0} (R : X → X → Type 0) where
   )
 
 -- another relation
-pub pairs_map : {X : Type 0} (R S : X → X → Type 0) (xs : List X) → ((x : X) → In x xs → (y : X) → R x y → S x y) → AllPairs R xs → AllPairs S xs
+pub pairs_map : {X : Type 0} (R S : X → X → Type 0) (xs : List X) → ((x : X) → In x xs → (y : X) → R x y → S x y) → AllPairs R xs
+    → AllPairs S xs
 pairs_map R S [] f h = tt
 pairs_map R S (x ∷ xs) f h = ((λ y i. f x (inl refl) y (h.0 y i)), pairs_map R S xs (λ z i. f z (inr i)) h.1)

@@ -92,7 +92,8 @@ plan_by q = whole_plan q q.regime.config.m (is_refused1 q.regime.config q.access
 abbrev pub plan_for : Config → Bool → Access → Plan
 plan_for c j a = plan_by (asked c j a)
 
-after_after : {A B C : Type 0} (t : Ask Need Item A) (f : A → Ask Need Item B) (g : B → Ask Need Item C) → after (after t f) g ≡ after t (λ a. after (f a) g)
+after_after : {A B C : Type 0} (t : Ask Need Item A) (f : A → Ask Need Item B) (g : B → Ask Need Item C)
+    → after (after t f) g ≡ after t (λ a. after (f a) g)
 after_after (done a) f g = refl
 after_after (ask n k) f g = ap (ask n) (fun_ext (λ i. after_after (k i) f g))
 
@@ -105,16 +106,19 @@ module _ (r : Regime) (out : End Leaf1 → Plan) (plain : (f : Fault) → out (s
 
   read_step : (b : Bool) (e : Entry1) (l : Leaf2) (k : Item → Ask Entry1 Item (End Leaf1)) (p : Item → Plan)
       → ((i : Item) → flat r (p i) ≡ after (Finer (k i)) Ends)
-      → joined (read_next b e l) (λ i. flat r (p i)) ≡ after (after (cond b (read1 e l.pa) (done (Err (read_fault l)))) (go_on stops (λ i. Finer (k i)))) Ends
+      → joined (read_next b e l) (λ i. flat r (p i)) ≡ after (after (cond b (read1 e l.pa) (done (Err (read_fault l))))
+      (go_on stops (λ i. Finer (k i)))) Ends
   read_step true e l k p h = ap (ask (word_need e l.pa)) (fun_ext h)
   read_step false e l k p h = sym (ap (flat r) (plain (read_fault l)))
 
-  word_step : (e : Entry1) (d : End Leaf2) (k : Item → Ask Entry1 Item (End Leaf1)) (p : Item → Plan) → ((i : Item) → flat r (p i) ≡ after (Finer (k i)) Ends)
+  word_step : (e : Entry1) (d : End Leaf2) (k : Item → Ask Entry1 Item (End Leaf1)) (p : Item → Plan)
+      → ((i : Item) → flat r (p i) ≡ after (Finer (k i)) Ends)
       → joined (word_behind r.config e d) (λ i. flat r (p i)) ≡ after (after (read1_by r.config e d) (go_on stops (λ i. Finer (k i)))) Ends
   word_step e (stops f) k p h = sym (ap (flat r) (plain f))
   word_step e (reaches l) k p h = read_step (is_readable r.config l) e l k p h
 
-  by_case : (b d : Bool) (e : Entry1) (k : Item → Ask Entry1 Item (End Leaf1)) (p : Item → Plan) → ((i : Item) → flat r (p i) ≡ after (Finer (k i)) Ends)
+  by_case : (b d : Bool) (e : Entry1) (k : Item → Ask Entry1 Item (End Leaf1)) (p : Item → Plan)
+      → ((i : Item) → flat r (p i) ≡ after (Finer (k i)) Ends)
       → flat r (entry_plan r b d e (λ f. out (stops f)) p)
       ≡ after (after (cond b (after (cond d (done (stops (early2 r true e.place))) (chain r true e.place)) (read1_by r.config e)) (read1 e e.place))
       (go_on stops (λ i. Finer (k i)))) Ends
@@ -144,7 +148,8 @@ module _ (q : Asked) where
   out_is (reaches l) = output_is q.regime.config.vm (is_refused2 q.regime.config l.out) l
 
   -- stage 1 from a table down, and stage 2 of its output
-  pub from_is : (left : ℕ) (t : Table1) → flat q.regime (from_plan q left t) ≡ after (finer stops (word_of q.regime) (walk1_from q left t)) (stage2_behind q)
+  pub from_is : (left : ℕ) (t : Table1) → flat q.regime (from_plan q left t) ≡ after (finer stops (word_of q.regime) (walk1_from q left t))
+      (stage2_behind q)
   from_is left t =
       finer_plan q.regime (out_of q) (λ f. refl) (walk1_from q left t) ∙ ap (after (finer stops (word_of q.regime) (walk1_from q left t))) (fun_ext out_is)
 

@@ -1,5 +1,6 @@
 -- Every plan that is served is fine: its items stand on its tree and are kept, however the service stops.
-use Rattle.std.proofs.Common.{◌≡◌, ℕ, Bool, true, false, List, [], ◌∷◌, ◌++◌, ◌⊎◌, inl, inr, refl, sym, ap, ◌∙◌, subst, append_assoc, append-nil, Option, Some, None}
+use Rattle.std.proofs.Common.{◌≡◌, ℕ, Bool, true, false, List, [], ◌∷◌, ◌++◌, ◌⊎◌, inl, inr, refl}
+use Rattle.std.proofs.Common.{sym, ap, ◌∙◌, subst, append_assoc, append-nil, Option, Some, None}
 use Rattle.std.specs.Prelude.{Result, Ok, Err, option_map}
 use Rattle.std.proofs.lemmas.Bool.{both_ways}
 use Rattle.sysregs.specs.Sides.{side_of}
@@ -28,11 +29,13 @@ use Rattle.machine_spec.specs.Served.{Supplied, gives, halts, clash, supplied_by
 use Rattle.machine_laws.proofs.Trees.{IsOn, is_need1, needs_base, chain, Plan, fin, own, via, joined, flat, rest_by, IsSound, IsSecond, IsWords, AllSecond}
 use Rattle.machine_laws.proofs.Facts.{regime_for}
 use Rattle.machine_laws.proofs.Laws.{Laws}
-use Rattle.machine_laws.proofs.Stands.{on_append, marks_append, on_after, marks_nil, joined_is, via_marks, mark_first, mark_item, second_marks, words_second, nil_right}
+use Rattle.machine_laws.proofs.Stands.{on_append, marks_append, on_after, marks_nil, joined_is, via_marks}
+use Rattle.machine_laws.proofs.Stands.{mark_first, mark_item, second_marks, words_second, nil_right}
 use Rattle.machine_laws.proofs.Uses.{none_of, chain_append, last_append, last_more}
 use Rattle.machine_laws.proofs.Fine.{Good, IsNow, LastOk, Kept1, place_of, config_at, FineBy, Start, Begins, PlansAreFine}
 use Rattle.machine_laws.proofs.Begins.{chain_second}
-use Rattle.machine_laws.proofs.Serve.{fits_base1, fits_needed, opened, IsFresh, AllFresh, fresh_next, fresh_used, fresh_last, prepend, serve_queue, last_ok_none, fine_after, pre_own, pre_via, above_now}
+use Rattle.machine_laws.proofs.Serve.{fits_base1, fits_needed, opened, IsFresh, AllFresh, fresh_next, fresh_used, fresh_last}
+use Rattle.machine_laws.proofs.Serve.{prepend, serve_queue, last_ok_none, fine_after, pre_own, pre_via, above_now}
 
 -- WHAT IS READ NOW
 
@@ -295,7 +298,8 @@ module _ (laws : Laws) (v : View) (rows : List Row) (a : Access) where
     fine_own (word w) k sound rec above up = fine_word above w k sound rec (memory_after v.header v.log w.place) refl
 
     -- what follows a chain is no base
-    rest_sound : (n : Need) (k : Item → Plan) → (is_need1 n ≡ true) × (needs_base n ≡ false) → ((i : Item) → IsSound rg (k i)) → IsSound rg (own n k)
+    rest_sound : (n : Need) (k : Item → Plan) → (is_need1 n ≡ true) × (needs_base n ≡ false) → ((i : Item) → IsSound rg (k i))
+        → IsSound rg (own n k)
     rest_sound n k h sound = (h.0, (λ b. absurd (both_ways (needs_base n) h.1 b)), sound)
 
     fine_rest : (o : Result Need (End Landing)) (k : Item → Plan) → ((n : Need) → o ≡ Ok n → (is_need1 n ≡ true) × (needs_base n ≡ false)) →

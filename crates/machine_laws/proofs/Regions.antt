@@ -1,5 +1,6 @@
 -- A combined row serves each access of its piece: a judged trail that leads to a translation does so for each, unjudged.
-use Rattle.std.proofs.Common.{◌≡◌, ℕ, zero, suc, ◌/◌, ◌^◌, Bool, true, false, cond, not, List, [], ◌∷◌, refl, sym, ap, ◌∙◌, subst, arith}
+use Rattle.std.proofs.Common.{◌≡◌, ℕ, zero, suc, ◌/◌, ◌^◌, Bool, true, false, cond, not, List}
+use Rattle.std.proofs.Common.{[], ◌∷◌, refl, sym, ap, ◌∙◌, subst, arith}
 use Rattle.std.specs.Prelude.{Result, Ok, Err}
 use Rattle.sysregs.specs.declared.regs.Config.{Config}
 use Rattle.sysregs.specs.declared.regs.Side.{Side}
@@ -47,7 +48,8 @@ relax_same (done (stops f)) = tt
 relax_same (done (reaches l)) = refl
 relax_same (ask n k) = (refl, λ i. relax_same (k i))
 
-relax_after : {N A B : Type 0} (t u : Ask N Item (End A)) (f g : End A → Ask N Item (End B)) → Relax t u → ((x : Fault) → f (stops x) ≡ done (stops x))
+relax_after : {N A B : Type 0} (t u : Ask N Item (End A)) (f g : End A → Ask N Item (End B)) → Relax t u
+    → ((x : Fault) → f (stops x) ≡ done (stops x))
     → ((l : A) → Relax (f (reaches l)) (g (reaches l))) → Relax (after t f) (after u g)
 relax_after (done (stops x)) u f g w h k = subst (λ v. Relax v (after u g)) (sym (h x)) tt
 relax_after (done (reaches l)) u f g w h k = subst (λ v. Relax (f (reaches l)) (after v g)) (sym w) (k l)
@@ -63,7 +65,8 @@ relax_go : {A : Type 0} (f g : Item → Ask Need Item (End A)) → ((i : Item) �
 relax_go f g h (Ok i) = h i
 relax_go f g h (Err x) = tt
 
-relax_finer : (how : Entry1 → Ask Need Item (Result Item Fault)) (t u : Ask Entry1 Item (End Leaf1)) → Relax t u → Relax (finer stops how t) (finer stops how u)
+relax_finer : (how : Entry1 → Ask Need Item (Result Item Fault)) (t u : Ask Entry1 Item (End Leaf1)) → Relax t u
+    → Relax (finer stops how t) (finer stops how u)
 relax_finer how (done (stops f)) u w = tt
 relax_finer how (done (reaches l)) u w = ap (finer stops how) w
 relax_finer how (ask e k) (done d) w = absurd w
@@ -93,7 +96,8 @@ module _ (r : Regime) (a : Access) where
   relax_leaf below below' left l true = tt
   relax_leaf below below' left l false = refl
 
-  relax_step : (below below' : Table1 → Ask Entry1 Item (End Leaf1)) → ((t : Table1) → Relax (below t) (below' t)) → (left : ℕ) (t : Table1) (i : Item)
+  relax_step : (below below' : Table1 → Ask Entry1 Item (End Leaf1)) → ((t : Table1) → Relax (below t) (below' t))
+      → (left : ℕ) (t : Table1) (i : Item)
       → Turn1 r left i
       → Relax (step_then below (step1 With (entry1 With left t) i.pa i.value)) (step_then below' (step1 Without (entry1 Without left t) i.pa i.value))
   relax_step below below' h left t i (table next bits al d) = rw (d true a t, d false a t) (h record { address = next; bits = joined_bits t.bits bits })

@@ -1,5 +1,6 @@
 -- A row of stage 1 serves each access of its region: a trail up to a table of stage 1.
-use Rattle.std.proofs.Common.{◌≡◌, ℕ, zero, suc, ◌/◌, ◌^◌, Bool, true, false, cond, not, List, [], ◌∷◌, ◌++◌, inl, inr, refl, sym, ap, ◌∙◌, subst, arith, eqb, append-nil}
+use Rattle.std.proofs.Common.{◌≡◌, ℕ, zero, suc, ◌/◌, ◌^◌, Bool, true, false, cond, not, List, [], ◌∷◌}
+use Rattle.std.proofs.Common.{◌++◌, inl, inr, refl, sym, ap, ◌∙◌, subst, arith, eqb, append-nil}
 use Rattle.std.specs.Prelude.{Result, Ok, Err}
 use Rattle.std.proofs.lemmas.Bool.{both_ways}
 use Rattle.geometry.specs.Tables.{class_of, level_of, has_block}
@@ -43,7 +44,8 @@ use Rattle.machine_laws.proofs.Trees.{IsOn, chain, Plan, fin, own, via, joined, 
 use Rattle.machine_laws.proofs.Facts.{regime_for}
 use Rattle.machine_laws.proofs.Laws.{FirstTable}
 use Rattle.machine_laws.proofs.Stands.{marks_append, joined_is, via_on, via_marks, second_marks, marks_nil}
-use Rattle.machine_laws.proofs.PlanOf.{word_need, read_next, word_behind, entry_plan, plan_of, output_plan, out_of, from_plan, root_table, behind_plan, off_end, whole_plan, plan_for, plan_is_walk}
+use Rattle.machine_laws.proofs.PlanOf.{word_need, read_next, word_behind, entry_plan, plan_of, output_plan, out_of, from_plan}
+use Rattle.machine_laws.proofs.PlanOf.{root_table, behind_plan, off_end, whole_plan, plan_for, plan_is_walk}
 use Rattle.machine_laws.proofs.Sounds.{sound_plan, chain_second}
 use Rattle.machine_laws.proofs.MarksOf.{FitsWord, fits_word_parts, takes_on, on_takes, on_stands, step_on_other, step_marks}
 use Rattle.machine_laws.proofs.Regions2.{mark_full, mark_at_full, mark_base1_part, mark_base2_part, last_tail, table_real, holds_same}
@@ -75,7 +77,8 @@ module _ (r : Regime) (left value : ℕ) where
       × ((j : Bool) (a : Access) (t : Table1) (pa : ℕ)
       → step1 (under r j a) (entry1 (under r j a) left t) pa value ≡ Down record { address = next; bits = joined_bits t.bits bits })
 
-  table_leads : (next : ℕ) (bits : TableBits) (big : Bool) → means1_of r.config r.side left value ≡ TableOf1 next bits → is_too_large r.stage1 next ≡ big
+  table_leads : (next : ℕ) (bits : TableBits) (big : Bool) → means1_of r.config r.side left value ≡ TableOf1 next bits
+      → is_too_large r.stage1 next ≡ big
       → table (not big) ≡ table true
       → (j : Bool) (a : Access) (t : Table1) (pa : ℕ)
       → step1 (under r j a) (entry1 (under r j a) left t) pa value ≡ Down record { address = next; bits = joined_bits t.bits bits }
@@ -159,7 +162,8 @@ module _ (r : Regime) (j : Bool) (a : Access) where
       → Opens (flat r (Onward below 0 t i))
   opens_zero t i below h = let d = table_leads1 r 0 i.value h in absurd (no_table1 r.config r.side i.value d.0 d.1 d.2)
 
-  opens_suc : (left : ℕ) (t : Table1) (i : Item) → part_of r S1 (suc left) i.value ≡ table true → Opens (flat r (Onward (walk1_from Q left) (suc left) t i))
+  opens_suc : (left : ℕ) (t : Table1) (i : Item) → part_of r S1 (suc left) i.value ≡ table true
+      → Opens (flat r (Onward (walk1_from Q left) (suc left) t i))
   opens_suc left t i h =
       let d = table_leads1 r (suc left) i.value h in
       rw (d.3 j a t i.pa) (opens_from left record { address = d.0; bits = joined_bits t.bits d.1 })
@@ -333,7 +337,8 @@ table_last_by r x u trail m (word w) k i part l f e d t =
       opens = subst Opens (sym d) (t.2 i p);
     }
 
-open_stage : (r : Regime) (u : Ask Need Item (End Landing)) (p : Plan) → Opens u → u ≡ flat r p → (f : Fault) → p ≡ fin (stops f) → is_stage1 f.stage ≡ false
+open_stage : (r : Regime) (u : Ask Need Item (End Landing)) (p : Plan) → Opens u → u ≡ flat r p → (f : Fault) → p ≡ fin (stops f)
+    → is_stage1 f.stage ≡ false
 open_stage r u p o e f h = let s : Opens (flat r (fin (stops f))) = subst (λ (v : Plan). Opens (flat r v)) h (subst Opens e o) in ap is_stage1 s.0
 
 -- what stands on a walk under another side
@@ -341,7 +346,8 @@ abbrev StandsBy : (c : Config) (b : Access) (trail : List Item) (ms : List Mark)
 StandsBy c b trail ms v s =
     IsOn (regime_of c s) (walk_by (under (regime_of c s) true b)) trail v × (marks (regime_of c s) (walk_by (under (regime_of c s) true b)) trail ≡ ms)
 
-first_table_by : (c : Config) (b : Access) (trail : List Item) (v : Ask Need Item (End Landing)) (pre : List Mark) (m : Mark) → is_first m ≡ true → Opens v
+first_table_by : (c : Config) (b : Access) (trail : List Item) (v : Ask Need Item (End Landing)) (pre : List Mark) (m : Mark) → is_first m ≡ true
+    → Opens v
     → StandsBy c b trail (pre ++ m ∷ []) v (side_of b.va) → FirstTable c trail (pre ++ m ∷ []) b
 first_table_by c b trail v pre m first o h =
     let d = walk_last c true b trail v m h.0 (subst (λ ms. LastIs ms m) (sym h.1) (last_here pre m)) first in
@@ -355,7 +361,8 @@ first_table_by c b trail v pre m first o h =
 
 -- a table of stage 1 serves each access of its region that is not refused
 pub first_table_is : (c : Config) (a b : Access) (trail : List Item) (u : Ask Need Item (End Landing)) (pre : List Mark) (m : Mark) →
-    c.m ≡ true → is_refused1 c b ≡ false → IsOn (regime_for c a) (walk c true a) trail u → marks (regime_for c a) (walk c true a) trail ≡ pre ++ m ∷ [] →
+    c.m ≡ true → is_refused1 c b ≡ false → IsOn (regime_for c a) (walk c true a) trail u
+    → marks (regime_for c a) (walk c true a) trail ≡ pre ++ m ∷ [] →
     is_first m ≡ true → m.part ≡ table true → holds m.region (untagged b.va) ≡ true → FirstTable c trail (pre ++ m ∷ []) b
 first_table_is c a b trail u pre m on ok h e first part hold =
     let r : Regime = regime_for c a in

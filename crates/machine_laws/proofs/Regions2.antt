@@ -1,5 +1,6 @@
 -- A row of stage 2 serves each IPA of its region, under either side and mark.
-use Rattle.std.proofs.Common.{◌≡◌, ℕ, zero, suc, ◌/◌, ◌^◌, Bool, true, false, cond, not, ◌&&◌, ◌||◌, List, [], ◌∷◌, ◌++◌, inr, refl, sym, ap, ◌∙◌, subst, arith, eqb}
+use Rattle.std.proofs.Common.{◌≡◌, ℕ, zero, suc, ◌/◌, ◌^◌, Bool, true, false, cond, not, ◌&&◌, ◌||◌, List}
+use Rattle.std.proofs.Common.{[], ◌∷◌, ◌++◌, inr, refl, sym, ap, ◌∙◌, subst, arith, eqb}
 use Rattle.std.proofs.lemmas.Bool.{eqb-true}
 use Rattle.geometry.specs.Tables.{most_left, has_block}
 use Rattle.bitwords.specs.Fields.{bit}
@@ -106,7 +107,8 @@ IsAt x stage1_base = ⊥
 IsAt x (stage2_base y) = Unit {0}
 IsAt x (word w) = (w.stage ≡ S2) × (w.address ≡ x)
 
-asks_step : (x : ℕ) (s : Lead Leaf2 ℕ) (below : ℕ → Ask Need Item (End Leaf2)) → ((t : ℕ) → Asks (IsAt x) (below t)) → Asks (IsAt x) (step_then below s)
+asks_step : (x : ℕ) (s : Lead Leaf2 ℕ) (below : ℕ → Ask Need Item (End Leaf2)) → ((t : ℕ) → Asks (IsAt x) (below t))
+    → Asks (IsAt x) (step_then below s)
 asks_step x (Down t) below h = h t
 asks_step x (Reached l) below h = tt
 asks_step x (Stopped f) below h = tt
@@ -135,7 +137,8 @@ module _ (r : Regime) (left pa value : ℕ) where
 
   leaf_leads : (p : Bool) (x : ℕ) (out mem_attr xn sh : ℕ) (read write af dbm contiguous big on : Bool) → let kind : Kind2 =
       LeafOf2 out mem_attr read write xn sh af dbm contiguous in
-      means2_of r.config left value ≡ kind → is_too_large r.stage2 out ≡ big → (af || r.config.ha2) ≡ on → leaf_of_stage2 (not big && on) ≡ leaf_of_stage2 true
+      means2_of r.config left value ≡ kind → is_too_large r.stage2 out ≡ big → (af || r.config.ha2) ≡ on
+      → leaf_of_stage2 (not big && on) ≡ leaf_of_stage2 true
       → Leads (asked2 r p x) kind
   unfolding step2
   leaf_leads p x out mem_attr xn sh read write af dbm contiguous true on e b o h = absurd cc
@@ -146,7 +149,8 @@ module _ (r : Regime) (left pa value : ℕ) where
     refl,
   )
 
-  leads_by : (p : Bool) (x : ℕ) (kind : Kind2) → means2_of r.config left value ≡ kind → part2 r kind ≡ leaf_of_stage2 true → Leads (asked2 r p x) kind
+  leads_by : (p : Bool) (x : ℕ) (kind : Kind2) → means2_of r.config left value ≡ kind → part2 r kind ≡ leaf_of_stage2 true
+      → Leads (asked2 r p x) kind
   leads_by p x Invalid2 e h = absurd cc
   leads_by p x (Table2 next) e h = absurd cc
   leads_by p x (LeafOf2 out mem_attr read write xn sh af dbm contiguous) e h =
@@ -157,7 +161,8 @@ module _ (r : Regime) (left pa value : ℕ) where
       → (l : Leaf2) × (step2 (asked2 r p x) left pa value ≡ Reached l) × (l.class ≡ class_by (mapping_of r S2 left value) r.stage2 left pa)
   leaf_leads2 p x h = leads_by p x (means2_of r.config left value) refl h
 
-  table_leads : (next : ℕ) (big : Bool) → means2_of r.config left value ≡ Table2 next → is_too_large r.stage2 next ≡ big → table (not big) ≡ table true
+  table_leads : (next : ℕ) (big : Bool) → means2_of r.config left value ≡ Table2 next → is_too_large r.stage2 next ≡ big
+      → table (not big) ≡ table true
       → (p : Bool) (x : ℕ) → step2 (asked2 r p x) left pa value ≡ Down next
   unfolding step2
   table_leads next true e b h p x = absurd cc
@@ -176,7 +181,8 @@ module _ (r : Regime) (left pa value : ℕ) where
   table_leads2 h = table_by (means2_of r.config left value) refl h
 
 no_table_where : {S : Type 0} (k : S → Kind2) (none pointer mapping : S) (b0 b1 b2 b3 : Bool) (next : ℕ) → b2 ≡ true
-    → k (cond b0 (cond b1 (cond b2 mapping pointer) (cond b3 mapping none)) none) ≡ Table2 next → k none ≡ Invalid2 → (k mapping ≡ Table2 next → ⊥) → ⊥
+    → k (cond b0 (cond b1 (cond b2 mapping pointer) (cond b3 mapping none)) none) ≡ Table2 next → k none ≡ Invalid2
+    → (k mapping ≡ Table2 next → ⊥) → ⊥
 no_table_where k none pointer mapping false b1 b2 b3 next q e n m = absurd cc
 no_table_where k none pointer mapping true true true b3 next q e n m = m e
 no_table_where k none pointer mapping true true false b3 next q e n m = absurd cc
@@ -280,7 +286,8 @@ chain_leaf_is c s t p q x y trail u pre m ok h e part hold =
     (rc.shift same) in
     let o = other_chain c s p x y ok trail u m h (part_real m.part part) w hold (done (reaches (moved2 d.0 y))) i in
     let tw = twin_on r r' (chain r p y) (chain r' q y) (done (reaches (moved2 d.0 y))) trail (twin_chain c s t p q y) o.0 in
-    leaf_found r r' q y trail (pre ++ m ∷ []) m.region.class (moved2 d.0 y) (chain r p y) tw (d.2 ∙ sym (ap (λ (z : Mark). z.region.class) w.is)) (sym o.1 ∙ e)
+    leaf_found r r' q y trail (pre ++ m ∷ []) m.region.class (moved2 d.0 y) (chain r p y) tw (d.2 ∙ sym (ap (λ (z : Mark). z.region.class) w.is))
+    (sym o.1 ∙ e)
 
 -- BEHIND A TABLE
 
@@ -301,7 +308,8 @@ ask_twin : (r r' : Regime) (n : Need) (k : Item → Ask Need Item (End Leaf2)) (
 ask_twin r r' n k (done e) h = absurd h
 ask_twin r r' n k (ask m l) h = (m, l, refl)
 
-chain_words : (r : Regime) (p : Bool) (x : ℕ) (i : Item) (trail : List Item) (u : Ask Need Item (End Leaf2)) → IsOn r (chain r p x) (i ∷ trail) u → IsWords u
+chain_words : (r : Regime) (p : Bool) (x : ℕ) (i : Item) (trail : List Item) (u : Ask Need Item (End Leaf2)) → IsOn r (chain r p x) (i ∷ trail) u
+    → IsWords u
 chain_words r p x i trail u h = words_on r (walk2_behind (asked2 r p x) i.value) u trail (words_behind (asked2 r p x) i.value) h.1
 
 chain_table_by : (r r' : Regime) (q : Bool) (y : ℕ) (trail : List Item) (ms : List Mark) (i : Item) (n : Need) (k : Item → Ask Need Item (End Leaf2))

@@ -1,5 +1,6 @@
 -- What memory and registers give fits what is needed and is kept; and what is served behind items that are kept is kept with them.
-use Rattle.std.proofs.Common.{◌≡◌, ℕ, ◌*◌, ◌/◌, ◌%◌, ◌^◌, ◌<◌, ◌≤◌, Bool, true, false, List, [], ◌∷◌, ◌++◌, length, take, refl, sym, ap, ◌∙◌, subst, append_assoc, append-nil, Option, Some, None, arith}
+use Rattle.std.proofs.Common.{◌≡◌, ℕ, ◌*◌, ◌/◌, ◌%◌, ◌^◌, ◌<◌, ◌≤◌, Bool, true, false, List, [], ◌∷◌, ◌++◌}
+use Rattle.std.proofs.Common.{length, take, refl, sym, ap, ◌∙◌, subst, append_assoc, append-nil, Option, Some, None, arith}
 use Rattle.std.specs.Prelude.{ℤ, pos, negsuc, Result, Ok, Err}
 use Rattle.std.proofs.lemmas.List.{take_all}
 use Rattle.std.proofs.lemmas.Bool.{eq-eqb, lt-ltb}
@@ -18,7 +19,8 @@ use Rattle.table_reads.specs.Places.{aligned_base}
 use Rattle.table_reads.specs.Items.{base_item}
 use Rattle.trails.specs.declared.item.Item.{Item}
 use Rattle.walk_spec.specs.Ask.{Ask, done, ask}
-use Rattle.walk_spec.specs.Needs.{Regime, regime_of, Need, stage1_base, stage2_base, word, WordNeed, stage_eq, level_eq, fits, fits_base as fits_base_by, needed_item}
+use Rattle.walk_spec.specs.Needs.{Regime, regime_of, Need, stage1_base, stage2_base, word, WordNeed, stage_eq}
+use Rattle.walk_spec.specs.Needs.{level_eq, fits, fits_base as fits_base_by, needed_item}
 use Rattle.walk_spec.specs.Fresh.{start_base1, start_base2}
 use Rattle.machine_spec.specs.Moments.{regs_after, memory_after}
 use Rattle.machine_spec.specs.Marks.{Mark, mark}
@@ -35,7 +37,8 @@ use Rattle.machine_spec.specs.Served.{Supplied, Halt, came, clash, Reply, pushed
 use Rattle.machine_laws.proofs.Trees.{IsOn, is_need1, needs_base, chain, Plan, fin, own, via, flat, rest_by, IsSound, IsSecond, AllSecond, IsWord}
 use Rattle.machine_laws.proofs.Fine.{Good, IsNow, LastOk, Kept1, FineOf}
 use Rattle.machine_laws.proofs.Stands.{on_append, marks_append, via_on, via_marks, mark_first, mark_base, second_marks, flat_fin}
-use Rattle.machine_laws.proofs.Uses.{use_first, use_second, above_first, above_second, above_leaf, first_none, open_at, chain_append, first_here, last_more, last_append}
+use Rattle.machine_laws.proofs.Uses.{use_first, use_second, above_first, above_second, above_leaf, first_none}
+use Rattle.machine_laws.proofs.Uses.{open_at, chain_append, first_here, last_more, last_append}
 use Rattle.machine_laws.proofs.Logs.{inval-within}
 
 -- WHAT IS GIVEN FITS
@@ -167,7 +170,8 @@ last_ok_none k (reaches l) = tt
 last_ok_none k (stops f) = λ w. tt
 
 -- a single item that was read now
-pub last_one : (k : ℕ) (e : End Landing) (m : Mark) → m.item.moment ≡ k → ((l : Landing) → e ≡ reaches l → m.base ≡ false) → LastOk k e (m ∷ [])
+pub last_one : (k : ℕ) (e : End Landing) (m : Mark) → m.item.moment ≡ k → ((l : Landing) → e ≡ reaches l → m.base ≡ false)
+    → LastOk k e (m ∷ [])
 last_one k (reaches l) m h b = b l refl
 last_one k (stops f) m h b = λ w s. h
 
@@ -179,7 +183,8 @@ module _ (v : View) (r : Regime) where
     pub last : (e : End Landing) → u ≡ done e → LastOk (now v) e (marks r t pre)
 
   last_after : (t u : Ask Need Item (End Landing)) (pre items : List Item) (e : End Landing) → IsOn r t pre u → IsOn r u items (done e) →
-      ((e : End Landing) → u ≡ done e → LastOk (now v) e (marks r t pre)) → LastOk (now v) e (marks r u items) → LastOk (now v) e (marks r t (pre ++ items))
+      ((e : End Landing) → u ≡ done e → LastOk (now v) e (marks r t pre)) → LastOk (now v) e (marks r u items)
+      → LastOk (now v) e (marks r t (pre ++ items))
   last_after t u pre [] e on h here there = rw append-nil (here e (sym h))
   last_after t (done b) pre (i ∷ items) e on h here there = absurd h
   last_after t (ask n k) pre (i ∷ items) e on h here there =
@@ -212,7 +217,8 @@ module _ (v : View) (r : Regime) where
   first_now : (m : Mark) (ms : List Mark) → is_first m ≡ true → m.item.moment ≡ now v → IsNow (now v) (next_first (m ∷ ms))
   first_now m ms f e = subst (IsNow (now v)) (sym (first_here m ms f)) e
 
-  no_base : (n : Need) (k : Item → Plan) (i : Item) → IsSound r (own n k) → (l : Landing) (b : Bool) → needs_base n ≡ b → k i ≡ fin (reaches l) → b ≡ false
+  no_base : (n : Need) (k : Item → Plan) (i : Item) → IsSound r (own n k) → (l : Landing) (b : Bool) → needs_base n ≡ b → k i ≡ fin (reaches l)
+      → b ≡ false
   no_base n k i sound l true e h = absurd (sound.1 e i l h)
   no_base n k i sound l false e h = refl
 
@@ -253,7 +259,8 @@ module _ (v : View) (r : Regime) where
       subst (IsNow (now v)) (first_here (mark r n i) (marks r (flat r (k i)) items) (mark_first r n i ∙ one n refl)) h.next
 
   -- a chain of stage 2 that is kept
-  pub pre_via : (above : Option ℕ) (p : Bool) (x : ℕ) (next : End Leaf2 → Result Need (End Landing)) (k : Item → Plan) (cs : List Item) (e : End Leaf2) →
+  pub pre_via : (above : Option ℕ) (p : Bool) (x : ℕ) (next : End Leaf2 → Result Need (End Landing)) (k : Item → Plan) (cs : List Item)
+      (e : End Leaf2) →
       IsSecond (chain r p x) → ((n : Need) → next e ≡ Ok n → is_need1 n ≡ true) → IsNow (now v) above → IsOn r (chain r p x) cs (done e) →
       AllUsed (Good v) None (marks r (chain r p x) cs) → LastIs (IsNowBase (now v)) (marks r (chain r p x) cs) →
       ((o : End Landing) → next e ≡ Err o → LastOk (now v) o (marks r (chain r p x) cs)) →

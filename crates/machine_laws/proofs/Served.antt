@@ -1,5 +1,6 @@
 -- Every access is served well: the answer is right, and what the rows that are made need is at hand.
-use Rattle.std.proofs.Common.{◌≡◌, ℕ, ◌<◌, Bool, true, false, cond, List, [], ◌∷◌, ◌++◌, inl, inr, refl, sym, ap, ◌∙◌, subst, append_assoc, Option, Some, None, arith}
+use Rattle.std.proofs.Common.{◌≡◌, ℕ, ◌<◌, Bool, true, false, cond, List, [], ◌∷◌, ◌++◌, inl, inr}
+use Rattle.std.proofs.Common.{refl, sym, ap, ◌∙◌, subst, append_assoc, Option, Some, None, arith}
 use Rattle.std.specs.Option.{option_or}
 use Rattle.std.specs.Prelude.{◌&&◌, not, filter}
 use Rattle.std.proofs.lemmas.Bool.{both_ways, cases_Bool}
@@ -27,7 +28,8 @@ use Rattle.machine_spec.specs.Moments.{regs_after, memory_after}
 use Rattle.machine_spec.specs.Marks.{Mark, Part, nothing, table, leaf_of_stage1, leaf_of_stage2, mark, marks, is_first, is_leaf, is_table}
 use Rattle.machine_spec.specs.Uses.{use_of, above_of, AllUsed, LastIs}
 use Rattle.machine_spec.specs.Kept.{View, now, regs_when, IsKeptNow, IsNowBase, IsKept}
-use Rattle.machine_spec.specs.Allowed.{is_of_word, IsNowOf, FaultIsRead, last_entry, last_entry1, Case, IsEnded, IsLacking, IsTwice, IsForked, Reaches, IsConflict, IsRight}
+use Rattle.machine_spec.specs.Allowed.{is_of_word, IsNowOf, FaultIsRead, last_entry, last_entry1, Case, IsEnded}
+use Rattle.machine_spec.specs.Allowed.{IsLacking, IsTwice, IsForked, Reaches, IsConflict, IsRight}
 use Rattle.tagged_tlb.specs.declared.row.Row.{Row}
 use Rattle.tagged_tlb.specs.Rows.{holds, matches1, is_older, inserted, by_making, matching, deepest}
 use Rattle.machine_spec.specs.Made.{key_of, last_first}
@@ -39,7 +41,8 @@ use Rattle.machine_laws.proofs.Laws.{Laws, Judged, IsCut}
 use Rattle.machine_laws.proofs.Lists.{In-filter, none_some}
 use Rattle.machine_laws.proofs.Stands.{on_ends, on_needs, marks_append, marks_nil, flat_fin}
 use Rattle.machine_laws.proofs.Uses.{used_map, table_append, cut_used, last_more}
-use Rattle.machine_laws.proofs.Fine.{Good, LastOk, Kept1, place_of, config_at, here, FineOf, FineBy, Begins, PlansAreFine, RightBy, UsedBy, IsAlone, ServedOk, ServesWell}
+use Rattle.machine_laws.proofs.Fine.{Good, LastOk, Kept1, place_of, config_at, here, FineOf, FineBy, Begins}
+use Rattle.machine_laws.proofs.Fine.{PlansAreFine, RightBy, UsedBy, IsAlone, ServedOk, ServesWell}
 use Rattle.machine_laws.proofs.Own.{served_live}
 use Rattle.machine_laws.proofs.Found.{In-matching, In-deepest, apart_matching, Match, matched1, region_same}
 use Rattle.machine_laws.proofs.Begins.{regs_now, last_word_base, Same, stored_good, begins, base_now}
@@ -77,7 +80,8 @@ old_of : (k : ℕ) (ms cut : List Mark) → IsCut ms cut → AllOld k ms → All
 old_of k ms cut (inl e) h = subst (AllOld k) e h
 old_of k ms cut (inr c) h = subst (AllOld k) (sym c.7) (old_cut k c.0 c.1 c.2 (subst (AllOld k) c.6 h))
 
-old_case : (k : ℕ) (x : Mark) (ms : List Mark) (m : Mark) (o : Option Mark) (b : Bool) → last_first ms ≡ o → option_or o (cond b (Some x) None) ≡ Some m →
+old_case : (k : ℕ) (x : Mark) (ms : List Mark) (m : Mark) (o : Option Mark) (b : Bool) → last_first ms ≡ o
+    → option_or o (cond b (Some x) None) ≡ Some m →
     AllOld k (x ∷ ms) → (last_first ms ≡ Some m → m.item.moment < k) → m.item.moment < k
 old_case k x ms m (Some y) b e f h rec = rec (e ∙ f)
 old_case k x ms m None true e f h rec = subst (λ (n : Mark). n.item.moment < k) (same_Some x m f) h.0
@@ -116,7 +120,8 @@ chain_if : (q : Asked2) (b : Bool) (t : Ask Need Item (End Leaf2)) (e : End Leaf
 chain_if q true t e h = absurd (both_ways true h refl)
 chain_if q false t e h = refl
 
-stands_chain : (c : Config) (s : Rattle.sysregs.specs.declared.regs.Side.Side) (p : Bool) (x : ℕ) (items : List Item) (l : Leaf2) → is_refused2 c x ≡ false →
+stands_chain : (c : Config) (s : Rattle.sysregs.specs.declared.regs.Side.Side) (p : Bool) (x : ℕ) (items : List Item) (l : Leaf2)
+    → is_refused2 c x ≡ false →
     IsOn (regime_of c s) (chain (regime_of c s) p x) items (done (reaches l)) → stands2 c s p x items ≡ ends (reaches l) []
 stands_chain c s p x items l ok h =
     ap (λ t. on (fits (regime_of c s)) t items)
@@ -189,18 +194,21 @@ module _ (laws : Laws) (plans : PlansAreFine) (v : View) (w : Core) (a : Access)
   right_ended (stops g) items h = h
   right_ended (reaches l) items h = h
 
-  lacking_of : (n : WordNeed) (k : Item → Ask Need Item (End Landing)) (items : List Item) → IsOn rg (here v a) items (ask (word n) k) → KeptHere items →
+  lacking_of : (n : WordNeed) (k : Item → Ask Need Item (End Landing)) (items : List Item) → IsOn rg (here v a) items (ask (word n) k)
+      → KeptHere items →
       memory_after v.header v.log n.place ≡ None → IsLacking case_here items None (fed_outcome (lacks (word n)))
   lacking_of n k items stands kept none = record {
     need = n;
-    walk_needs = at_now (λ c. on (fits (regime_of c (side_of a.va))) (walk c true a) items ≡ needs (word n)) (on_needs rg (here v a) (word n) k items stands);
+    walk_needs = at_now (λ c. on (fits (regime_of c (side_of a.va))) (walk c true a) items ≡ needs (word n))
+        (on_needs rg (here v a) (word n) k items stands);
     is = refl;
     lacking = none;
     kept = kept_of true items kept.0 kept.1;
     alone = refl;
   }
 
-  reaches_of : (p : Bool) (x : ℕ) (items : List Item) (l : Leaf2) → is_refused2 (config_at v) x ≡ false → IsOn rg (chain rg p x) items (done (reaches l))
+  reaches_of : (p : Bool) (x : ℕ) (items : List Item) (l : Leaf2) → is_refused2 (config_at v) x ≡ false
+      → IsOn rg (chain rg p x) items (done (reaches l))
       → Reaches case_here x items
   reaches_of p x items l ok h =
       (p, l, at_now (λ c. stands2 c (side_of a.va) p x items ≡ ends (reaches l) []) (stands_chain (config_at v) (side_of a.va) p x items l ok h))
@@ -518,7 +526,8 @@ module _ (laws : Laws) (plans : PlansAreFine) (v : View) (w : Core) (a : Access)
   abbrev by_rows : Reply
   by_rows = combined leaves (deepest (matches1 table1 (key_of (regs_after v.core v.log)) (untagged a.va)) w.cache.rows) sup (here v a)
 
-  served_if : (m refused : Bool) → (config_at v).m ≡ m → is_refused1 (config_at v) a ≡ refused → let z = cond (m && not refused) by_rows (serve_here []) in
+  served_if : (m refused : Bool) → (config_at v).m ≡ m → is_refused1 (config_at v) a ≡ refused
+      → let z = cond (m && not refused) by_rows (serve_here []) in
       RightBy v a z z.halt × UsedBy v a z z.halt × IsAlone v w.cache.rows a z
   served_if true false e g = by_leaves e g leaves refl
   served_if true true e g = plain_ok (λ q. g)

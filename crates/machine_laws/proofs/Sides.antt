@@ -28,7 +28,8 @@ Twin r r' (done (stops f)) (done (reaches m)) = ⊥
 Twin r r' (done (stops f)) (done (stops g)) = Unit {0}
 Twin r r' (done (stops f)) (ask n k) = ⊥
 Twin r r' (ask n k) (done e) = ⊥
-Twin r r' (ask m k) (ask n l) = ((i : Item) → fits r' n i ≡ fits r m i) × ((i : Item) → mark r' n i ≡ mark r m i) × ((i : Item) → Twin r r' (k i) (l i))
+Twin r r' (ask m k) (ask n l) = ((i : Item) → fits r' n i ≡ fits r m i) × ((i : Item) → mark r' n i ≡ mark r m i)
+    × ((i : Item) → Twin r r' (k i) (l i))
 
 -- how the twin stands on the items
 pub record TwinOn (r r' : Regime) (t t' : Ask Need Item (End Leaf2)) (u : Ask Need Item (End Leaf2)) (xs : List Item) : Type 0 where
@@ -43,7 +44,13 @@ twin_on r r' (done e) t' u (x ∷ xs) w h = absurd h
 twin_on r r' (ask m k) (done e) u (x ∷ xs) w h = absurd w
 twin_on r r' (ask m k) (ask n l) u (x ∷ xs) w h =
     let d = twin_on r r' (k x) (l x) u xs (w.2 x) h.1 in
-    record { left = d.left; on = (w.0 x ∙ h.0, d.on); twin = d.twin; same = ap (λ v. v ∷ marks r' (l x) xs) (w.1 x) ∙ ap (λ ms. mark r m x ∷ ms) d.same }
+    record {
+      left = d.left;
+      on = (w.0 x ∙ h.0, d.on);
+      twin = d.twin;
+      same = ap (λ v. v ∷ marks r' (l x) xs) (w.1 x)
+          ∙ ap (λ ms. mark r m x ∷ ms) d.same;
+    }
 
 module _ (c : Config) (s t : Side) (p q : Bool) (x : ℕ) where
   abbrev R : Regime
@@ -71,7 +78,8 @@ module _ (c : Config) (s t : Side) (p q : Bool) (x : ℕ) where
   abbrev One : Bool → Regime → (ℕ → Ask Need Item (End Leaf2)) → ℕ → Item → Ask Need Item (End Leaf2)
   One b r below left i = step_then below (step2 (asked2 r b x) left i.pa i.value)
 
-  twin_step : (below below' : ℕ → Ask Need Item (End Leaf2)) → ((n : ℕ) → Twin R R' (below n) (below' n)) → (left : ℕ) (i : Item) → Turn2 R left i
+  twin_step : (below below' : ℕ → Ask Need Item (End Leaf2)) → ((n : ℕ) → Twin R R' (below n) (below' n)) → (left : ℕ) (i : Item)
+      → Turn2 R left i
       → Twin R R' (One p R below left i) (One q R' below' left i)
   twin_step below below' w left i (table next a d) = rw (d p x, d q x) (w next)
   twin_step below below' w left i (leaf f m d) = rw (d p x, d q x) refl

@@ -1,5 +1,6 @@
 -- The plans of walks are sound, and what follows from this for the last item of a trail.
-use Rattle.std.proofs.Common.{◌≡◌, ℕ, zero, suc, Bool, true, false, cond, not, ◌&&◌, List, [], ◌∷◌, ◌++◌, refl, sym, ap, ◌∙◌, subst, append-nil}
+use Rattle.std.proofs.Common.{◌≡◌, ℕ, zero, suc, Bool, true, false, cond, not, ◌&&◌, List, []}
+use Rattle.std.proofs.Common.{◌∷◌, ◌++◌, refl, sym, ap, ◌∙◌, subst, append-nil}
 use Rattle.std.specs.Prelude.{Result, Ok, Err}
 use Rattle.std.proofs.lemmas.Bool.{both_ways}
 use Rattle.geometry.specs.Tables.{most_left}
@@ -26,10 +27,12 @@ use Rattle.permissions.specs.Rights.{is_allowed2}
 use Rattle.machine_spec.specs.Marks.{Mark, mark, marks}
 use Rattle.machine_spec.specs.Uses.{LastIs}
 use Rattle.machine_spec.specs.Allowed.{is_of_word}
-use Rattle.machine_laws.proofs.Trees.{IsOn, is_need1, needs_base, chain, Plan, fin, own, via, joined, flat, rest_by, IsSound, IsSecond, IsWords, AllSecond, IsWord}
+use Rattle.machine_laws.proofs.Trees.{IsOn, is_need1, needs_base, chain, Plan, fin, own, via, joined, flat}
+use Rattle.machine_laws.proofs.Trees.{rest_by, IsSound, IsSecond, IsWords, AllSecond, IsWord}
 use Rattle.machine_laws.proofs.Facts.{regime_for}
 use Rattle.machine_laws.proofs.Stands.{marks_append, on_split, joined_is, via_on, via_marks, mark_base, words_second, second_marks, marks_nil, flat_fin}
-use Rattle.machine_laws.proofs.PlanOf.{early2, read_next, word_behind, entry_plan, plan_of, output_plan, out_of, from_plan, root_table, behind_plan, off_end, whole_plan, plan_for, plan_is_walk}
+use Rattle.machine_laws.proofs.PlanOf.{early2, read_next, word_behind, entry_plan, plan_of, output_plan, out_of, from_plan}
+use Rattle.machine_laws.proofs.PlanOf.{root_table, behind_plan, off_end, whole_plan, plan_for, plan_is_walk}
 
 -- SOUND
 
@@ -83,7 +86,8 @@ sound_entry r true false e stop k h f s =
     sound_via r true e.place (word_behind r.config e) k h (λ l. (read_gives (is_readable r.config l) e l).0) (behind_gives r.config e) s (λ d. refl)
 sound_entry r false d e stop k h f s = (refl, (λ b i l. absurd (both_ways false refl b)), s)
 
-pub sound_of : (r : Regime) (out : End Leaf1 → Plan) → ((e : End Leaf1) → IsSound r (out e)) → (t : Ask Entry1 Item (End Leaf1)) → IsSound r (plan_of r out t)
+pub sound_of : (r : Regime) (out : End Leaf1 → Plan) → ((e : End Leaf1) → IsSound r (out e)) → (t : Ask Entry1 Item (End Leaf1))
+    → IsSound r (plan_of r out t)
 sound_of r out h (done e) = h e
 sound_of r out h (ask e k) =
     sound_entry r r.config.vm (is_refused2 r.config e.place) e (λ f. out (stops f)) (λ i. plan_of r out (k i)) refl (λ f. h (stops f))
@@ -97,7 +101,8 @@ abbrev NotThere : Plan → Type 0
 NotThere p = (l : Landing) → p ≡ fin (reaches l) → ⊥
 
 entry_not_there : (r : Regime) (b d : Bool) (e : Entry1) (k : Item → Plan) → NotThere (entry_plan r b d e (λ f. fin (stops f)) k)
-entry_not_there r true true e k l h = (let q : stops (early2 r true e.place) ≡ reaches l = fin_same (stops (early2 r true e.place)) (reaches l) h in absurd cc)
+entry_not_there r true true e k l h = (let q : stops (early2 r true e.place) ≡ reaches l = fin_same (stops (early2 r true e.place)) (reaches l) h in
+    absurd cc)
 entry_not_there r true false e k l h = absurd cc
 entry_not_there r false d e k l h = absurd cc
 
@@ -144,7 +149,8 @@ IsTight (fin e) = Unit {0}
 IsTight (own n k) = (i : Item) → IsTight (k i)
 IsTight (via p x next k) = ((f : Fault) → next (stops f) ≡ Err (stops f)) × ((i : Item) → IsTight (k i))
 
-tight_entry : (r : Regime) (b d : Bool) (e : Entry1) (stop : Fault → Plan) (k : Item → Plan) → ((f : Fault) → IsTight (stop f)) → ((i : Item) → IsTight (k i))
+tight_entry : (r : Regime) (b d : Bool) (e : Entry1) (stop : Fault → Plan) (k : Item → Plan) → ((f : Fault) → IsTight (stop f))
+    → ((i : Item) → IsTight (k i))
     → IsTight (entry_plan r b d e stop k)
 tight_entry r true true e stop k f s = f (early2 r true e.place)
 tight_entry r true false e stop k f s = ((λ d. refl), s)
@@ -153,7 +159,8 @@ tight_entry r false d e stop k f s = s
 tight_of : (r : Regime) (out : End Leaf1 → Plan) → ((e : End Leaf1) → IsTight (out e)) → (t : Ask Entry1 Item (End Leaf1)) → IsTight (plan_of r out t)
 tight_of r out h (done e) = h e
 tight_of r out h (ask e k) =
-    tight_entry r r.config.vm (is_refused2 r.config e.place) e (λ f. out (stops f)) (λ i. plan_of r out (k i)) (λ f. h (stops f)) (λ i. tight_of r out h (k i))
+    tight_entry r r.config.vm (is_refused2 r.config e.place) e (λ f. out (stops f)) (λ i. plan_of r out (k i)) (λ f. h (stops f))
+    (λ i. tight_of r out h (k i))
 
 module _ (q : Asked) where
   tight_output : (b d : Bool) (l : Leaf1) → IsTight (output_plan q b d l)
@@ -204,7 +211,8 @@ module _ (q : Asked2) where
   from_asks zero t l h = absurd cc
   from_asks (suc left) t l h = absurd cc
 
-  by_asks : (b : Bool) (base : ℕ) (l : Leaf2) → cond b (done (stops (fault2 q AddressSize most_left))) (walk2_from q q.sizes.start base) ≡ done (reaches l) → ⊥
+  by_asks : (b : Bool) (base : ℕ) (l : Leaf2) → cond b (done (stops (fault2 q AddressSize most_left)))
+      (walk2_from q q.sizes.start base) ≡ done (reaches l) → ⊥
   by_asks true base l h = absurd cc
   by_asks false base l h = from_asks q.sizes.start base l h
 
@@ -261,7 +269,8 @@ module _ (q : Asked) where
   off_second false d h = out_second (off_end q)
 
 -- without stage 1 all is of stage 2
-pub off_marks : (c : Config) (a : Access) (items : List Item) → (c.m ≡ true → is_refused1 c a ≡ true) → AllSecond (marks (regime_for c a) (walk c true a) items)
+pub off_marks : (c : Config) (a : Access) (items : List Item) → (c.m ≡ true → is_refused1 c a ≡ true)
+    → AllSecond (marks (regime_for c a) (walk c true a) items)
 off_marks c a items h =
     second_marks (regime_for c a) (walk c true a) items (subst IsSecond (plan_is_walk c true a) (off_second (asked c true a) c.m (is_refused1 c a) h))
 
@@ -271,14 +280,16 @@ module _ (r : Regime) (l : Landing) where
   abbrev There : Ask Need Item (End Landing)
   There = done (reaches l)
 
-  last_word_on : (t u : Ask Need Item (End Landing)) (pre is : List Item) → IsOn r t pre u → IsOn r u is There → (u ≡ There → LastIs IsWord (marks r t pre))
+  last_word_on : (t u : Ask Need Item (End Landing)) (pre is : List Item) → IsOn r t pre u → IsOn r u is There
+      → (u ≡ There → LastIs IsWord (marks r t pre))
       → LastIs IsWord (marks r u is) → LastIs IsWord (marks r t (pre ++ is))
   last_word_on t u pre [] on h here there = rw append-nil (here (sym h))
   last_word_on t (done b) pre (x ∷ is) on h here there = absurd h
   last_word_on t (ask n k) pre (x ∷ is) on h here there =
       rw (marks_append r t (ask n k) pre (x ∷ is) on) (last_more IsWord (marks r t pre) (mark r n x) (marks r (k x) is) there)
 
-  chain_word_last : (p : Bool) (x : ℕ) (is : List Item) (m : Leaf2) → IsOn r (chain r p x) is (done (reaches m)) → LastIs IsWord (marks r (chain r p x) is)
+  chain_word_last : (p : Bool) (x : ℕ) (is : List Item) (m : Leaf2) → IsOn r (chain r p x) is (done (reaches m))
+      → LastIs IsWord (marks r (chain r p x) is)
   chain_word_last p x [] m h = absurd cc
   chain_word_last p x (i ∷ is) m h = chain_last r p x i is m h
 
@@ -290,7 +301,8 @@ module _ (r : Regime) (l : Landing) where
   not_base n k i true e sound h = absurd (sound e i l h)
   not_base n k i false e sound h = refl
 
-  last_own : (n : Need) (k : Item → Plan) → (needs_base n ≡ true → (i : Item) (l : Landing) → k i ≡ fin (reaches l) → ⊥) → ((i : Item) → EndsWord (k i))
+  last_own : (n : Need) (k : Item → Plan) → (needs_base n ≡ true → (i : Item) (l : Landing) → k i ≡ fin (reaches l) → ⊥)
+      → ((i : Item) → EndsWord (k i))
       → EndsWord (own n k)
   last_own n k sound rec [] h = absurd cc
   last_own n k sound rec (y ∷ ys) h =
@@ -341,7 +353,8 @@ module _ (r : Regime) (l : Landing) where
   last_plan : (p : Plan) → IsSound r p → IsTight p → EndsWord p
   last_plan (fin e) s t xs h = last_fin e xs h
   last_plan (own n k) s t xs h = last_own n k s.1 (λ i. last_plan (k i) (s.2 i) (t i)) xs h
-  last_plan (via p x next k) s t xs h = last_via p x next k t.0 (λ e. last_rest (next e) k (λ n q. (s.2 e n q).1) (λ i. last_plan (k i) (s.3 i) (t.1 i))) xs h
+  last_plan (via p x next k) s t xs h = last_via p x next k t.0 (λ e. last_rest (next e) k (λ n q. (s.2 e n q).1)
+      (λ i. last_plan (k i) (s.3 i) (t.1 i))) xs h
 
 -- a trail that leads to a translation ends in a word
 pub last_mapped : (c : Config) (j : Bool) (a : Access) (trail : List Item) (l : Landing) → IsOn (regime_for c a) (walk c j a) trail (done (reaches l))

@@ -24,7 +24,8 @@ use Rattle.machine_spec.specs.Kept.{View, now, regs_when}
 use Rattle.machine_spec.specs.Allowed.{is_changed, is_conflict, Case, IsRight, IsAnswer, case_of, IsAllowed, AllAllowed}
 use Rattle.tagged_tlb.specs.Sets.{Cache}
 use Rattle.machine_spec.specs.Served.{Place, Reply, Halt, came, clash, served}
-use Rattle.machine_spec.specs.Machine.{Core, World, no_core, visited_by, visited, core_numbered, opened, after_event, world_after, answer_in, answer_to, step_of, run_from, run_of}
+use Rattle.machine_spec.specs.Machine.{Core, World, no_core, visited_by, visited, core_numbered, opened, after_event}
+use Rattle.machine_spec.specs.Machine.{world_after, answer_in, answer_to, step_of, run_from, run_of}
 use Rattle.trace_lang.specs.Traces.{core_of}
 use Rattle.machine_laws.specs.Headline.{AreOfCores, RunsAreAllowed}
 use Rattle.machine_laws.proofs.Facts.{view_of, Facts, AllFacts}
@@ -52,7 +53,8 @@ not_stale false c d h e = e
 
 module _ (h : Header) (log : List Step) (c : ℕ) (a : Access) (l : Cache) where
   answered : (r : Reply) (t : Halt) → RightBy (view_of h log c (side_of a.va)) a r t
-      → IsAnswer (case_of h log c a) (visited_by (visit_at (view_of h log c (side_of a.va)) (place_of (view_of h log c (side_of a.va)) l.rows) l) a r t).answer
+      → IsAnswer (case_of h log c a) (visited_by (visit_at (view_of h log c (side_of a.va))
+      (place_of (view_of h log c (side_of a.va)) l.rows) l) a r t).answer
   answered r (came end) right = record {
     asid_is = ap asid_of (regs_now (view_of h log c (side_of a.va)));
     vmid_is = ap vmid_of (regs_now (view_of h log c (side_of a.va)));
@@ -131,7 +133,8 @@ fine_run serves makes h events = from_end (IsFine h) more (λ own. (start_all h,
         rw (run_on h es e, world_on h es e)
         (keeps serves makes h log w before.0 e parts.1, each_more (IsAllowed h) log (step_of h w e) before.1 (allowed_one serves h log w before.0 e parts.1))
 
-pub facts_of_run : ServesWell → MakesWell → (h : Header) (events : List Event) → AreOfCores h events → AllFacts h (run_of h events) (world_after h events)
+pub facts_of_run : ServesWell → MakesWell → (h : Header) (events : List Event) → AreOfCores h events
+    → AllFacts h (run_of h events) (world_after h events)
 facts_of_run serves makes h events own = (fine_run serves makes h events own).0
 
 pub runs_allowed : ServesWell → MakesWell → RunsAreAllowed

@@ -46,7 +46,8 @@ IsTimeless t = Alike Equal t t
 
 -- WALKS BEHIND WALKS
 
-alike_after : {N A B C D : Type 0} (R : A → B → Type 0) (S : C → D → Type 0) (t : Ask N Item A) (u : Ask N Item B) (f : A → Ask N Item C) (g : B → Ask N Item D)
+alike_after : {N A B C D : Type 0} (R : A → B → Type 0) (S : C → D → Type 0) (t : Ask N Item A) (u : Ask N Item B) (f : A → Ask N Item C)
+    (g : B → Ask N Item D)
     → Alike R t u → ((a : A) (b : B) → R a b → Alike S (f a) (g b)) → Alike S (after t f) (after u g)
 alike_after R S (done a) (done b) f g h next = next a b h
 alike_after R S (done a) (ask n k) f g h next = absurd h
@@ -59,7 +60,8 @@ timeless_after : {N A C : Type 0} (S : C → C → Type 0) (t : Ask N Item A) (f
 timeless_after S t f h next = alike_after Equal S t t f f h (λ a b e. subst (λ c. Alike S (f a) (f c)) e (next a))
 
 -- a walk that goes on by place and value of its item
-by_value : {N A : Type 0} (R : A → A → Type 0) (f : ℕ → ℕ → Ask N Item A) → ((p v : ℕ) → Alike R (f p v) (f p v)) → (i j : Item) → IsAlike i j
+by_value : {N A : Type 0} (R : A → A → Type 0) (f : ℕ → ℕ → Ask N Item A) → ((p v : ℕ) → Alike R (f p v) (f p v)) → (i j : Item)
+    → IsAlike i j
     → Alike R (f i.pa i.value) (f j.pa j.value)
 by_value R f h i j e =
     subst (λ v. Alike R (f i.pa i.value) (f j.pa v)) e.value_is (subst (λ p. Alike R (f i.pa i.value) (f p i.value)) e.pa_is (h i.pa i.value))
@@ -94,7 +96,8 @@ alike_if : {N A : Type 0} (R : A → A → Type 0) (b : Bool) (t u : Ask N Item 
 alike_if R true t u h k = h
 alike_if R false t u h k = k
 
-timeless_step : {N L T : Type 0} (below : T → Ask N Item (End L)) → ((next : T) → IsTimeless (below next)) → (s : Lead L T) → IsTimeless (step_then below s)
+timeless_step : {N L T : Type 0} (below : T → Ask N Item (End L)) → ((next : T) → IsTimeless (below next)) → (s : Lead L T)
+    → IsTimeless (step_then below s)
 timeless_step below h (Down next) = h next
 timeless_step below h (Reached l) = refl
 timeless_step below h (Stopped f) = refl

@@ -106,7 +106,8 @@ module _ (regs : Regs) (s : Side) (m : Memory) (k : ℕ) where
   not_bad (ended c) h = absurd cc
   not_bad (lacks n) h = absurd cc
 
-  goes_as : {A : Type 0} (b : Bool) (rest : Stands Need Item A) (e : Fed Need A) → cond b rest bad ≡ stands_fed e → (b ≡ true) × (rest ≡ stands_fed e)
+  goes_as : {A : Type 0} (b : Bool) (rest : Stands Need Item A) (e : Fed Need A) → cond b rest bad ≡ stands_fed e
+      → (b ≡ true) × (rest ≡ stands_fed e)
   goes_as true rest e h = (refl, h)
   goes_as false rest e h = not_bad e h
 

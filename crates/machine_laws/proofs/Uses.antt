@@ -5,7 +5,8 @@ use Rattle.machine_spec.specs.Uses.{next_first, next_second, use_of, above_of, A
 use Rattle.machine_laws.proofs.Trees.{AllSecond}
 use Rattle.machine_laws.proofs.Fine.{IsNow}
 
-pub used_map : (P Q : Mark → Option ℕ → Type 0) → ((m : Mark) (o : Option ℕ) → P m o → Q m o) → (above : Option ℕ) (ms : List Mark) → AllUsed P above ms
+pub used_map : (P Q : Mark → Option ℕ → Type 0) → ((m : Mark) (o : Option ℕ) → P m o → Q m o) → (above : Option ℕ) (ms : List Mark)
+    → AllUsed P above ms
     → AllUsed Q above ms
 used_map P Q f above [] h = h
 used_map P Q f above (m ∷ ms) h = (f m (use_of above m ms) h.0, used_map P Q f (above_of above m) ms h.1)
@@ -61,7 +62,8 @@ first_some false v xs ys h = h
 next_first_some : (pre : List Mark) (m : Mark) (ms : List Mark) → is_first m ≡ true →
     (u : ℕ) × (next_first (pre ++ m ∷ ms) ≡ Some u) × (next_first (pre ++ m ∷ []) ≡ Some u)
 next_first_some [] m ms f = (m.item.moment, first_here m ms f, first_here m [] f)
-next_first_some (x ∷ pre) m ms f = first_some (is_first x) x.item.moment (next_first (pre ++ m ∷ ms)) (next_first (pre ++ m ∷ [])) (next_first_some pre m ms f)
+next_first_some (x ∷ pre) m ms f = first_some (is_first x) x.item.moment (next_first (pre ++ m ∷ ms)) (next_first (pre ++ m ∷ []))
+    (next_first_some pre m ms f)
 
 next_second_some : (above : Option ℕ) (pre : List Mark) (m : Mark) (ms : List Mark) →
     (u : ℕ) × (next_second above (pre ++ m ∷ ms) ≡ Some u) × (next_second above (pre ++ m ∷ []) ≡ Some u)
@@ -83,7 +85,8 @@ pub before_same : (above : Option ℕ) (x : Mark) (pre : List Mark) (m : Mark) (
 before_same above x pre m ms f = let k = use_some above x pre m ms f in k.2 ∙ sym k.1
 
 -- a trail is cut behind an item of stage 1 after which stage 2 alone follows
-pub cut_used : (P : Mark → Option ℕ → Type 0) (above : Option ℕ) (pre : List Mark) (m : Mark) (out : List Mark) → is_first m ≡ true → AllSecond out →
+pub cut_used : (P : Mark → Option ℕ → Type 0) (above : Option ℕ) (pre : List Mark) (m : Mark) (out : List Mark) → is_first m ≡ true
+    → AllSecond out →
     AllUsed P above (pre ++ m ∷ out) → AllUsed P above (pre ++ m ∷ [])
 cut_used P above [] m out f s p = (subst (P m) (use_first above m out f ∙ none_of out s ∙ sym (use_first above m [] f)) p.0, tt)
 cut_used P above (x ∷ pre) m out f s p = (subst (P x) (sym (before_same above x pre m out f)) p.0, cut_used P (above_of above x) pre m out f s p.1)
@@ -111,7 +114,8 @@ module _ (P : Mark → Option ℕ → Type 0) (now : ℕ) (opened : (m : Mark) (
       (head above c cs ms s.0 h p.0, subst (λ v. AllUsed P v (cs ++ ms)) (sym (above_second above c s.0)) (chain_append above cs ms s.1 h rest q))
 
   -- a trail that ends in a table of stage 1, and what follows it, whose next item of stage 1 is read at this moment
-  pub table_append : (above : Option ℕ) (pre : List Mark) (m : Mark) (ms : List Mark) → is_first m ≡ true → is_leaf m.part ≡ false → IsNow now (next_first ms) →
+  pub table_append : (above : Option ℕ) (pre : List Mark) (m : Mark) (ms : List Mark) → is_first m ≡ true → is_leaf m.part ≡ false
+      → IsNow now (next_first ms) →
       AllUsed P above (pre ++ m ∷ []) → AllUsed P None ms → AllUsed P above (pre ++ m ∷ ms)
   table_append above [] m ms f l h p q = (
     subst (P m) (sym (use_first above m ms f)) (open_at m (next_first ms) h (subst (P m) (use_first above m [] f) p.0)),

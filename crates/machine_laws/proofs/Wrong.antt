@@ -1,5 +1,6 @@
 -- What an allowed answer promises of each item of its trail, and of its outcome.
-use Rattle.std.proofs.Common.{◌≡◌, ℕ, Bool, true, false, not, List, [], ◌∷◌, ◌++◌, take, refl, sym, ap, ◌∙◌, subst, Option, Some, None, inl, inr}
+use Rattle.std.proofs.Common.{◌≡◌, ℕ, Bool, true, false, not, List, [], ◌∷◌, ◌++◌, take, refl}
+use Rattle.std.proofs.Common.{sym, ap, ◌∙◌, subst, Option, Some, None, inl, inr}
 use Rattle.std.specs.Prelude.{ℤ, All, ◌⊎◌}
 use Rattle.std.proofs.lemmas.List.Elements.{All-contains, All-nil, All-cons}
 use Rattle.std.proofs.lemmas.Option.{same_Some}
@@ -25,7 +26,8 @@ use Rattle.machine_spec.specs.Moments.{memory_after, regs_after}
 use Rattle.machine_spec.specs.Marks.{Mark, mark, marks}
 use Rattle.machine_spec.specs.Uses.{AllUsed}
 use Rattle.machine_spec.specs.Kept.{View, now, regs_when, base_by, IsKeptNow}
-use Rattle.machine_spec.specs.Allowed.{is_conflict, Case, case_of, config_now, Reaches, IsLacking, IsTwice, IsForked, IsConflict, IsRight, IsAnswer, Ends, Keeps, last_entry}
+use Rattle.machine_spec.specs.Allowed.{is_conflict, Case, case_of, config_now, Reaches, IsLacking, IsTwice, IsForked}
+use Rattle.machine_spec.specs.Allowed.{IsConflict, IsRight, IsAnswer, Ends, Keeps, last_entry}
 use Rattle.machine_laws.specs.NotAllowed.{IsShown, ItemsAreTrue, OutcomesAreTrue, ConflictsAreTrue, AnswersAreTrue, NothingFalseIsAllowed}
 use Rattle.machine_laws.proofs.Begins.{regs_now}
 use Rattle.machine_laws.proofs.Forks.{IsMet, fit_met, fork_met}

@@ -1,5 +1,6 @@
 -- The wrong answers behind small runs, computed; the right ones are those of the runs themselves.
-use Rattle.std.proofs.Common.{◌≡◌, ℕ, zero, suc, ◌<◌, Bool, true, false, List, [], ◌∷◌, ◌++◌, length, take, inl, inr, refl, sym, ap, ◌∙◌, subst, Some}
+use Rattle.std.proofs.Common.{◌≡◌, ℕ, zero, suc, ◌<◌, Bool, true, false, List, [], ◌∷◌, ◌++◌}
+use Rattle.std.proofs.Common.{length, take, inl, inr, refl, sym, ap, ◌∙◌, subst, Some}
 use Rattle.std.specs.Prelude.{slice_get, nat_lt, pos}
 use Rattle.std.specs.List.{list_all}
 use Rattle.std.proofs.lemmas.Bool.{ltb-true, leb-true, eqb-false}
@@ -34,7 +35,8 @@ use Rattle.machine_spec.proofs.Worked.{on_worked_runs}
 use Rattle.trace_lang.specs.Traces.{core_of}
 use Rattle.machine_laws.specs.Headline.{AreOfCores}
 use Rattle.machine_laws.specs.NotAllowedRuns.{two_cores, global_page, asid_page, read, read_once, page_gone, trail, front, Allows, under_asid_2, other_gone}
-use Rattle.machine_laws.specs.NotAllowedRuns.{read_below, leaf2_gone, ChainsUpToTheirUse, LeavesOfTheirAsid, LeavesUpToTheirEnd, TablesUpToTheirUse, BasesOfTheirWord, FaultsOfNow, AccessesAreJudged, ConflictsOfLeaves, WrongAnswersAreRefused}
+use Rattle.machine_laws.specs.NotAllowedRuns.{read_below, leaf2_gone, ChainsUpToTheirUse, LeavesOfTheirAsid, LeavesUpToTheirEnd, TablesUpToTheirUse}
+use Rattle.machine_laws.specs.NotAllowedRuns.{BasesOfTheirWord, FaultsOfNow, AccessesAreJudged, ConflictsOfLeaves, WrongAnswersAreRefused}
 use Rattle.machine_laws.proofs.Logs.{get-last}
 use Rattle.machine_laws.proofs.Wrong.{nothing_false_is_allowed}
 use Rattle.machine_laws.proofs.Promised.{runs_are_allowed}

@@ -2,7 +2,8 @@
 use Rattle.std.proofs.Common.{[], ◌∷◌, true, false, refl}
 use Rattle.std.specs.Prelude.{Some}
 use Rattle.sysregs.specs.declared.regs.Reg.TheVariants.{HcrEl2, MairEl1, SctlrEl1, TcrEl1, Ttbr0El1, Ttbr1El1, VtcrEl2, VttbrEl2}
-use Rattle.sysregs.specs.declared.regs.Op.TheVariants.{Vmalle1, Vae1, Vaae1, Vale1, Vaale1, Aside1, Ipas2e1, Ipas2le1, Vmalls12e1, Alle1, Rvae1, Rvaae1, Rvale1, Rvaale1, Ripas2e1, Ripas2le1}
+use Rattle.sysregs.specs.declared.regs.Op.TheVariants.{Vmalle1, Vae1, Vaae1, Vale1, Vaale1, Aside1, Ipas2e1, Ipas2le1, Vmalls12e1}
+use Rattle.sysregs.specs.declared.regs.Op.TheVariants.{Alle1, Rvae1, Rvaae1, Rvale1, Rvaale1, Ripas2e1, Ripas2le1}
 use Rattle.permissions.specs.declared.bits.El.TheVariants.{El0, El1}
 use Rattle.permissions.specs.declared.bits.Kind.TheVariants.{Read, Write, Fetch}
 use Rattle.attributes.specs.declared.kinds.Cache.TheVariants.{Nc}
@@ -21,7 +22,8 @@ use Rattle.machine_spec.proofs.Worked.{header, on_worked_runs, Comes, told, mapp
 
 -- the 65th queued register write lets the oldest one take effect, and no other
 register_queue_of_64 : Comes (header 1 ((0x0, 0x20000) ∷ []) NoRows Fifo)
-    (Store 0 0x1000 0x4403 ∷ Store 0 0x2000 0x5403 ∷ Store 0 0x3000 0x6403 ∷ Msr 0 TcrEl1 0x30 ∷ Msr 0 Ttbr0El1 0x1000 ∷ Msr 0 SctlrEl1 0x1 ∷ Isb 0 ∷
+    (Store 0 0x1000 0x4403 ∷ Store 0 0x2000 0x5403 ∷ Store 0 0x3000 0x6403 ∷ Msr 0 TcrEl1 0x30 ∷ Msr 0 Ttbr0El1 0x1000 ∷ Msr 0 SctlrEl1 0x1 ∷
+    Isb 0 ∷
     Msr 0 Ttbr0El1 0x2000 ∷ Msr 0 Ttbr0El1 0x3000 ∷ Msr 0 MairEl1 0x44 ∷ Msr 0 MairEl1 0x44 ∷ Msr 0 MairEl1 0x44 ∷ Msr 0 MairEl1 0x44 ∷
     Msr 0 MairEl1 0x44 ∷ Msr 0 MairEl1 0x44 ∷ Msr 0 MairEl1 0x44 ∷ Msr 0 MairEl1 0x44 ∷ Msr 0 MairEl1 0x44 ∷ Msr 0 MairEl1 0x44 ∷
     Msr 0 MairEl1 0x44 ∷ Msr 0 MairEl1 0x44 ∷ Msr 0 MairEl1 0x44 ∷ Msr 0 MairEl1 0x44 ∷ Msr 0 MairEl1 0x44 ∷ Msr 0 MairEl1 0x44 ∷
@@ -32,7 +34,8 @@ register_queue_of_64 : Comes (header 1 ((0x0, 0x20000) ∷ []) NoRows Fifo)
     Msr 0 MairEl1 0x44 ∷ Msr 0 MairEl1 0x44 ∷ Msr 0 MairEl1 0x44 ∷ Msr 0 MairEl1 0x44 ∷ Msr 0 MairEl1 0x44 ∷ Msr 0 MairEl1 0x44 ∷
     Msr 0 MairEl1 0x44 ∷ Msr 0 MairEl1 0x44 ∷ Msr 0 MairEl1 0x44 ∷ Msr 0 MairEl1 0x44 ∷ Msr 0 MairEl1 0x44 ∷ Msr 0 MairEl1 0x44 ∷
     Msr 0 MairEl1 0x44 ∷ Msr 0 MairEl1 0x44 ∷ Msr 0 MairEl1 0x44 ∷ Msr 0 MairEl1 0x44 ∷ Msr 0 MairEl1 0x44 ∷ Msr 0 MairEl1 0x44 ∷
-    Msr 0 MairEl1 0x44 ∷ Msr 0 MairEl1 0x44 ∷ Msr 0 MairEl1 0x44 ∷ Msr 0 MairEl1 0x44 ∷ Access 0 (access 0xabc El1 Read false) ∷ Msr 0 MairEl1 0xff ∷
+    Msr 0 MairEl1 0x44 ∷ Msr 0 MairEl1 0x44 ∷ Msr 0 MairEl1 0x44 ∷ Msr 0 MairEl1 0x44 ∷ Access 0 (access 0xabc El1 Read false) ∷
+    Msr 0 MairEl1 0xff ∷
     Access 0 (access 0xabc El1 Read false) ∷ Isb 0 ∷ Access 0 (access 0xabc El1 Read false) ∷ [])
     (told 71 0x0 0x0 (mapped 0x4abc "--x" "rwx" (Device NGnRnE) Osh)
     (start1 3 0x1000 71 ∷ word1 3 0x1000 0x4403 71 ∷ []) ∷
@@ -85,7 +88,8 @@ external_abort_on_a_walk = (refl, refl)
 -- a register write waits in the queue of its core: settle takes the oldest, isb all, oldest first, and no other core
 -- is changed
 register_writes_wait : Comes (header 2 ((0x0, 0x20000) ∷ []) NoRows Fifo)
-    (Store 0 0x1000 0x4403 ∷ Store 0 0x2000 0x5403 ∷ Store 0 0x3000 0x6403 ∷ Msr 0 TcrEl1 0x30 ∷ Msr 0 Ttbr0El1 0x1000 ∷ Msr 0 SctlrEl1 0x1 ∷ Isb 1 ∷
+    (Store 0 0x1000 0x4403 ∷ Store 0 0x2000 0x5403 ∷ Store 0 0x3000 0x6403 ∷ Msr 0 TcrEl1 0x30 ∷ Msr 0 Ttbr0El1 0x1000 ∷ Msr 0 SctlrEl1 0x1 ∷
+    Isb 1 ∷
     Access 0 (access 0xabc El1 Read false) ∷ Isb 0 ∷ Msr 0 Ttbr0El1 0x2000 ∷ Msr 0 Ttbr0El1 0x3000 ∷ Access 0 (access 0xabc El1 Read false) ∷
     Settle 0 ∷ Access 0 (access 0xabc El1 Read false) ∷ Settle 0 ∷ Settle 0 ∷ Access 0 (access 0xabc El1 Read false) ∷ Msr 0 Ttbr0El1 0x1000 ∷
     Msr 0 Ttbr0El1 0x2000 ∷ Isb 0 ∷ Access 0 (access 0xabc El1 Read false) ∷ Access 1 (access 0xabc El1 Read false) ∷ [])

@@ -2,7 +2,8 @@
 use Rattle.std.proofs.Common.{[], ◌∷◌, true, false, refl}
 use Rattle.std.specs.Prelude.{Some}
 use Rattle.sysregs.specs.declared.regs.Reg.TheVariants.{HcrEl2, SctlrEl1, TcrEl1, Ttbr0El1, VtcrEl2, VttbrEl2}
-use Rattle.sysregs.specs.declared.regs.Op.TheVariants.{Vmalle1, Vae1, Vaae1, Vale1, Vaale1, Aside1, Ipas2e1, Ipas2le1, Vmalls12e1, Alle1, Rvae1, Rvaae1, Rvale1, Rvaale1, Ripas2e1, Ripas2le1}
+use Rattle.sysregs.specs.declared.regs.Op.TheVariants.{Vmalle1, Vae1, Vaae1, Vale1, Vaale1, Aside1, Ipas2e1, Ipas2le1, Vmalls12e1}
+use Rattle.sysregs.specs.declared.regs.Op.TheVariants.{Alle1, Rvae1, Rvaae1, Rvale1, Rvaale1, Ripas2e1, Ripas2le1}
 use Rattle.permissions.specs.declared.bits.El.TheVariants.{El1}
 use Rattle.permissions.specs.declared.bits.Kind.TheVariants.{Read}
 use Rattle.attributes.specs.declared.kinds.Device.TheVariants.{NGnRnE}
@@ -101,7 +102,8 @@ fb_makes_local_forms_broadcast = (refl, refl)
 
 -- the 65th message in an inbox lets the oldest one take effect, and no other
 inbox_of_64 : Comes (header 1 ((0x0, 0x20000) ∷ []) Small Fifo)
-    (Store 0 0x1000 0x4403 ∷ Store 0 0x1008 0x5403 ∷ Store 0 0x1010 0x6403 ∷ Msr 0 TcrEl1 0x30 ∷ Msr 0 Ttbr0El1 0x1000 ∷ Msr 0 SctlrEl1 0x1 ∷ Isb 0 ∷
+    (Store 0 0x1000 0x4403 ∷ Store 0 0x1008 0x5403 ∷ Store 0 0x1010 0x6403 ∷ Msr 0 TcrEl1 0x30 ∷ Msr 0 Ttbr0El1 0x1000 ∷ Msr 0 SctlrEl1 0x1 ∷
+    Isb 0 ∷
     Access 0 (access 0xabc El1 Read false) ∷ Access 0 (access 0x1abc El1 Read false) ∷ Access 0 (access 0x2abc El1 Read false) ∷
     Store 0 0x1000 0x7403 ∷ Store 0 0x1008 0x7403 ∷ Store 0 0x1010 0x7403 ∷ Tlbi 0 FromEl1 Vae1 false 0x0 ∷ Tlbi 0 FromEl1 Vae1 false 0x1 ∷
     Tlbi 0 FromEl1 Vae1 false 0xf ∷ Tlbi 0 FromEl1 Vae1 false 0xf ∷ Tlbi 0 FromEl1 Vae1 false 0xf ∷ Tlbi 0 FromEl1 Vae1 false 0xf ∷

@@ -294,7 +294,8 @@ page_beside_a_block = (refl, tt)
 -- prefetch makes rows
 prefetch_makes_rows : Comes (header 2 ((0x0, 0x10000) ∷ []) Small Fifo)
     (Store 0 0x1000 0x2003 ∷ Store 0 0x2008 0x3003 ∷ Store 0 0x3008 0x4003 ∷ Store 0 0x4008 0x5403 ∷ Msr 0 TcrEl1 0x10 ∷ Msr 0 Ttbr0El1 0x1000 ∷
-    Msr 0 SctlrEl1 0x1 ∷ Isb 0 ∷ Prefetch 0 (access 0x40201abc El1 Read false) ∷ Store 0 0x4008 0x0 ∷ Access 0 (access 0x40201abc El1 Read false) ∷ [])
+    Msr 0 SctlrEl1 0x1 ∷ Isb 0 ∷ Prefetch 0 (access 0x40201abc El1 Read false) ∷ Store 0 0x4008 0x0 ∷ Access 0 (access 0x40201abc El1 Read false) ∷
+    [])
     (told 8 0x0 0x0 (mapped 0x5abc "--x" "rwx" (Device NGnRnE) Osh)
     (start1 0 0x1000 8 ∷ word1 0 0x1000 0x2003 8 ∷ word1 1 0x2008 0x3003 8 ∷ word1 2 0x3008 0x4003 8 ∷ word1 3 0x4008 0x5403 8 ∷ []) ∷
     told 10 0x0 0x0 (mapped 0x5abc "--x" "rwx" (Device NGnRnE) Osh)

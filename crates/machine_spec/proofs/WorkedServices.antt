@@ -184,7 +184,8 @@ row_is_the_smaller_leaf = (refl, refl)
 -- two stage 2 leaves that match an output or a descriptor's place are a conflict: the trail so far, then either
 -- chain; it keeps nothing that it read
 conflict_inside_a_chain : Comes (header 1 ((0x0, 0x20000) ∷ []) Small Fifo)
-    (Store 0 0x1000 0x2003 ∷ Store 0 0x1008 0x2003 ∷ Store 0 0x2000 0x13403 ∷ Store 0 0x2008 0x15403 ∷ Store 0 0x8008 0x14c3 ∷ Store 0 0x8010 0x24c3 ∷
+    (Store 0 0x1000 0x2003 ∷ Store 0 0x1008 0x2003 ∷ Store 0 0x2000 0x13403 ∷ Store 0 0x2008 0x15403 ∷ Store 0 0x8008 0x14c3 ∷
+    Store 0 0x8010 0x24c3 ∷
     Store 0 0x8098 0x34c3 ∷ Store 0 0x80a8 0x100000000354c3 ∷ Msr 0 TcrEl1 0x27 ∷ Msr 0 Ttbr0El1 0x1000 ∷ Msr 0 VtcrEl2 0xef ∷
     Msr 0 VttbrEl2 0x8000 ∷ Msr 0 HcrEl2 0x1 ∷ Msr 0 SctlrEl1 0x1 ∷ Isb 0 ∷ Access 0 (access 0xabc El1 Read false) ∷
     Access 0 (access 0x1abc El1 Read false) ∷ Store 0 0x8098 0x0 ∷ Access 0 (access 0x200abc El1 Read false) ∷

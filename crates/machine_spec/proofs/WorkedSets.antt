@@ -21,7 +21,8 @@ use Rattle.machine_spec.proofs.Worked.{header, on_worked_runs, Comes, told, conf
 -- a full set loses its oldest row, a removal keeps the order of the others, and a service moves nothing
 first_in_first_out : Comes (header 1 ((0x0, 0x20000) ∷ []) Small Fifo)
     (Store 0 0x1000 0x4403 ∷ Store 0 0x1008 0x5403 ∷ Store 0 0x1010 0x6403 ∷ Store 0 0x1018 0x7403 ∷ Store 0 0x1020 0x8403 ∷ Store 0 0x1028 0x9403 ∷
-    Store 0 0x1030 0xa403 ∷ Store 0 0x1038 0xb403 ∷ Store 0 0x1040 0xc403 ∷ Msr 0 TcrEl1 0x30 ∷ Msr 0 Ttbr0El1 0x1000 ∷ Msr 0 SctlrEl1 0x1 ∷ Isb 0 ∷
+    Store 0 0x1030 0xa403 ∷ Store 0 0x1038 0xb403 ∷ Store 0 0x1040 0xc403 ∷ Msr 0 TcrEl1 0x30 ∷ Msr 0 Ttbr0El1 0x1000 ∷ Msr 0 SctlrEl1 0x1 ∷
+    Isb 0 ∷
     Access 0 (access 0xabc El1 Read false) ∷ Access 0 (access 0x1abc El1 Read false) ∷ Access 0 (access 0x2abc El1 Read false) ∷
     Access 0 (access 0x3abc El1 Read false) ∷ Access 0 (access 0x4abc El1 Read false) ∷ Access 0 (access 0x5abc El1 Read false) ∷
     Access 0 (access 0x6abc El1 Read false) ∷ Access 0 (access 0x7abc El1 Read false) ∷ Access 0 (access 0xabc El1 Read false) ∷
@@ -147,7 +148,8 @@ lru_and_services = (refl, refl)
 
 -- a step that ends in a conflict gives no service, not even of the table that began its walk
 lru_and_a_conflict_in_a_chain : Comes (header 1 ((0x0, 0x20000) ∷ []) Medium Lru)
-    (Store 0 0x1000 0x2003 ∷ Store 0 0x1020 0x2003 ∷ Store 0 0x1040 0x2003 ∷ Store 0 0x1060 0x2003 ∷ Store 0 0x1080 0x2003 ∷ Store 0 0x2000 0x13403 ∷
+    (Store 0 0x1000 0x2003 ∷ Store 0 0x1020 0x2003 ∷ Store 0 0x1040 0x2003 ∷ Store 0 0x1060 0x2003 ∷ Store 0 0x1080 0x2003 ∷
+    Store 0 0x2000 0x13403 ∷
     Store 0 0x2008 0x15403 ∷ Store 0 0x2018 0x13403 ∷ Store 0 0x8008 0x14c3 ∷ Store 0 0x8010 0x24c3 ∷ Store 0 0x8098 0x34c3 ∷
     Store 0 0x80a8 0x100000000354c3 ∷ Msr 0 TcrEl1 0x24 ∷ Msr 0 Ttbr0El1 0x1000 ∷ Msr 0 VtcrEl2 0xef ∷ Msr 0 VttbrEl2 0x8000 ∷ Msr 0 HcrEl2 0x1 ∷
     Msr 0 SctlrEl1 0x1 ∷ Isb 0 ∷ Access 0 (access 0x0 El1 Read false) ∷ Access 0 (access 0x1000 El1 Read false) ∷
@@ -339,7 +341,8 @@ lru_and_tables = (refl, refl)
 -- large: a combined row stands in set start div 2^class mod 64 of eight rows, a stage 2 leaf in one mod 32 of four;
 -- ASIDs share a set
 sets_of_large : Comes (header 1 ((0x0, 0x20000) ∷ []) Large Fifo)
-    (Store 0 0x1000 0x200c01 ∷ Store 0 0x1100 0x400c01 ∷ Store 0 0x1200 0x600c01 ∷ Store 0 0x1400 0x800c01 ∷ Msr 0 TcrEl1 0x22 ∷ Msr 0 SctlrEl1 0x1 ∷
+    (Store 0 0x1000 0x200c01 ∷ Store 0 0x1100 0x400c01 ∷ Store 0 0x1200 0x600c01 ∷ Store 0 0x1400 0x800c01 ∷ Msr 0 TcrEl1 0x22 ∷
+    Msr 0 SctlrEl1 0x1 ∷
     Msr 0 Ttbr0El1 0x1000000001000 ∷ Isb 0 ∷ Access 0 (access 0x4000000 El1 Read false) ∷ Access 0 (access 0x0 El1 Read false) ∷
     Access 0 (access 0x8000000 El1 Read false) ∷ Access 0 (access 0x10000000 El1 Read false) ∷ Msr 0 Ttbr0El1 0x2000000001000 ∷ Isb 0 ∷
     Access 0 (access 0x4000000 El1 Read false) ∷ Access 0 (access 0x0 El1 Read false) ∷ Access 0 (access 0x8000000 El1 Read false) ∷

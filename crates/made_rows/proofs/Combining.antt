@@ -1,5 +1,6 @@
 -- The rows of a whole step.
-use Rattle.std.proofs.Common.{◌≡◌, ℕ, ◌<◌, true, false, cond, List, [], ◌∷◌, ◌++◌, length, take, drop, fold, refl, sym, ap, ◌∙◌, subst, Option, Some, None, arith}
+use Rattle.std.proofs.Common.{◌≡◌, ℕ, ◌<◌, true, false, cond, List, [], ◌∷◌, ◌++◌, length, take}
+use Rattle.std.proofs.Common.{drop, fold, refl, sym, ap, ◌∙◌, subst, Option, Some, None, arith}
 use Rattle.std.specs.Prelude.{◌/◌, ◌%◌, ◌^◌, ◌≤◌, option_map}
 use Rattle.geometry.specs.Tables.{most_left, level_of}
 use Rattle.kept_items.proofs.StartTables.{base1_sound}
@@ -31,7 +32,8 @@ use Rattle.made_rows.specs.declared.gather.Stand.{Stand}
 use Rattle.made_rows.specs.declared.making.NewRow.{NewRow}
 use Rattle.made_rows.specs.Sized.{is_sized}
 use Rattle.made_rows.specs.Pieces.{after1, after2, IsPiece, smaller_of}
-use Rattle.made_rows.specs.NewRows.{MadeFor, maker_for, regime_for, row_from, rows_from, one_from, IsKnown, AreKnown, IsLeaf, IsLeafRow, HasLeaf, is_new_leaf, met_in, is_mapped, StandsTo, AreMade}
+use Rattle.made_rows.specs.NewRows.{MadeFor, maker_for, regime_for, row_from, rows_from, one_from, IsKnown, AreKnown, IsLeaf}
+use Rattle.made_rows.specs.NewRows.{IsLeafRow, HasLeaf, is_new_leaf, met_in, is_mapped, StandsTo, AreMade}
 use Rattle.made_rows.proofs.Steady.{AreSteady, steady_walk}
 use Rattle.made_rows.proofs.MetAre.{met_are}
 use Rattle.made_rows.proofs.PassingAll.{rows_more, listed, listed_is}
@@ -80,14 +82,16 @@ module _ (made : MadeFor) (trail : List Item) where
 
 -- WORDS OF A TRAIL
 
-known_base : (r : Regime) (i : Item) → i.what ≡ Base → (i.stage ≡ S1 → (i.value < 2 ^ 52) × (i.value % 8 ≡ 0) × (is_sized r S1 ≡ true)) → IsKnown r i
+known_base : (r : Regime) (i : Item) → i.what ≡ Base → (i.stage ≡ S1 → (i.value < 2 ^ 52) × (i.value % 8 ≡ 0) × (is_sized r S1 ≡ true))
+    → IsKnown r i
 known_base r i b h = record { word = λ w. (let q : Base ≡ Word = sym b ∙ w in absurd cc); base = λ _. h }
 
 known_base2 : (r : Regime) (i : Item) → i.what ≡ Base → i.stage ≡ S2 → IsKnown r i
 known_base2 r i b t = known_base r i b (λ s. (let q : S2 ≡ S1 = sym t ∙ s in absurd cc))
 
 known_word : (r : Regime) (i : Item) → i.what ≡ Word
-    → (left : ℕ) × (left ≤ most_left) × (left ≤ (sizes_of r i.stage).start) × (i.level ≡ level_of left) × (is_sized r i.stage ≡ true) → IsKnown r i
+    → (left : ℕ) × (left ≤ most_left) × (left ≤ (sizes_of r i.stage).start) × (i.level ≡ level_of left) × (is_sized r i.stage ≡ true)
+    → IsKnown r i
 known_word r i w h = record { word = λ _. h; base = λ b. (let q : Word ≡ Base = sym w ∙ b in absurd cc) }
 
 steady_known : {A : Type 0} (P : A → ℕ → Type 0) (r : Regime) (va x g : ℕ) (t u : Ask Need Item A) (items : List Item) → AreSteady P r va x g t
@@ -148,7 +152,8 @@ module _ (regs : Regs) (step : ℕ) (a : Access) (trail : List Item) where
     met_is = (let d = stands_on end h in met_are R (untagged a.va) Any 0 (a.va % 2 ^ 52) W d.0 trail steady d.1)
 
     pub all_made : (rows more : List NewRow) → rows_from (maker_for Made) trail rows ≡ rows_of (maker_for Made) [] [] Met
-        → rows_from (maker_for Made) trail more ≡ combined_rows (maker_for Made) (untagged a.va) trail Met end → AreMade regs step a trail end (rows ++ more)
+        → rows_from (maker_for Made) trail more ≡ combined_rows (maker_for Made) (untagged a.va) trail Met end
+        → AreMade regs step a trail end (rows ++ more)
     all_made rows more r m =
         ap (numbered 0)
         (rows_more (maker_for Made) trail rows more ∙ ap (λ z. z ++ rows_from (maker_for Made) trail more) r

@@ -31,7 +31,8 @@ use Rattle.walk_spec.specs.Needs.{Regime, Need, stage1_base, stage2_base, word}
 use Rattle.walk_spec.specs.Steps.{End, stops, reaches, step_then}
 use Rattle.walk_spec.specs.Stage2.{Asked2, fault2, leaf2_of, step2, step2_by, walk2, walk2_from, walk2_behind, is_refused2}
 use Rattle.walk_spec.specs.Stage1.{Asked, asked2, fault1, leaf1_of, step1, step1_by, entry1, walk1_from, is_readable, read1, read1_by, word_of, stage1_from}
-use Rattle.walk_spec.specs.BothStages.{Landing, landed, piece, smaller, judged2, asked, walk_by, walk, stage1, stage1_on, stage1_off, stage1_behind, stage2_behind}
+use Rattle.walk_spec.specs.BothStages.{Landing, landed, piece, smaller, judged2, asked, walk_by, walk, stage1}
+use Rattle.walk_spec.specs.BothStages.{stage1_on, stage1_off, stage1_behind, stage2_behind}
 use Rattle.walk_spec.specs.BothStages.{is_refused1, is_refused_off, off_leaf}
 use Rattle.walk_laws.proofs.Sound.{IsOfFields, granule1, granule2, sound1, sound2}
 use Rattle.walk_laws.proofs.Shifts.{of_fields}
@@ -81,7 +82,8 @@ ends_after : {A B : Type 0} (P : A → Type 0) (Q : B → Type 0) (t : Ask Need 
 ends_after P Q (done a) f h g = g a h
 ends_after P Q (ask n k) f h g = (h.0, λ i. ends_after P Q (k i) f (h.1 i) g)
 
-ends_if : {A : Type 0} (P : A → Type 0) (b : Bool) (t u : Ask Need Item A) → (b ≡ true → Ends P t) → (b ≡ false → Ends P u) → Ends P (cond b t u)
+ends_if : {A : Type 0} (P : A → Type 0) (b : Bool) (t u : Ask Need Item A) → (b ≡ true → Ends P t) → (b ≡ false → Ends P u)
+    → Ends P (cond b t u)
 ends_if P true t u h g = h refl
 ends_if P false t u h g = g refl
 
@@ -129,7 +131,8 @@ module _ (q : Asked2) (granule : IsGranule q.sizes.granule) where
   )
   from2_ends (suc left) t l = (
     l,
-    λ i. ends_step IsLeaf2 (walk2_from q left) (step2 q (suc left) i.pa i.value) (lead2 (suc left) i.pa i.value l) (λ t. from2_ends left t (omega (arith, l))),
+    λ i. ends_step IsLeaf2 (walk2_from q left) (step2 q (suc left) i.pa i.value) (lead2 (suc left) i.pa i.value l)
+        (λ t. from2_ends left t (omega (arith, l))),
   )
 
 walk2_ends : (r : Regime) (fields : IsOfFields r) (p : Bool) (x : ℕ) → Ends (IsEnd IsLeaf2) (walk2 (asked2 r p x))

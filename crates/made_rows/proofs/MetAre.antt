@@ -66,7 +66,8 @@ module _ (r : Regime) (va : ℕ) where
   goal_word g i S2 e = goal2 g i e
 
   -- one item
-  one_met : (x y g h : ℕ) (m : Mark) (i : Item) (items : List Item) (ms : List Mark) → y ≡ open_ipa x g i → m ≡ mark_for r va y i → h ≡ next_goal r va g i →
+  one_met : (x y g h : ℕ) (m : Mark) (i : Item) (items : List Item) (ms : List Mark) → y ≡ open_ipa x g i → m ≡ mark_for r va y i
+      → h ≡ next_goal r va g i →
       ms ≡ met r va y h items → m ∷ ms ≡ met r va x g (i ∷ items)
   one_met x y g h m i items ms a b c d =
       ap (λ z. z ∷ ms) b ∙ ap (λ z. mark_for r va y i ∷ z) d ∙ ap (λ z. mark_for r va y i ∷ met r va y z items) c
@@ -78,7 +79,8 @@ module _ (r : Regime) (va : ℕ) where
   opens : (x g : ℕ) (i : Item) → begins_chain i ≡ true → g ≡ open_ipa x g i
   opens x g i b = ap (λ b. cond b g x) (sym b)
 
-  pub met_are : {A : Type 0} (P : A → ℕ → Type 0) (x g : ℕ) (t u : Ask Need Item A) (items : List Item) → AreSteady P r va x g t → IsOn r t items u →
+  pub met_are : {A : Type 0} (P : A → ℕ → Type 0) (x g : ℕ) (t u : Ask Need Item A) (items : List Item) → AreSteady P r va x g t
+      → IsOn r t items u →
       marks r t items ≡ met r va x g items
   met_are P x g (done a) u [] s h = refl
   met_are P x g (done a) u (i ∷ items) s h = absurd h

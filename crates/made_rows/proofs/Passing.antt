@@ -1,5 +1,6 @@
 -- One item is passed.
-use Rattle.std.proofs.Common.{◌≡◌, ℕ, ◌+◌, ◌≤◌, Bool, true, false, cond, List, [], ◌∷◌, take, drop, refl, sym, ap, ◌∙◌, subst, Option, Some, None}
+use Rattle.std.proofs.Common.{◌≡◌, ℕ, ◌+◌, ◌≤◌, Bool, true, false, cond, List, [], ◌∷◌}
+use Rattle.std.proofs.Common.{take, drop, refl, sym, ap, ◌∙◌, subst, Option, Some, None}
 use Rattle.std.specs.Prelude.{◌&&◌, ◌==◌, is_some}
 use Rattle.std.proofs.lemmas.Bool.{both_ways}
 use Rattle.std.proofs.lemmas.Option.{same_Some}
@@ -105,7 +106,8 @@ module _ (made : MadeFor) (x : ℕ) (i : Item) (w : i.what ≡ AWord) where
       }
 
   -- a row of a part that may be cached, or none
-  one_if : (b : Bool) (n : NewRow) (r : Row) (trail : List Item) → row_from K trail n ≡ r → one_from K trail (cond b (Some n) None) ≡ cond b (r ∷ []) []
+  one_if : (b : Bool) (n : NewRow) (r : Row) (trail : List Item) → row_from K trail n ≡ r
+      → one_from K trail (cond b (Some n) None) ≡ cond b (r ∷ []) []
   one_if true n r trail h = ap (λ z. z ∷ []) h
   one_if false n r trail h = refl
 
@@ -153,7 +155,8 @@ module _ (made : MadeFor) (x : ℕ) (i : Item) (w : i.what ≡ AWord) where
 
     pub passed1 : (at goal0 goal start : ℕ) (led : goal ≡ next_goal (regime_for made) (untagged made.access.va) goal0 i) (leaf0 : Option NewRow)
         (class0 : Option ℕ) (leaf : Option NewRow) (row : Option NewRow) →
-        ((trail : List Item) → one_from K trail row ≡ rows_now K M (take (at + 1) trail) (drop (at + 1) (take (at + 1) trail))) → IsLeaf made (Some M) leaf →
+        ((trail : List Item) → one_from K trail row ≡ rows_now K M (take (at + 1) trail) (drop (at + 1) (take (at + 1) trail)))
+        → IsLeaf made (Some M) leaf →
         Passed made at i record { ipa = x; goal = goal0; start = start; leaf = leaf0; class2 = class0 }
         record { ipa = x; goal = goal; start = at + 1; leaf = leaf; class2 = None } row
     passed1 at goal0 goal start led leaf0 class0 leaf row h g = record {

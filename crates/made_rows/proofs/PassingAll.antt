@@ -1,5 +1,6 @@
 -- All items of a trail are passed.
-use Rattle.std.proofs.Common.{◌≡◌, ℕ, ◌+◌, ◌≤◌, Bool, true, false, cond, List, [], ◌∷◌, ◌++◌, append_assoc, append-nil, length, take, drop, fold, refl, sym, ap, ◌∙◌, subst, Option, Some, None, arith}
+use Rattle.std.proofs.Common.{◌≡◌, ℕ, ◌+◌, ◌≤◌, Bool, true, false, cond, List, [], ◌∷◌, ◌++◌, append_assoc}
+use Rattle.std.proofs.Common.{append-nil, length, take, drop, fold, refl, sym, ap, ◌∙◌, subst, Option, Some, None, arith}
 use Rattle.std.specs.Prelude.{get_or, ◌<◌, ◌%◌, ◌^◌}
 use Rattle.std.proofs.lemmas.List.{drop_more, drop_all}
 use Rattle.fault_codes.specs.declared.fault.Stage.{Stage}
@@ -16,7 +17,8 @@ use Rattle.made_rows.specs.declared.gather.Stand.{Stand}
 use Rattle.made_rows.specs.declared.making.NewRow.{NewRow}
 use Rattle.made_rows.specs.Met.{open_ipa, next_goal, met}
 use Rattle.made_rows.specs.Pieces.{after1, after2}
-use Rattle.made_rows.specs.NewRows.{MadeFor, maker_for, regime_for, row_from, rows_from, one_from, IsKnown, AreKnown, HasLeaf, mark_in, met_in, Passed, PassedAll}
+use Rattle.made_rows.specs.NewRows.{MadeFor, maker_for, regime_for, row_from, rows_from, one_from, IsKnown}
+use Rattle.made_rows.specs.NewRows.{AreKnown, HasLeaf, mark_in, met_in, Passed, PassedAll}
 
 -- the item of a mark
 word_item : (r : Regime) (s : Stage) (x : ℕ) (i : Item) (w : What) → (mark_of_word r s x i w).item ≡ i
@@ -30,7 +32,8 @@ items_met r va x goal (i ∷ items) =
     ap (λ j. j ∷ items_of (met r va (open_ipa x goal i) (next_goal r va goal i) items)) (word_item r i.stage _ i i.what)
     ∙ ap (λ l. i ∷ l) (items_met r va (open_ipa x goal i) (next_goal r va goal i) items)
 
-pub rows_more : (k : Maker) (trail : List Item) (rows more : List NewRow) → rows_from k trail (rows ++ more) ≡ rows_from k trail rows ++ rows_from k trail more
+pub rows_more : (k : Maker) (trail : List Item) (rows more : List NewRow) → rows_from k trail (rows ++ more)
+    ≡ rows_from k trail rows ++ rows_from k trail more
 rows_more k trail [] more = refl
 rows_more k trail (r ∷ rows) more = ap (λ l. row_from k trail r ∷ l) (rows_more k trail rows more)
 
@@ -89,7 +92,8 @@ module _ (made : MadeFor) (trail : List Item) where
         (sym p.ipa) ∙ ap (λ g. m ∷ met (regime_for made) (untagged made.access.va) t.ipa g items) (sym p.goal)
         ∙ ap (λ l. m ∷ met (regime_for made) (untagged made.access.va) t.ipa t.goal l) (sym next)
 
-    rows_here : rows_at K trail (spots K at s.start (rest_met at s)) ≡ one_from K trail row ++ rows_at K trail (spots K (at + 1) t.start (rest_met (at + 1) t))
+    rows_here : rows_at K trail (spots K at s.start (rest_met at s)) ≡ one_from K trail row ++ rows_at K trail
+        (spots K (at + 1) t.start (rest_met (at + 1) t))
     rows_here =
         ap (λ ms. rows_at K trail (spots K at s.start ms)) here
         ∙ one_spot (is_read_now K m) m (start_with s.start at m) (at + 1) (spots K (at + 1) (start_with s.start at m) (rest_met (at + 1) t))
@@ -105,7 +109,8 @@ module _ (made : MadeFor) (trail : List Item) where
         record {
           rows_are =
               ap (λ z. z ++ later) (rows_more K trail rows (listed row) ∙ ap (λ z. rows_from K trail rows ++ z) (listed_is K trail row))
-              ∙ append_assoc (rows_from K trail rows) (one_from K trail row) later ∙ ap (λ z. rows_from K trail rows ++ z) (sym rows_here) ∙ mid.rows_are;
+              ∙ append_assoc (rows_from K trail rows) (one_from K trail row) later ∙ ap (λ z. rows_from K trail rows ++ z) (sym rows_here)
+              ∙ mid.rows_are;
           known = subst (AreKnown (regime_for made)) (sym next) k.1;
           last = after1 mid.last m;
           class2 = after2 mid.class2 m;
@@ -123,7 +128,8 @@ module _ (made : MadeFor) (trail : List Item) where
       sym (append-nil (items_of (met_in made trail)) ∙ items_met (regime_for made) (untagged made.access.va) 0 (made.access.va % 2 ^ 52) trail) in
       record {
         rows_are =
-            sym (append-nil (rows_from K trail rows)) ∙ ap (λ ms. rows_from K trail rows ++ rows_at K trail (spots K at s.start ms)) (sym none) ∙ mid.rows_are
+            sym (append-nil (rows_from K trail rows)) ∙ ap (λ ms. rows_from K trail rows ++ rows_at K trail (spots K at s.start ms)) (sym none)
+            ∙ mid.rows_are
             ∙ rows_placed K [] 0 (met_in made trail) [] trail (omega arith) whole;
         leaf = subst (λ o. HasLeaf made o (fold after2 None (met_in made trail)) s) last (subst (λ k. HasLeaf made mid.last k s) class2 mid.leaf);
       }

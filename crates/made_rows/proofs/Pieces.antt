@@ -1,5 +1,6 @@
 -- The piece of both leaves that a walk ends in: its class is told by the last word of stage 1 and by the words behind it.
-use Rattle.std.proofs.Common.{◌≡◌, ℕ, zero, suc, Bool, true, false, cond, List, [], ◌∷◌, refl, sym, ap, ◌∙◌, subst, Result, Ok, Err, Option, Some, None}
+use Rattle.std.proofs.Common.{◌≡◌, ℕ, zero, suc, Bool, true, false, cond, List, [], ◌∷◌, refl, sym}
+use Rattle.std.proofs.Common.{ap, ◌∙◌, subst, Result, Ok, Err, Option, Some, None}
 use Rattle.std.specs.Prelude.{◌&&◌, ◌||◌, not, fold}
 use Rattle.std.specs.Option.{option_or}
 use Rattle.geometry.specs.Tables.{most_left}
@@ -26,7 +27,8 @@ use Rattle.walk_spec.specs.Needs.{Regime, Need, stage1_base, stage2_base, mappin
 use Rattle.walk_spec.specs.Steps.{End, stops, reaches, step_then}
 use Rattle.walk_spec.specs.Stage2.{Asked2, fault2, step2, step2_by, walk2, walk2_from, walk2_behind, is_refused2}
 use Rattle.walk_spec.specs.Stage1.{Asked, asked2, fault1, leaf1_of, step1, step1_by, entry1, walk1_from, is_readable, read1, read1_by, word_of, stage1_from}
-use Rattle.walk_spec.specs.BothStages.{Landing, landed, piece, smaller, judged2, walk_by, stage1, stage1_on, stage1_off, stage1_behind, stage2_behind, is_refused1, is_refused_off, off_leaf}
+use Rattle.walk_spec.specs.BothStages.{Landing, landed, piece, smaller, judged2, walk_by, stage1, stage1_on, stage1_off}
+use Rattle.walk_spec.specs.BothStages.{stage1_behind, stage2_behind, is_refused1, is_refused_off, off_leaf}
 use Rattle.machine_spec.specs.Marks.{Mark, mark, marks, is_first}
 use Rattle.machine_spec.specs.Made.{last_first}
 use Rattle.machine_laws.proofs.Trees.{IsOn}
@@ -51,13 +53,15 @@ Found1 l = Reached l
 same_class1 : (x l : Leaf1) → Found1 x ≡ Found1 l → l.class ≡ x.class
 same_class1 x l h = sym (ap class1_in h)
 
-reached2_by : (q : Asked2) (left pa : ℕ) (kind : Kind2) (l : Leaf2) → step2_by q left pa kind ≡ Reached l → l.class ≡ class_by (mapping2 kind) q.sizes left pa
+reached2_by : (q : Asked2) (left pa : ℕ) (kind : Kind2) (l : Leaf2) → step2_by q left pa kind ≡ Reached l
+    → l.class ≡ class_by (mapping2 kind) q.sizes left pa
 reached2_by q left pa Invalid2 l h = absurd cc
 reached2_by q left pa (Table2 t) l h = down_not (is_too_large q.sizes t) (fault2 q AddressSize left) t l _ h
 reached2_by q left pa (Leaf2Kind out mem_attr read write xn sh af dbm contiguous) l h =
     sym (ap class2_in (cond_reached (not (af || q.config.ha2)) _ _ l (cond_reached (is_too_large q.sizes out) _ _ l h)))
 
-reached2 : (q : Asked2) (left pa v : ℕ) (l : Leaf2) → step2 q left pa v ≡ Reached l → l.class ≡ class_by (mapping2 (means2_of q.config left v)) q.sizes left pa
+reached2 : (q : Asked2) (left pa v : ℕ) (l : Leaf2) → step2 q left pa v ≡ Reached l → l.class
+    ≡ class_by (mapping2 (means2_of q.config left v)) q.sizes left pa
 unfolding step2
 reached2 q left pa v l h = reached2_by q left pa (means2_of q.config left v) l h
 
@@ -85,19 +89,22 @@ module _ (r : Regime) where
   Holds P o k (done a) = P o k a
   Holds P o k (ask n g) = (i : Item) → Holds P (after1 o (mark r n i)) (after2 k (mark r n i)) (g i)
 
-  holds_after : {A B : Type 0} (P : Option Mark → Option ℕ → A → Type 0) (Q : Option Mark → Option ℕ → B → Type 0) (o : Option Mark) (k : Option ℕ)
+  holds_after : {A B : Type 0} (P : Option Mark → Option ℕ → A → Type 0) (Q : Option Mark → Option ℕ → B → Type 0) (o : Option Mark)
+      (k : Option ℕ)
       (t : Ask Need Item A) (f : A → Ask Need Item B) → Holds P o k t
       → ((o : Option Mark) (k : Option ℕ) (a : A) → P o k a → Holds Q o k (f a)) → Holds Q o k (after t f)
   holds_after P Q o k (done a) f h g = g o k a h
   holds_after P Q o k (ask n next) f h g = λ i. holds_after P Q (after1 o (mark r n i)) (after2 k (mark r n i)) (next i) f (h i) g
 
-  holds_if : {A : Type 0} (P : Option Mark → Option ℕ → A → Type 0) (o : Option Mark) (k : Option ℕ) (b : Bool) (t u : Ask Need Item A) → Holds P o k t
+  holds_if : {A : Type 0} (P : Option Mark → Option ℕ → A → Type 0) (o : Option Mark) (k : Option ℕ) (b : Bool) (t u : Ask Need Item A)
+      → Holds P o k t
       → Holds P o k u → Holds P o k (cond b t u)
   holds_if P o k true t u h g = h
   holds_if P o k false t u h g = g
 
   -- and so behind the items that it met
-  pub holds_on : {A : Type 0} (P : Option Mark → Option ℕ → A → Type 0) (o : Option Mark) (k : Option ℕ) (t : Ask Need Item A) (items : List Item) (a : A)
+  pub holds_on : {A : Type 0} (P : Option Mark → Option ℕ → A → Type 0) (o : Option Mark) (k : Option ℕ) (t : Ask Need Item A) (items : List Item)
+      (a : A)
       → IsOn r t items (done a) → Holds P o k t → P (fold after1 o (marks r t items)) (fold after2 k (marks r t items)) a
   holds_on P o k (done b) [] a h g = subst (λ t. Holds P o k t) (sym h) g
   holds_on P o k (ask n next) [] a h g = absurd cc

@@ -1,5 +1,6 @@
 -- The rows of a core have small classes, over every run.
-use Rattle.std.proofs.Common.{◌≡◌, ℕ, ◌+◌, ◌<◌, ◌≤◌, arith, Bool, true, false, cond, List, [], ◌∷◌, ◌++◌, length, inl, inr, refl, sym, ◌∙◌, subst, Option, Some, None}
+use Rattle.std.proofs.Common.{◌≡◌, ℕ, ◌+◌, ◌<◌, ◌≤◌, arith, Bool, true, false, cond, List, [], ◌∷◌}
+use Rattle.std.proofs.Common.{◌++◌, length, inl, inr, refl, sym, ◌∙◌, subst, Option, Some, None}
 use Rattle.std.specs.Prelude.{◌==◌, ◌&&◌, fold, filter, take}
 use Rattle.std.proofs.lemmas.List.{length-replicate, get_or-replicate}
 use Rattle.geometry.specs.Tables.{IsGranule, most_left}
@@ -27,9 +28,11 @@ use Rattle.tagged_tlb.specs.Tied.{AreSmall}
 use Rattle.machine_spec.specs.Header.{Header}
 use Rattle.machine_spec.specs.Invalidations.{issued_by, completes}
 use Rattle.machine_spec.specs.Marks.{Part, nothing, table, leaf_of_stage1, leaf_of_stage2, Mark, mark, marks, is_leaf1}
-use Rattle.machine_spec.specs.Made.{Maker, only_if, row_of, rows_by, is_read_now, chain_with, rows_of, last_first, leaf_row, leaf_rows, combined_rows, numbered, rows_made}
+use Rattle.machine_spec.specs.Made.{Maker, only_if, row_of, rows_by, is_read_now, chain_with, rows_of, last_first}
+use Rattle.machine_spec.specs.Made.{leaf_row, leaf_rows, combined_rows, numbered, rows_made}
 use Rattle.machine_spec.specs.Served.{Place, Reply, Halt, came, clash, served}
-use Rattle.machine_spec.specs.Machine.{Core, World, no_core, killed, delivered, mailed_by, Visit, made_by, visited_by, visit_of, core_numbered, regs_in, accessed, acted, moved, after_event, opened, world_after}
+use Rattle.machine_spec.specs.Machine.{Core, World, no_core, killed, delivered, mailed_by, Visit, made_by, visited_by, visit_of}
+use Rattle.machine_spec.specs.Machine.{core_numbered, regs_in, accessed, acted, moved, after_event, opened, world_after}
 use Rattle.machine_laws.specs.Leaving.{In, pushed_out}
 use Rattle.machine_laws.proofs.Lists.{In-append}
 use Rattle.machine_laws.proofs.Events.{each_length, rows_left}
@@ -63,7 +66,8 @@ mark_class r f stage1_base i l = omega arith
 mark_class r f (stage2_base x) i l = omega arith
 mark_class r f (word w) i l = class_most (mapping_of r w.stage w.left i.value) (sizes_of r w.stage) w.left i.pa (granule_at r f w.stage) l
 
-few_marks : {A : Type 0} (P : A → Type 0) (r : Regime) → IsOfFields r → (t : Ask Need Item A) (items : List Item) → Ends P t → AreFew (marks r t items)
+few_marks : {A : Type 0} (P : A → Type 0) (r : Regime) → IsOfFields r → (t : Ask Need Item A) (items : List Item) → Ends P t
+    → AreFew (marks r t items)
 few_marks P r f (done a) items h = tt
 few_marks P r f (ask n k) [] h = tt
 few_marks P r f (ask n k) (i ∷ items) h = (mark_class r f n i h.0, few_marks P r f (k i) items (h.1 i))
@@ -79,7 +83,8 @@ small_if true r x h (inr i) = absurd i
 small_if false r x h i = absurd i
 
 module _ (k : Maker) where
-  small_by : (m : Mark) (whole chain : List Item) (s : Stage) (part : Part) (x : Row) → m.region.class ≤ 55 → In x (rows_by k m whole chain s part) → IsSmall x
+  small_by : (m : Mark) (whole chain : List Item) (s : Stage) (part : Part) (x : Row) → m.region.class ≤ 55 → In x (rows_by k m whole chain s part)
+      → IsSmall x
   small_by m whole chain S1 nothing x h i = absurd i
   small_by m whole chain S1 (table cached) x h i = small_if cached (row_of k m Table1 whole) x (omega (arith, h)) i
   small_by m whole chain S1 (leaf_of_stage1 global) x h i = absurd i
@@ -104,7 +109,8 @@ module _ (k : Maker) where
         | inr j ↦ small_words ms whole2 chain2 x h.1 j
       ]
 
-  small_leaf : (class address : ℕ) (trail : List Item) (last : Option Mark) (x : Row) → class ≤ 55 → In x (leaf_rows k class address trail last) → IsSmall x
+  small_leaf : (class address : ℕ) (trail : List Item) (last : Option Mark) (x : Row) → class ≤ 55 → In x (leaf_rows k class address trail last)
+      → IsSmall x
   small_leaf class address trail None x h i = absurd i
   small_leaf class address trail (Some m) x h i =
       small_if (is_leaf1 m && is_read_now k m) (leaf_row k class address m trail) x (omega (arith, h)) i

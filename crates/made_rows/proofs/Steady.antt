@@ -21,8 +21,10 @@ use Rattle.walk_spec.specs.Ask.{Ask, done, ask, after, go_on, finer}
 use Rattle.walk_spec.specs.Needs.{Regime, sizes_of, Need, stage1_base, stage2_base, word, WordNeed, fits}
 use Rattle.walk_spec.specs.Steps.{End, stops, reaches, step_then}
 use Rattle.walk_spec.specs.Stage2.{fault2, step2, walk2, walk2_from, walk2_behind, is_refused2}
-use Rattle.walk_spec.specs.Stage1.{Asked, asked2, fault1, leaf1_of, judged1, step1, step1_by, entry1, walk1_from, is_readable, read1, read1_by, word_of, stage1_from, untagged}
-use Rattle.walk_spec.specs.BothStages.{Landing, landed, judged2, walk_by, stage1, stage1_on, stage1_off, stage1_behind, stage2_behind, is_refused1, is_refused_off, off_leaf}
+use Rattle.walk_spec.specs.Stage1.{Asked, asked2, fault1, leaf1_of, judged1, step1, step1_by, entry1, walk1_from}
+use Rattle.walk_spec.specs.Stage1.{is_readable, read1, read1_by, word_of, stage1_from, untagged}
+use Rattle.walk_spec.specs.BothStages.{Landing, landed, judged2, walk_by, stage1, stage1_on, stage1_off}
+use Rattle.walk_spec.specs.BothStages.{stage1_behind, stage2_behind, is_refused1, is_refused_off, off_leaf}
 use Rattle.walk_laws.proofs.Sound.{IsOfFields, sound1, sound2}
 use Rattle.table_reads.specs.Places.{place_of, is_too_large}
 use Rattle.fault_codes.specs.declared.fault.Class.TheVariants.{Translation, AddressSize, AccessFlag, Permission}

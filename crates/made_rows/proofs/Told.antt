@@ -21,7 +21,8 @@ use Rattle.made_rows.proofs.Ends.{Ends, IsEnd, IsLanding, status_at, walk_ends}
 use Rattle.made_rows.proofs.Halts.{IsFed, IsHalt, served_halt}
 
 -- what holds of a walk's questions and ends holds of what items leave of it
-ends_left : {A : Type 0} (P : A → Type 0) (r : Regime) (t : Ask Need Item A) (items : List Item) (u : Ask Need Item A) → IsOn r t items u → Ends P t → Ends P u
+ends_left : {A : Type 0} (P : A → Type 0) (r : Regime) (t : Ask Need Item A) (items : List Item) (u : Ask Need Item A) → IsOn r t items u → Ends P t
+    → Ends P u
 ends_left P r t [] u h g = subst (Ends P) (sym h) g
 ends_left P r (done a) (i ∷ items) u h g = absurd h
 ends_left P r (ask n k) (i ∷ items) u h g = ends_left P r (k i) items u h.1 (g.1 i)

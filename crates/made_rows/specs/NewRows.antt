@@ -1,5 +1,6 @@
 -- The rows that a step makes, as code tells them: with places in the trail of the step.
-use Rattle.std.specs.Prelude.{◌≡◌, ℕ, ◌+◌, ◌/◌, ◌%◌, ◌^◌, ◌<◌, ◌≤◌, Bool, true, false, ◌&&◌, List, [], ◌∷◌, take, drop, map, fold, Option, Some, None, if◌then◌else◌}
+use Rattle.std.specs.Prelude.{◌≡◌, ℕ, ◌+◌, ◌/◌, ◌%◌, ◌^◌, ◌<◌, ◌≤◌, Bool, true, false, ◌&&◌}
+use Rattle.std.specs.Prelude.{List, [], ◌∷◌, take, drop, map, fold, Option, Some, None, if◌then◌else◌}
 use Rattle.geometry.specs.Tables.{most_left, level_of}
 use Rattle.sysregs.specs.declared.regs.Regs.{Regs}
 use Rattle.sysregs.specs.Registers.{config_of}
@@ -67,7 +68,8 @@ one_from k trail (Some n) = row_from k trail n ∷ []
 
 -- a word of a level that its stage has, and a base that stage 1 may read from
 pub record IsKnown (r : Regime) (i : Item) : Type 0 where
-  pub word : i.what ≡ AWord → (left : ℕ) × (left ≤ most_left) × (left ≤ (sizes_of r i.stage).start) × (i.level ≡ level_of left) × (is_sized r i.stage ≡ true)
+  pub word : i.what ≡ AWord → (left : ℕ) × (left ≤ most_left) × (left ≤ (sizes_of r i.stage).start) × (i.level ≡ level_of left)
+      × (is_sized r i.stage ≡ true)
   pub base : i.what ≡ ABase → i.stage ≡ S1 → (i.value < 2 ^ 52) × (i.value % 8 ≡ 0) × (is_sized r S1 ≡ true)
 
 abbrev pub AreKnown : (regime : Regime) (items : List Item) → Type 0
@@ -142,7 +144,8 @@ pub record Passed (made : MadeFor) (at : ℕ) (i : Item) (old new : Stand) (row 
   pub start : new.start ≡ start_with old.start at (mark_in made new.ipa i)
   pub row_is : (trail : List Item) → one_from (maker_for made) trail row
       ≡ rows_now (maker_for made) (mark_in made new.ipa i) (take (at + 1) trail) (drop new.start (take (at + 1) trail))
-  pub leaf : (o : Option Mark) (k : Option ℕ) → HasLeaf made o k old → HasLeaf made (after1 o (mark_in made new.ipa i)) (after2 k (mark_in made new.ipa i)) new
+  pub leaf : (o : Option Mark) (k : Option ℕ) → HasLeaf made o k old → HasLeaf made (after1 o (mark_in made new.ipa i))
+      (after2 k (mark_in made new.ipa i)) new
 
 -- the items of a trail with what they are, from the front; with stage 1 off the output is VA bits 51 to 0
 abbrev pub met_in : (made : MadeFor) (trail : List Item) → List Mark

@@ -1,5 +1,6 @@
 //! All rows that a step makes, in the order of its trail.
-ghost use Rattle.std.specs.Prelude.{◌≡◌, ℕ, ◌+◌, ◌/◌, ◌<◌, ◌≤◌, ◌^◌, List, Option, true, [], length, Some, None, if◌then◌else◌, vec_len, vec_capacity};
+ghost use Rattle.std.specs.Prelude.{◌≡◌, ℕ, ◌+◌, ◌/◌, ◌<◌, ◌≤◌, ◌^◌, List, Option, true, []};
+ghost use Rattle.std.specs.Prelude.{length, Some, None, if◌then◌else◌, vec_len, vec_capacity};
 ghost use Rattle.fault_codes.specs.declared.fault.Stage.TheVariants.{S1, S2};
 ghost use Rattle.sysregs.specs.Registers.{config_of};
 ghost use Rattle.trails.specs.Lengths.{most_items};
@@ -14,7 +15,8 @@ ghost use Rattle.translate.specs.Replayed.{stands_whole};
 ghost use Rattle.machine_spec.specs.Marks.{Mark};
 ghost use Rattle.machine_spec.specs.Made.{leaf_rows};
 ghost use Rattle.made_rows.specs.Pieces.{IsPiece, smaller_of};
-ghost use Rattle.made_rows.specs.NewRows.{MadeFor, maker_for, regime_for, one_from, IsKnown, AreKnown, HasLeaf, Passed, PassedAll, is_mapped, StandsTo, AreMade};
+ghost use Rattle.made_rows.specs.NewRows.{MadeFor, maker_for, regime_for, one_from, IsKnown, AreKnown, HasLeaf};
+ghost use Rattle.made_rows.specs.NewRows.{Passed, PassedAll, is_mapped, StandsTo, AreMade};
 
 use crate::making::{Making, NewRow};
 use crate::word::Means;
@@ -188,8 +190,10 @@ fn smaller(class: u32, other: Option<u32>) -> u32
 
 /// The row of a stage 1 leaf that was read now with the stage 2 of its output, behind a whole trail that ends in a translation.
 fn leaf_row(making: &Making, stand: &Stand, end: usize) -> Option<NewRow>
-    ensures { (o : Option Mark) → (k : Option ℕ) → (class : ℕ) → (trail : List declared_item.Item) → HasLeaf making.now o k stand.now → IsPiece o k class →
-        end ≡ length trail → one_from (maker_for making.now) trail result ≡ leaf_rows (maker_for making.now) class (untagged making.now.access.va) trail o }
+    ensures { (o : Option Mark) → (k : Option ℕ) → (class : ℕ) → (trail : List declared_item.Item) → HasLeaf making.now o k stand.now
+        → IsPiece o k class →
+        end ≡ length trail → one_from (maker_for making.now) trail result ≡ leaf_rows (maker_for making.now) class
+        (untagged making.now.access.va) trail o }
 {
     let leaf = stand.leaf?;
     let class = smaller(leaf.region.class, stand.class2);

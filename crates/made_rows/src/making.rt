@@ -68,7 +68,8 @@ impl<'a> Model for Making<'a> {
     ghost view = { λ s. record { regs = s.force.now; access = s.access.now; step = s.step } };
 
     ghost invariant = { λ s. (s.side ≡ side_of s.access.now.va)
-        × IsSized1 (config_of s.force.now) s.side s.stage1 × IfSome s.stage1 AreSound × IsSized2 (config_of s.force.now) s.stage2 × IfSome s.stage2 AreSound };
+        × IsSized1 (config_of s.force.now) s.side s.stage1 × IfSome s.stage1 AreSound × IsSized2 (config_of s.force.now) s.stage2
+        × IfSome s.stage2 AreSound };
 }
 
 /// How many levels are left below a level from 0 to 3.
@@ -194,7 +195,8 @@ impl<'a> Making<'a> {
 
     /// What the word of an item is.
     pub fn word(&self, item: &Item) -> Option<Word>
-        ensures is { (left : ℕ) → left ≤ most_left → left ≤ (sizes_of (regime_for self.now) item.now.stage).start → item.now.level ≡ level_of left →
+        ensures is { (left : ℕ) → left ≤ most_left → left ≤ (sizes_of (regime_for self.now) item.now.stage).start
+            → item.now.level ≡ level_of left →
             is_sized (regime_for self.now) item.now.stage ≡ true →
             result ≡ Some (word_at (regime_for self.now) (untagged self.now.access.va) item.now.stage left item.now) }
         ensures small { IfSome result (λ w. w.class ≤ 55) }

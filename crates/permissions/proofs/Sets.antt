@@ -60,7 +60,8 @@ has_of r El1 Write = has_w1 r
 has_of r El1 Fetch = has_x1 r
 
 -- without PAN a set gives what its rights say
-pub allowed_without_pan : (p : Perms) → (uxn : Bool) → (el : El) → (kind : Kind) → (epan : Bool) → is_allowed1 p uxn el kind false epan ≡ has p (needed el kind)
+pub allowed_without_pan : (p : Perms) → (uxn : Bool) → (el : El) → (kind : Kind) → (epan : Bool)
+    → is_allowed1 p uxn el kind false epan ≡ has p (needed el kind)
 unfolding is_allowed1
 allowed_without_pan p uxn el kind epan = grind (arith, common_steps)
 

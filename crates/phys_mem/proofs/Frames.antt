@@ -1,5 +1,6 @@
 -- Frames of pages: at first, one more, and a word that is set in its frame.
-use Rattle.std.proofs.Common.{◌≡◌, ◌≤◌, ◌<◌, ◌+◌, ◌-◌, ◌*◌, ◌%◌, ◌/◌, ℕ, zero, suc, List, [], ◌∷◌, ◌++◌, length, replicate, get_or, set, slice_index_or, refl, sym, ◌∙◌, ap, subst, arith, inl, inr}
+use Rattle.std.proofs.Common.{◌≡◌, ◌≤◌, ◌<◌, ◌+◌, ◌-◌, ◌*◌, ◌%◌, ◌/◌, ℕ, zero, suc, List, [], ◌∷◌, ◌++◌}
+use Rattle.std.proofs.Common.{length, replicate, get_or, set, slice_index_or, refl, sym, ◌∙◌, ap, subst, arith, inl, inr}
 use Rattle.std.specs.Prelude.{slice_index}
 use Rattle.std.proofs.lemmas.Bool.{cases_eq}
 use Rattle.std.proofs.lemmas.List.{length-append, length-replicate, length-set, get_or-set_same, get_or-set_other, get_or_append_left, get_or_default}
@@ -19,7 +20,8 @@ all_unframed zero = refl
 all_unframed (suc n) = ap (λ k. k + 1) (all_unframed n) ∙ (let e : n + 1 ≡ suc n = omega arith in e)
 
 -- the frame of 0 stands for all pages
-pub first_frames : (n capacity : ℕ) (frame_of frames : List ℕ) → frame_of ≡ replicate n 0 → frames ≡ replicate 512 0 → 512 * (n + 1) ≤ capacity →
+pub first_frames : (n capacity : ℕ) (frame_of frames : List ℕ) → frame_of ≡ replicate n 0 → frames ≡ replicate 512 0
+    → 512 * (n + 1) ≤ capacity →
     AreFrames frame_of frames capacity
 first_frames n capacity frame_of frames none zeros enough =
     let l : length frames ≡ 512 = ap length zeros ∙ length-replicate {A = ℕ} 512 0 in
@@ -194,13 +196,15 @@ module _ (frame_of frames : List ℕ) (capacity : ℕ) (are : AreFrames frame_of
         let l = length-set frames (512 * frame + k % 512) value in record {
           whole = (let w = are.whole in omega (arith, l, w));
           there = λ page. (let t = are.there page in omega (arith, l, t));
-          zeros = λ place h. get_or-set_other frames (512 * frame + k % 512) place value 0 (λ e. (let s = some in omega (arith, e, h, s))) ∙ are.zeros place h;
+          zeros = λ place h. get_or-set_other frames (512 * frame + k % 512) place value 0 (λ e. (let s = some in omega (arith, e, h, s)))
+              ∙ are.zeros place h;
           own = are.own;
           room = (let r = are.room in omega (arith, l, r));
         }
 
     -- the words of before, whose frames were others, with one of them set
-    pub written_words : (count : ℕ) (before : ℕ → ℕ) → k < length (listed count 0 before) → ((j : ℕ) → word_at frame_of frames j ≡ before j) →
+    pub written_words : (count : ℕ) (before : ℕ → ℕ) → k < length (listed count 0 before)
+        → ((j : ℕ) → word_at frame_of frames j ≡ before j) →
         listed count 0 (word_at frame_of written) ≡ set (listed count 0 before) k value
     written_words count before below same =
         let l = length_listed count 0 before in

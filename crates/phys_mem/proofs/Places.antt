@@ -1,5 +1,7 @@
 -- Which word holds a place, and the memory that words are.
-use Rattle.std.proofs.Common.{◌≡◌, ◌≤◌, ◌<◌, ◌+◌, ◌-◌, ◌*◌, ◌%◌, ◌/◌, ℕ, zero, suc, Bool, true, false, nat_eq, List, [], ◌∷◌, length, replicate, slice_set, Some, None, Option, All, IfSome, refl, sym, ◌∙◌, ap, arith, inl, inr, if◌then◌else◌}
+use Rattle.std.proofs.Common.{◌≡◌, ◌≤◌, ◌<◌, ◌+◌, ◌-◌, ◌*◌, ◌%◌, ◌/◌, ℕ, zero, suc, Bool}
+use Rattle.std.proofs.Common.{true, false, nat_eq, List, [], ◌∷◌, length, replicate, slice_set, Some, None, Option, All}
+use Rattle.std.proofs.Common.{IfSome, refl, sym, ◌∙◌, ap, arith, inl, inr, if◌then◌else◌}
 use Rattle.std.specs.Prelude.{◌&&◌, slice_index, is_some}
 use Rattle.std.proofs.Math.Path.{fun_ext}
 use Rattle.std.proofs.lemmas.Bool.{cases_Bool, eqb-true, eqb-false}
@@ -77,7 +79,8 @@ zero_or true false n k later memory e = refl
 zero_or false aligned n k later memory e = e
 
 -- words of 0 are a memory of 0
-zero_seen : (n first : ℕ) (ranges : List (ℕ × ℕ)) (place : ℕ) → seen_at (replicate n 0) (is_aligned place) (index_from first ranges place) ≡ zeros ranges place
+zero_seen : (n first : ℕ) (ranges : List (ℕ × ℕ)) (place : ℕ) → seen_at (replicate n 0) (is_aligned place)
+    (index_from first ranges place) ≡ zeros ranges place
 zero_seen n first [] place = refl
 zero_seen n first (r ∷ ranges) place =
     zero_or (holds_word r place) (is_aligned place) n (first + (place - r.0) / 8) _ _ (zero_seen n (first + r.1 / 8) ranges place)

@@ -1,5 +1,7 @@
 -- Ranges of whole words, and their bytes.
-use Rattle.std.proofs.Common.{◌≡◌, ◌≤◌, ◌<◌, ◌+◌, ◌*◌, ◌%◌, ◌/◌, ◌^◌, ℕ, Bool, true, false, not, List, [], ◌∷◌, ◌++◌, ◌-◌, min, length, take, drop, replicate, ◌∙◌, Some, None, Option, All, slice_index_or, refl, sym, ap, arith, if◌then◌else◌}
+use Rattle.std.proofs.Common.{◌≡◌, ◌≤◌, ◌<◌, ◌+◌, ◌*◌, ◌%◌, ◌/◌, ◌^◌, ℕ, Bool, true, false, not}
+use Rattle.std.proofs.Common.{List, [], ◌∷◌, ◌++◌, ◌-◌, min, length, take, drop, replicate, ◌∙◌, Some, None}
+use Rattle.std.proofs.Common.{Option, All, slice_index_or, refl, sym, ap, arith, if◌then◌else◌}
 use Rattle.std.proofs.lemmas.Option.{none-some}
 use Rattle.std.proofs.lemmas.Bool.Decides.{nat_tests}
 use Rattle.std.proofs.lemmas.List.{take_more, drop_all, length-replicate}
@@ -56,7 +58,8 @@ whole_bytes (r ∷ ranges) h = omega (arith, (All-head IsWhole r ranges h).lengt
 
 -- so many words are all bytes of the ranges
 pub opened
-    : (given ranges : List (ℕ × ℕ)) (words : List ℕ) (bytes : ℕ) → ranges ≡ given → AreHeld given → bytes ≡ bytes_of given → words ≡ replicate (bytes / 8) 0
+    : (given ranges : List (ℕ × ℕ)) (words : List ℕ) (bytes : ℕ) → ranges ≡ given → AreHeld given → bytes ≡ bytes_of given
+    → words ≡ replicate (bytes / 8) 0
     → IsHeld (record { ranges = ranges; words = words })
 opened given ranges words bytes same kept e n =
     let count : length words ≡ bytes / 8 = ap length n ∙ length-replicate (bytes / 8) 0 in

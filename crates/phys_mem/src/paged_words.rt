@@ -1,5 +1,6 @@
 //! Words in pages, which cost memory only where they are set.
-ghost use Rattle.std.specs.Prelude.{◌≡◌, ◌≤◌, ◌<◌, ◌+◌, ◌*◌, ◌^◌, ◌++◌, ℕ, length, replicate, set, get_or, vec_capacity, slice_index, IfOk};
+ghost use Rattle.std.specs.Prelude.{◌≡◌, ◌≤◌, ◌<◌, ◌+◌, ◌*◌, ◌^◌, ◌++◌, ℕ, length};
+ghost use Rattle.std.specs.Prelude.{replicate, set, get_or, vec_capacity, slice_index, IfOk};
 ghost use Rattle.phys_mem.specs.Pages.{AreFrames, word_at};
 
 use std::alloc::{AllocError, Global};

@@ -1,5 +1,6 @@
 -- The registers of a register file set no refused field.
-use Rattle.std.proofs.Common.{◌≡◌, ℕ, List, ◌∷◌, Bool, true, false, Option, Some, None, option_map, Result, Ok, Err, refl, drop, length, cond, ltb, subst, rules, IfOk}
+use Rattle.std.proofs.Common.{◌≡◌, ℕ, List, ◌∷◌, Bool, true, false, Option, Some, None, option_map}
+use Rattle.std.proofs.Common.{Result, Ok, Err, refl, drop, length, cond, ltb, subst, rules, IfOk}
 use Rattle.std.specs.Option.{option_or}
 use Rattle.std.specs.Str.{is_utf8}
 use Rattle.toml.specs.Data.{Members}
@@ -17,7 +18,8 @@ use Rattle.texts.specs.Results.{◌>>=◌}
 use Rattle.reg_file.specs.RegisterFile.{regs_of, regs_in, of_document, none_is, first_refused, all_regs, numbers_in}
 
 -- neither is there
-apart : (reg : Reg) (field : Option Field) (more : Option UnsupportedField) → option_or (option_map (λ f. record { reg = reg; field = f }) field) more ≡ None
+apart : (reg : Reg) (field : Option Field) (more : Option UnsupportedField) → option_or (option_map (λ f. record { reg = reg; field = f }) field) more
+    ≡ None
     → (field ≡ None) × (more ≡ None)
 apart reg None more h = (refl, h)
 apart reg (Some f) more h = search (rules, h)
@@ -49,7 +51,8 @@ all_pass regs h register =
     ]
 
 -- registers that come out of the last test are those that went in, and pass it
-tested : (regs out : Regs) (found : Option UnsupportedField) → (none_is Unsupported found >>= (λ _. Ok regs)) ≡ Ok out → (found ≡ None) × (regs ≡ out)
+tested : (regs out : Regs) (found : Option UnsupportedField) → (none_is Unsupported found >>= (λ _. Ok regs)) ≡ Ok out
+    → (found ≡ None) × (regs ≡ out)
 tested regs out None h = (refl, search (rules, h))
 tested regs out (Some at) h = search (rules, h)
 

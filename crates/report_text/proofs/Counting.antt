@@ -1,5 +1,6 @@
 -- How far the numbers of a summary come with each step.
-use Rattle.std.proofs.Common.{◌≡◌, ℕ, ◌+◌, ◌-◌, ◌*◌, ◌^◌, ◌≤◌, ◌<◌, List, [], ◌∷◌, ◌++◌, Bool, true, false, Option, Some, None, IfSome, arith, sym}
+use Rattle.std.proofs.Common.{◌≡◌, ℕ, ◌+◌, ◌-◌, ◌*◌, ◌^◌, ◌≤◌, ◌<◌, List, [], ◌∷◌}
+use Rattle.std.proofs.Common.{◌++◌, Bool, true, false, Option, Some, None, IfSome, arith, sym}
 use Rattle.std.proofs.lemmas.List.Sums.{fold_push}
 use Rattle.trails.specs.declared.outcome.Outcome.{Outcome}
 use Rattle.trails.specs.declared.outcome.Outcome.TheVariants.{Mapped, Faulted, Absent, Conflict}
@@ -37,7 +38,8 @@ starts_within = record {
 }
 
 -- each count is at most one more than before, and no further row was evicted
-grows : (n m : ℕ) (s t : Summary) → t.accesses ≤ s.accesses + 1 → t.prefetches ≤ s.prefetches + 1 → t.mapped ≤ s.mapped + 1 → t.faulted ≤ s.faulted + 1
+grows : (n m : ℕ) (s t : Summary) → t.accesses ≤ s.accesses + 1 → t.prefetches ≤ s.prefetches + 1 → t.mapped ≤ s.mapped + 1
+    → t.faulted ≤ s.faulted + 1
     → t.conflicts ≤ s.conflicts + 1 → t.old ≤ s.old + 1 → t.stale ≤ s.stale + 1 → t.evicted ≤ s.evicted → Within n m s → Within (n + 1) m t
 grows n m s t a p q f c o e r w = record {
   accesses = (let x = w.accesses in omega arith);

@@ -1,5 +1,6 @@
 -- A page: what was handed on of a text, and what waits.
-use Rattle.std.proofs.Common.{◌≡◌, ℕ, ◌+◌, List, [], ◌++◌, length, take, min, Option, Result, Ok, Err, sym, ◌∙◌, ap, append_assoc, append-nil, arith, subst}
+use Rattle.std.proofs.Common.{◌≡◌, ℕ, ◌+◌, List, [], ◌++◌, length, take, min, Option, Result, Ok}
+use Rattle.std.proofs.Common.{Err, sym, ◌∙◌, ap, append_assoc, append-nil, arith, subst}
 use Rattle.std.proofs.Math.Seq.{take-append-add}
 use Rattle.std.proofs.lemmas.List.{take-append-le}
 use Rattle.std.proofs.lemmas.Grind.{common_steps}
@@ -8,11 +9,13 @@ use Rattle.explain_text.proofs.Sinks.{appended_then}
 use Rattle.report_text.specs.Waits.{Handed, Started, Adds, HandsOn}
 
 -- all that waits is handed on
-goes : (a b : Option (List ℕ)) (s : List ℕ) → Appended a b s → (before : Option (List ℕ)) (text : List ℕ) → Handed before a s text → Handed before b [] text
+goes : (a b : Option (List ℕ)) (s : List ℕ) → Appended a b s → (before : Option (List ℕ)) (text : List ℕ) → Handed before a s text
+    → Handed before b [] text
 goes a b s w before text h = (h.0 ++ s, appended_then before a b h.0 s h.1 w, append-nil (h.0 ++ s) ∙ h.2)
 
 -- a part of it is
-fails : (a b : Option (List ℕ)) (s : List ℕ) → (k : ℕ) × Appended a b (take k s) → (before : Option (List ℕ)) (text : List ℕ) → Handed before a s text
+fails : (a b : Option (List ℕ)) (s : List ℕ) → (k : ℕ) × Appended a b (take k s) → (before : Option (List ℕ)) (text : List ℕ)
+    → Handed before a s text
     → Started before b text
 fails a b s w before text h =
     let same : take (length h.0 + w.0) text ≡ h.0 ++ take w.0 s = ap (take (length h.0 + w.0)) (sym h.2) ∙ take-append-add h.0 s w.0 in

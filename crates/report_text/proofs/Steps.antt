@@ -1,5 +1,6 @@
 -- The lines of the steps of a log, and of one more.
-use Rattle.std.proofs.Common.{◌≡◌, ℕ, ◌+◌, OnOk, List, [], ◌∷◌, ◌++◌, length, Option, Result, Ok, Err, refl, sym, ◌∙◌, ap, append_assoc, append-nil, arith, subst}
+use Rattle.std.proofs.Common.{◌≡◌, ℕ, ◌+◌, OnOk, List, [], ◌∷◌, ◌++◌, length, Option, Result, Ok}
+use Rattle.std.proofs.Common.{Err, refl, sym, ◌∙◌, ap, append_assoc, append-nil, arith, subst}
 use Rattle.std.proofs.lemmas.List.{length-append}
 use Rattle.trails.specs.declared.step.Step.{Step}
 use Rattle.explain_text.specs.Written.{Appended, Wrote}
@@ -28,7 +29,8 @@ steps_one n x = append-nil (step_text n x)
 steps_more : (log : List Step) (x : Step) → steps_text 0 (log ++ x ∷ []) ≡ steps_text 0 log ++ step_text (length log) x
 steps_more log x =
     let place : 0 + length log ≡ length log = omega arith in
-    steps_then 0 log (x ∷ []) ∙ ap (λ (t : List ℕ). steps_text 0 log ++ t) (ap (λ (k : ℕ). steps_text k (x ∷ [])) place ∙ steps_one (length log) x)
+    steps_then 0 log (x ∷ []) ∙ ap (λ (t : List ℕ). steps_text 0 log ++ t) (ap (λ (k : ℕ). steps_text k (x ∷ [])) place
+    ∙ steps_one (length log) x)
 
 steps_on : (n : ℕ) (x : Step) (more : List Step) → steps_text n (x ∷ more) ≡ step_text n x ++ steps_text (n + 1) more
 unfolding steps_text

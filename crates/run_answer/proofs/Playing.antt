@@ -1,5 +1,6 @@
 -- A trace that is run while its report is written: what is written so far, and that each step has a text.
-use Rattle.std.proofs.Common.{◌≡◌, ℕ, zero, suc, ◌+◌, ◌≤◌, ◌^◌, List, [], ◌∷◌, ◌++◌, length, take, Option, Result, Ok, Err, IsOk, IsErr, IfOk, refl, ap, sym, subst, append_assoc, ◌∙◌, arith}
+use Rattle.std.proofs.Common.{◌≡◌, ℕ, zero, suc, ◌+◌, ◌≤◌, ◌^◌, List, [], ◌∷◌, ◌++◌, length, take, Option}
+use Rattle.std.proofs.Common.{Result, Ok, Err, IsOk, IsErr, IfOk, refl, ap, sym, subst, append_assoc, ◌∙◌, arith}
 use Rattle.std.proofs.lemmas.List.{length-append}
 use Rattle.trails.specs.declared.step.Step.{Step}
 use Rattle.trails.specs.declared.event.Event.{Event}

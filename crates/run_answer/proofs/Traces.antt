@@ -34,7 +34,8 @@ module _ (size room : ℕ) (bytes : List ℕ) (s : size < room) where
   is_trace Absent t o w e b = o
   is_trace (Bytes all) t o w e b = ap trace_of (sym (all_of bytes all room (subst (λ z. z < room) o s) w)) ∙ e
 
-  pub is_refused : (h : Holding) (why : TraceRefusal) → IsOfSize h size → IsWhole h room bytes → trace_of bytes ≡ Err why → IsRefusedBy h AsTrace (Trace why)
+  pub is_refused : (h : Holding) (why : TraceRefusal) → IsOfSize h size → IsWhole h room bytes → trace_of bytes ≡ Err why
+      → IsRefusedBy h AsTrace (Trace why)
   is_refused Untold why o w e = tt
   is_refused Absent why o w e = o
   is_refused (Bytes all) why o w e = ap (reason Trace) (ap trace_of (sym (all_of bytes all room (subst (λ z. z < room) o s) w)) ∙ e)

@@ -1,5 +1,6 @@
 -- How an access is served, case by case, and what is answered.
-use Rattle.std.proofs.Common.{◌≡◌, ℕ, Bool, true, false, cond, not, List, [], ◌∷◌, ◌++◌, take, refl, sym, ap, ◌∙◌, subst, Result, Option, Some, None}
+use Rattle.std.proofs.Common.{◌≡◌, ℕ, Bool, true, false, cond, not, List, [], ◌∷◌, ◌++◌, take}
+use Rattle.std.proofs.Common.{refl, sym, ap, ◌∙◌, subst, Result, Option, Some, None}
 use Rattle.std.specs.Prelude.{◌&&◌}
 use Rattle.geometry.specs.Tables.{most_left}
 use Rattle.sysregs.specs.declared.regs.Config.{Config}
@@ -118,7 +119,8 @@ module _ (place : Place) (a : Access) where
         ∙ if_false (is_refused1 c a) (done (stops (fault1 Translation most_left))) (ask stage1_base (λ i. stage1_behind (asked c true a) i.value)) ok
 
     pub case_base : (items : List Item) (rows : List Row) (two : Second) (x : Result Leaf1 Stopped)
-        → WasServed sup (stage1_behind (asked c true a) base_now.value) items rows two x → WasServed sup (stage1 (asked c true a)) (base_now ∷ items) rows two x
+        → WasServed sup (stage1_behind (asked c true a) base_now.value) items rows two x → WasServed sup (stage1 (asked c true a))
+        (base_now ∷ items) rows two x
     case_base items rows two x w = was_behind sup (stage1 (asked c true a)) (stage1_behind (asked c true a) base_now.value) (base_now ∷ []) items
         [] rows two x (ap (serve_at sup []) stage1_is) w
 

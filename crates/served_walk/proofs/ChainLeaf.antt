@@ -52,7 +52,8 @@ module _ (c : Config) (s : Side) (x : ℕ) where
       subst (λ z. HasLevel Permission z.level) (sym e) (has_level left most)
   at_turn left i rest l below most rec (fault n d) h = absurd (done_not (fault2 q2 n left) l rest (rw (d false x) at h))
 
-  from_level : (left t : ℕ) (items : List Item) (l : Leaf2) → left ≤ most_left → IsOn r (From left t) items (done (reaches l)) → HasLevel Permission l.level
+  from_level : (left t : ℕ) (items : List Item) (l : Leaf2) → left ≤ most_left → IsOn r (From left t) items (done (reaches l))
+      → HasLevel Permission l.level
   from_level zero t [] l most h = absurd cc
   from_level (suc left) t [] l most h = absurd cc
   from_level zero t (i ∷ rest) l most h =
@@ -65,7 +66,8 @@ module _ (c : Config) (s : Side) (x : ℕ) where
   behind_level true base items l most h = absurd (done_not (fault2 q2 AddressSize most_left) l items h)
   behind_level false base items l most h = from_level r.stage2.start base items l most h
 
-  chain_level : (items : List Item) (l : Leaf2) → r.stage2.start ≤ most_left → IsOn r (chain r false x) items (done (reaches l)) → HasLevel Permission l.level
+  chain_level : (items : List Item) (l : Leaf2) → r.stage2.start ≤ most_left → IsOn r (chain r false x) items (done (reaches l))
+      → HasLevel Permission l.level
   chain_level [] l most h = absurd cc
   chain_level (i ∷ rest) l most h = behind_level (is_too_large r.stage2 i.value) i.value rest l most h.1
 

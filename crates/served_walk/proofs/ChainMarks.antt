@@ -67,7 +67,8 @@ module _ (r : Regime) (p : Bool) (x : ℕ) where
         done_marks e [] u g = refl
         done_marks e (j ∷ js) u g = absurd g
   from_marks (suc left) t (i ∷ items) u l h =
-      ap (λ m. m ∷ marks r (step_then (walk2_from (asked2 r p x) left) (step2 (asked2 r p x) (suc left) i.pa i.value)) items) (word_mark (suc left) t i l h.0)
+      ap (λ m. m ∷ marks r (step_then (walk2_from (asked2 r p x) left) (step2 (asked2 r p x) (suc left) i.pa i.value)) items)
+      (word_mark (suc left) t i l h.0)
       ∙ ap (λ ms. At i ∷ ms) (then_marks (walk2_from (asked2 r p x) left) (step2 (asked2 r p x) (suc left) i.pa i.value) items u
       (λ n g. from_marks left n items u (omega (arith, l)) g) h.1)
 
@@ -79,7 +80,8 @@ module _ (r : Regime) (p : Bool) (x : ℕ) where
   behind_marks false base items u l h = from_marks r.stage2.start base items u l h
 
   -- marks of a chain, item by item
-  pub chain_marks : (items : List Item) (u : Ask Need Item (End Leaf2)) → r.stage2.start ≤ most_left → IsOn r (chain r p x) items u → Marked (chain r p x) items
+  pub chain_marks : (items : List Item) (u : Ask Need Item (End Leaf2)) → r.stage2.start ≤ most_left → IsOn r (chain r p x) items u
+      → Marked (chain r p x) items
   chain_marks [] u l h = refl
   chain_marks (i ∷ items) u l h =
       ap (λ m. m ∷ marks r (Rattle.walk_spec.specs.Stage2.walk2_behind (asked2 r p x) i.value) items) (base_mark i h.0)

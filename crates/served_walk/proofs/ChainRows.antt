@@ -1,5 +1,6 @@
 -- One chain of stage 2 as code walks it over rows.
-use Rattle.std.proofs.Common.{◌≡◌, ℕ, ◌+◌, ◌≤◌, ◌<◌, inl, inr, Bool, true, false, cond, List, [], ◌∷◌, ◌++◌, length, length-append, take, refl, sym, ap, ◌∙◌, subst, append_assoc, append-nil, arith, Option, Some, None, Ok, Err, Result}
+use Rattle.std.proofs.Common.{◌≡◌, ℕ, ◌+◌, ◌≤◌, ◌<◌, inl, inr, Bool, true, false, cond, List, [], ◌∷◌, ◌++◌, length}
+use Rattle.std.proofs.Common.{length-append, take, refl, sym, ap, ◌∙◌, subst, append_assoc, append-nil, arith, Option, Some, None, Ok, Err, Result}
 use Rattle.std.specs.Prelude.{option_map, ℤ, IfErr, nat_le, ◌&&◌}
 use Rattle.std.proofs.lemmas.Bool.Decides.{nat_tests}
 use Rattle.bitwords.specs.Causes.{Rose}
@@ -95,7 +96,8 @@ root_ok true e from from' h = absurd cc
 root_ok false e from from' h = (refl, cc)
 
 -- what a test of lengths tells
-pub short_by : (a b : ℕ) (t : Bool) → t ≡ (nat_le a most_items2 && nat_le b most_items2) → t ≡ false → a ≤ most_items2 → b ≤ most_items2 → ⊥
+pub short_by : (a b : ℕ) (t : Bool) → t ≡ (nat_le a most_items2 && nat_le b most_items2) → t ≡ false → a ≤ most_items2 → b ≤ most_items2
+    → ⊥
 short_by a b t e h l m = grind (arith, nat_tests)
 
 pub room_by : (a b : ℕ) (t : Bool) → t ≡ nat_le (a + b + 1) most_items2 → t ≡ false → a + b + 1 ≤ most_items2 → ⊥
@@ -170,7 +172,8 @@ module _ {F : Type 0} (may : Holds F) (at : RowAt F) (scene : Scene F) (x : ℕ)
   MadeAs kind s = (d : Row) (live : List Row) → may scene.finds.now live → AreToldApart live → (at scene.finds.now kind s.slot d).made ≡ s.made
 
   -- what a live row of stage 2 is good for
-  serves : (live : List Row) → Meets live → (kind : Kind) (r : Row) → In r live → matches kind k x r ≡ true → (r.kind ≡ kind) × ServesAs r kind ×
+  serves : (live : List Row) → Meets live → (kind : Kind) (r : Row) → In r live → matches kind k x r ≡ true
+      → (r.kind ≡ kind) × ServesAs r kind ×
       (holds r.region x ≡ true)
       × (r.key.config ≡ c)
   serves live m kind r i t =
@@ -182,7 +185,8 @@ module _ {F : Type 0} (may : Holds F) (at : RowAt F) (scene : Scene F) (x : ℕ)
         ((l : Leaf2) × (stands2 c s false x r.trail ≡ ends (reaches l) [])) × (length r.trail ≤ most_items2)
     leaf_serves live m r i t s =
         let d = serves live m OfLeaf2 r i t in
-        subst (λ z. is_refused2 z x ≡ false → ((l : Leaf2) × (stands2 z s false x r.trail ≡ ends (reaches l) [])) × (length r.trail ≤ most_items2)) d.3
+        subst (λ z. is_refused2 z x ≡ false → ((l : Leaf2) × (stands2 z s false x r.trail ≡ ends (reaches l) []))
+        × (length r.trail ≤ most_items2)) d.3
         (d.1 s x d.2) ok
 
     table_serves : (live : List Row) → Meets live → (r : Row) → In r live → matches OfTable2 k x r ≡ true → (s : Side) →
@@ -214,7 +218,8 @@ module _ {F : Type 0} (may : Holds F) (at : RowAt F) (scene : Scene F) (x : ℕ)
     none_found f = no_leaf_by (λ live r more m e. two_none (leaves live) (f r live m.held m.servable.told m.small))
 
     -- the one that matches
-    one_is : (a : Seen) → FindsIn OfLeaf2 (One a) → (d : Row) (live : List Row) → Meets live → leaves live ≡ at scene.finds.now OfLeaf2 a.slot d ∷ []
+    one_is : (a : Seen) → FindsIn OfLeaf2 (One a) → (d : Row) (live : List Row) → Meets live
+        → leaves live ≡ at scene.finds.now OfLeaf2 a.slot d ∷ []
     one_is a f d live m = two_one (at scene.finds.now OfLeaf2 a.slot d) (leaves live) (f d live m.held m.servable.told m.small)
 
     -- one that gave no leaf can't match
@@ -351,7 +356,8 @@ module _ {F : Type 0} (may : Holds F) (at : RowAt F) (scene : Scene F) (x : ℕ)
                 was = λ a' s.
                     let b = was_walked (place live) a' (Rose 0 0) never (walk2_from (asked2 (regime_of c s) p x) (left_below from.level) from.base) mid new r
                     (second_in after) w in
-                    subst (λ z. WasServed (supply (place live) a') (walk2 (asked2 (regime_of c s) p x)) (z ++ w.more) (q ∷ []) (second_in after) r) (sym (t d))
+                    subst (λ z. WasServed (supply (place live) a') (walk2 (asked2 (regime_of c s) p x)) (z ++ w.more) (q ∷ []) (second_in after) r)
+                    (sym (t d))
                     (chain_below c s p x (supply (place live) a') q (fresh_of (place live) a' (stage2_base x)) from w.more [] (second_in after) r
                     (supply_is live a' [] (Some q) (none live m) o) (subst (λ z. IsReplayed2 (More from) (stands2 c s false x z)) (t d) (h s)) b);
               });

@@ -1,5 +1,6 @@
 -- One chain of stage 2: by a leaf's row, behind a table's row, from the register, or refused.
-use Rattle.std.proofs.Common.{◌≡◌, ℕ, zero, suc, ◌≤◌, Bool, true, false, cond, List, [], ◌∷◌, refl, sym, ap, ◌∙◌, subst, append-nil, arith, ◌+◌, length}
+use Rattle.std.proofs.Common.{◌≡◌, ℕ, zero, suc, ◌≤◌, Bool, true, false, cond, List, [], ◌∷◌}
+use Rattle.std.proofs.Common.{refl, sym, ap, ◌∙◌, subst, append-nil, arith, ◌+◌, length}
 use Rattle.std.proofs.lemmas.Bool.{both_ways}
 use Rattle.geometry.specs.Tables.{most_left, left_below}
 use Rattle.sysregs.specs.declared.regs.Config.{Config}
@@ -38,7 +39,8 @@ use Rattle.served_walk.proofs.Ties.{ends_on, needs_on}
 -- where a row's trail is supplied, the walk goes on behind it
 serve_row : {A : Type 0} (r : Regime) (sup : Need → Supplied) (n : Need) (k : Item
     → Ask Need Item A) (row : Row) (i : Item) (rest : List Item) (u : Ask Need Item A) →
-    sup n ≡ gives i rest (row ∷ []) → IsOn r (ask n k) (i ∷ rest) u → serve_at sup [] (ask n k) ≡ behind (i ∷ rest) (row ∷ []) (serve_at sup [] u)
+    sup n ≡ gives i rest (row ∷ []) → IsOn r (ask n k) (i ∷ rest) u → serve_at sup [] (ask n k) ≡ behind (i ∷ rest) (row ∷ [])
+    (serve_at sup [] u)
 serve_row r sup n k row i rest u e h =
     ap (λ s. goes_at s (λ i rest. serve_at sup rest (k i))) e
     ∙ ap (λ l. push_at i (row ∷ []) (serve_at sup l (k i))) (sym (append-nil rest))
@@ -121,7 +123,8 @@ module _ (c : Config) (s : Side) (p : Bool) (x : ℕ) (sup : Need → Supplied) 
   done_ask e [] n k h = absurd cc
   done_ask e (i ∷ items) n k h = h
 
-  here : (left t : ℕ) (w : WordNeed) (k : Item → Ask Need Item (End Leaf2)) → ask (word w) k ≡ From false left t → (w.left ≡ left) × (w.table ≡ t)
+  here : (left t : ℕ) (w : WordNeed) (k : Item → Ask Need Item (End Leaf2)) → ask (word w) k ≡ From false left t
+      → (w.left ≡ left) × (w.table ≡ t)
   here zero t w k h = (let e : w
       ≡ record { stage = S2; left = 0; place = place_of r.stage2 0 t x; s1ptw = false; address = x; table = t } = cc in
       (ap (λ v. v.left) e, ap (λ v. v.table) e))

@@ -1,5 +1,6 @@
 -- How many items a walk takes at most.
-use Rattle.std.proofs.Common.{◌≡◌, ℕ, zero, suc, ◌+◌, ◌*◌, ◌≤◌, Bool, true, false, cond, List, [], ◌∷◌, length, refl, arith, Result, Ok, Err}
+use Rattle.std.proofs.Common.{◌≡◌, ℕ, zero, suc, ◌+◌, ◌*◌, ◌≤◌, Bool, true, false, cond}
+use Rattle.std.proofs.Common.{List, [], ◌∷◌, length, refl, arith, Result, Ok, Err}
 use Rattle.fault_codes.specs.declared.fault.Class.TheVariants.{Translation, AddressSize, Permission}
 use Rattle.fault_codes.specs.declared.fault.Stage.TheVariants.{S2}
 use Rattle.geometry.specs.Tables.{most_left}
@@ -45,7 +46,8 @@ at_more zero m (ask q k) l h = absurd h
 at_more (suc n) zero (ask q k) l h = absurd (omega (arith, l))
 at_more (suc n) (suc m) (ask q k) l h = λ i. at_more n m (k i) (omega (arith, l)) (h i)
 
-at_after : {N A B : Type 0} (n m : ℕ) (t : Ask N Item A) (f : A → Ask N Item B) → AtMost n t → ((a : A) → AtMost m (f a)) → AtMost (n + m) (after t f)
+at_after : {N A B : Type 0} (n m : ℕ) (t : Ask N Item A) (f : A → Ask N Item B) → AtMost n t → ((a : A) → AtMost m (f a))
+    → AtMost (n + m) (after t f)
 at_after n m (done a) f h g = at_more m (n + m) (f a) (omega arith) (g a)
 at_after zero m (ask q k) f h g = absurd h
 at_after (suc n) m (ask q k) f h g = let e : suc n + m ≡ suc (n + m) = omega arith in rw e (λ i. at_after n m (k i) f (h i) g)
@@ -54,12 +56,14 @@ at_if : {N A : Type 0} (n : ℕ) (b : Bool) (a : A) (t : Ask N Item A) → (b �
 at_if n true a t h = tt
 at_if n false a t h = h refl
 
-at_go : {M X A : Type 0} (n : ℕ) (stop : X → A) (f : Item → Ask M Item A) (r : Result Item X) → ((i : Item) → AtMost n (f i)) → AtMost n (go_on stop f r)
+at_go : {M X A : Type 0} (n : ℕ) (stop : X → A) (f : Item → Ask M Item A) (r : Result Item X) → ((i : Item) → AtMost n (f i))
+    → AtMost n (go_on stop f r)
 at_go n stop f (Ok i) h = h i
 at_go n stop f (Err x) h = tt
 
 -- a finer walk of at most seven items for each question
-at_finer : {N M X A : Type 0} (stop : X → A) (how : N → Ask M Item (Result Item X)) → ((q : N) → AtMost most_per_word (how q)) → (n : ℕ) (t : Ask N Item A)
+at_finer : {N M X A : Type 0} (stop : X → A) (how : N → Ask M Item (Result Item X)) → ((q : N) → AtMost most_per_word (how q))
+    → (n : ℕ) (t : Ask N Item A)
     → AtMost n t
     → AtMost (n * most_per_word) (finer stop how t)
 at_finer stop how g n (done a) h = tt

@@ -144,7 +144,8 @@ module _ (place : Place) (a : Access) where
 
     pub word_of_fit : (e : Entry1) → Fit (word_of rg e)
     word_of_fit e = fit_if rg sup rg.config.vm (after (walk2 (asked2 rg true e.place)) (read1_by rg.config e)) (read1 e e.place)
-        (λ b. fit_after rg sup (walk2 (asked2 rg true e.place)) (read1_by rg.config e) (walk2_fit true e.place) (λ d. read_fit e d)) (λ b. read1_fit e e.place)
+        (λ b. fit_after rg sup (walk2 (asked2 rg true e.place)) (read1_by rg.config e) (walk2_fit true e.place) (λ d. read_fit e d))
+        (λ b. read1_fit e e.place)
 
     go_fit : (k : Item → Ask Need Item (End Leaf1)) (d : Result Item Fault) → ((i : Item) → Fit (k i)) → Fit (go_on stops k d)
     go_fit k (Ok i) h = h i
@@ -170,7 +171,8 @@ module _ (place : Place) (a : Access) where
     stage1_fit : Fit (stage1 q)
     stage1_fit =
         fit_if rg sup rg.config.m (stage1_on q) (stage1_off q)
-        (λ b. fit_if rg sup (is_refused1 rg.config a) (done (stops (fault1 Translation most_left))) (ask stage1_base (λ i. stage1_behind q i.value)) (λ d. tt)
+        (λ b. fit_if rg sup (is_refused1 rg.config a) (done (stops (fault1 Translation most_left))) (ask stage1_base (λ i. stage1_behind q i.value))
+        (λ d. tt)
         (λ d. (
           (stage1_behind q (start_base1 place.regs (side_of a.va)), (fits_base1 place.regs (side_of a.va) place.step, refl)),
           λ i. fit_if rg sup

@@ -1,5 +1,6 @@
 -- Items of a kept trail: where its words of stage 1 are.
-use Rattle.std.proofs.Common.{◌≡◌, ℕ, suc, ◌+◌, ◌≤◌, ◌<◌, Bool, true, false, cond, List, [], ◌∷◌, ◌++◌, length, length-append, take, drop, refl, sym, ap, ◌∙◌, arith, Option, Some, None}
+use Rattle.std.proofs.Common.{◌≡◌, ℕ, suc, ◌+◌, ◌≤◌, ◌<◌, Bool, true, false, cond, List, [], ◌∷◌, ◌++◌}
+use Rattle.std.proofs.Common.{length, length-append, take, drop, refl, sym, ap, ◌∙◌, arith, Option, Some, None}
 use Rattle.std.specs.Prelude.{slice_index_or}
 use Rattle.fault_codes.specs.declared.fault.Stage.{Stage}
 use Rattle.fault_codes.specs.declared.fault.Stage.TheVariants.{S1, S2}
@@ -14,7 +15,8 @@ other_stage S1 e f = absurd cc
 other_stage S2 e f = absurd cc
 
 -- a list begins with one word alone
-pub same_word : (f g : List Item) (i j : Item) (rest more : List Item) → f ++ i ∷ rest ≡ g ++ j ∷ more → AreOfStage2 f → AreOfStage2 g → i.stage ≡ S1
+pub same_word : (f g : List Item) (i j : Item) (rest more : List Item) → f ++ i ∷ rest ≡ g ++ j ∷ more → AreOfStage2 f → AreOfStage2 g
+    → i.stage ≡ S1
     → j.stage ≡ S1 → (f ≡ g) × (i ≡ j) × (rest ≡ more)
 same_word [] [] i j rest more e a b p q = (let k : i ≡ j = cc in let l : rest ≡ more = cc in (refl, k, l))
 same_word [] (k ∷ g) i j rest more e a b p q = (let h : i ≡ k = cc in absurd (other_stage i.stage p (ap (λ z. z.stage) h ∙ b.0)))
@@ -57,7 +59,8 @@ pub record FoundAt (way at : ℕ) (items : List Item) : Type 0 where
 some_at : (a b : ℕ) → ◌≡◌ {A = Option ℕ} (Some a) (Some b) → b ≡ a
 some_at a b e = cc
 
-found_if : (way at : ℕ) (i : Item) (items : List Item) (b : Bool) → Test i ≡ b → (first_hit Test (way + 1) items ≡ Some at → FoundAt (way + 1) at items)
+found_if : (way at : ℕ) (i : Item) (items : List Item) (b : Bool) → Test i ≡ b → (first_hit Test (way + 1) items ≡ Some at
+    → FoundAt (way + 1) at items)
     → cond b (Some way) (first_hit Test (way + 1) items) ≡ Some at → FoundAt way at (i ∷ items)
 found_if way at i items true t rec e =
     let p : at ≡ way = some_at way at e in
@@ -116,12 +119,14 @@ last_at [] i d = refl
 last_at (j ∷ front) i d = last_at front i d
 
 -- it was taken
-pub took : (items front rest old new : List Item) (at : ℕ) (last : Item) → first_hit Test 0 items ≡ Some at → at ≤ most_items2 → front ≡ take (at + 1) items
+pub took : (items front rest old new : List Item) (at : ℕ) (last : Item) → first_hit Test 0 items ≡ Some at → at ≤ most_items2
+    → front ≡ take (at + 1) items
     → rest ≡ drop (at + 1) items → new ≡ old ++ front → last ≡ slice_index_or front at last → TookWord items rest old new (Some last.value)
 took items front rest old new at last e few f r g v =
     let d = found_at 0 at items e in
     let p : at ≡ length d.front = omega (arith, d.place) in
-    let f' : front ≡ d.front ++ d.item ∷ [] = f ∙ ap (λ n. take (n + 1) items) p ∙ ap (take (length d.front + 1)) d.is ∙ take_all d.front d.item d.rest in
+    let f' : front ≡ d.front ++ d.item ∷ [] = f ∙ ap (λ n. take (n + 1) items) p ∙ ap (take (length d.front + 1)) d.is
+    ∙ take_all d.front d.item d.rest in
     let r' : rest ≡ d.rest = r ∙ ap (λ n. drop (n + 1) items) p ∙ ap (drop (length d.front + 1)) d.is ∙ drop_all d.front d.item d.rest in
     let v' : last ≡ d.item = v ∙ ap (λ l. slice_index_or l at last) f' ∙ ap (λ n. slice_index_or (d.front ++ d.item ∷ []) n last) p
     ∙ last_at d.front d.item last in (

@@ -1,5 +1,6 @@
 -- A walk that stands on kept items which end in stage 1 takes them word by word.
-use Rattle.std.proofs.Common.{◌≡◌, ℕ, zero, suc, ◌≤◌, Bool, true, false, cond, List, [], ◌∷◌, ◌++◌, length, refl, ap, ◌∙◌, arith, Ok, Err, Result}
+use Rattle.std.proofs.Common.{◌≡◌, ℕ, zero, suc, ◌≤◌, Bool, true, false, cond, List, [], ◌∷◌}
+use Rattle.std.proofs.Common.{◌++◌, length, refl, ap, ◌∙◌, arith, Ok, Err, Result}
 use Rattle.geometry.specs.Tables.{most_left}
 use Rattle.sysregs.specs.declared.regs.Config.{Config}
 use Rattle.sysregs.specs.Sides.{side_of}
@@ -134,7 +135,8 @@ module _ (c : Config) (a : Access) where
     ends_rest i [] e = tt
     ends_rest i (j ∷ items) e = e
 
-    split_read : (p : ℕ) (i : Item) (items : List Item) → IsOn r (Rest (read1 n p)) (i ∷ items) v → EndsInStage1 (i ∷ items) → Split 0 (read1 n p) (i ∷ items)
+    split_read : (p : ℕ) (i : Item) (items : List Item) → IsOn r (Rest (read1 n p)) (i ∷ items) v → EndsInStage1 (i ∷ items)
+        → Split 0 (read1 n p) (i ∷ items)
     split_read p i items h e = record {
       front = [];
       item = i;
@@ -153,7 +155,8 @@ module _ (c : Config) (a : Access) where
     split_if true p f i items h e = split_read p i items h e
     split_if false p f i items h e = absurd h
 
-    more_front : (most : ℕ) (q : Need) (kk : Item → Ask Need Item (Result Item Fault)) (i : Item) (items : List Item) → fits r q i ≡ true → i.stage ≡ S2
+    more_front : (most : ℕ) (q : Need) (kk : Item → Ask Need Item (Result Item Fault)) (i : Item) (items : List Item) → fits r q i ≡ true
+        → i.stage ≡ S2
         → Split most (kk i) items → Split (suc most) (ask q kk) (i ∷ items)
     more_front most q kk i items f s d =
         let m = d.few in

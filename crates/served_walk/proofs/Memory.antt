@@ -17,7 +17,8 @@ stop_fed (ended a) = fed a []
 stop_fed (lacks n) = breaks (came (lacks n))
 
 -- what answers a need is what is supplied, and what is lacking is not
-pub took_served : {A : Type 0} (reads : Need → Item → Type 0) (sup : Need → Supplied) → ((n : Need) (i : Item) → reads n i → sup n ≡ gives i [] [])
+pub took_served : {A : Type 0} (reads : Need → Item → Type 0) (sup : Need → Supplied)
+    → ((n : Need) (i : Item) → reads n i → sup n ≡ gives i [] [])
     → (t : Ask Need Item A) (items : List Item) (e : Fed Need A) →
     Took reads t items e → ((n : Need) → e ≡ lacks n → sup n ≡ halts (came (lacks n)))
     → serve_at sup [] t ≡ record { items = items; stop = stop_fed e; by = [] }

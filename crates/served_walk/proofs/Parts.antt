@@ -1,5 +1,6 @@
 -- Chains, words and both stages, each put together of what was served.
-use Rattle.std.proofs.Common.{◌≡◌, ℕ, Bool, true, false, cond, List, [], ◌∷◌, ◌++◌, length, refl, sym, ap, ◌∙◌, subst, append_assoc, append-nil, Ok, Err, Result}
+use Rattle.std.proofs.Common.{◌≡◌, ℕ, Bool, true, false, cond, List, [], ◌∷◌, ◌++◌, length, refl, sym}
+use Rattle.std.proofs.Common.{ap, ◌∙◌, subst, append_assoc, append-nil, Ok, Err, Result}
 use Rattle.geometry.specs.Tables.{most_left, level_of}
 use Rattle.sysregs.specs.declared.regs.Config.{Config}
 use Rattle.sysregs.specs.declared.regs.Side.{Side}
@@ -83,7 +84,8 @@ module _ (c : Config) (s : Side) (p : Bool) (x : ℕ) (sup : Need → Supplied) 
       subst (λ z. WasServed sup Chain z (row ∷ []) two (Ok l)) (append-nil row.trail)
       (was sup Chain record { items = row.trail; stop = fed (reaches l) []; by = row ∷ [] } two (Ok l) (leaf2_served c s p x sup row other l e h) refl)
 
-  pub chain_twice : (one other : List Item) (two : Second) → is_refused2 c x ≡ false → sup (stage2_base x) ≡ halts (clash one other) → two.chain ≡ other
+  pub chain_twice : (one other : List Item) (two : Second) → is_refused2 c x ≡ false → sup (stage2_base x) ≡ halts (clash one other)
+      → two.chain ≡ other
       → two.instead ≡ length one → WasServed sup Chain one [] two (Err Conflict)
   chain_twice one other two ok e t n = was sup Chain record { items = []; stop = breaks (clash one other); by = [] } two (Err Conflict)
       (both_served c s p x sup one other ok e) (refl, t, n)
@@ -125,7 +127,11 @@ module _ (r : Regime) (e : Entry1) (sup : Need → Supplied) where
   abbrev Ready : Item → Ask Need Item (Result Item Fault)
   Ready i = done (Ok i)
 
-  read_had : (p : ℕ) (i : Item) → sup (Need1 p) ≡ gives i [] [] → serve_at sup [] (read1 e p) ≡ record { items = i ∷ []; stop = fed (Ok i) []; by = [] }
+  read_had : (p : ℕ) (i : Item) → sup (Need1 p) ≡ gives i [] [] → serve_at sup [] (read1 e p) ≡ record {
+    items = i ∷ [];
+    stop = fed (Ok i) [];
+    by = [];
+  }
   read_had p i h = ap (λ s. goes_at s (λ i rest. serve_at sup rest (Ready i))) h
 
   read_none : (p : ℕ) → sup (Need1 p) ≡ halts (came (lacks (Need1 p)))

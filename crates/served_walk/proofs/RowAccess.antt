@@ -1,5 +1,6 @@
 -- An access over rows, as code does it: both stages.
-use Rattle.std.proofs.Common.{◌≡◌, ℕ, ◌+◌, ◌≤◌, true, false, List, [], ◌++◌, length, length-append, refl, sym, ap, ◌∙◌, subst, append_assoc, append-nil, arith, Option, Some, None, Ok, Err}
+use Rattle.std.proofs.Common.{◌≡◌, ℕ, ◌+◌, ◌≤◌, true, false, List, [], ◌++◌, length, length-append, refl, sym}
+use Rattle.std.proofs.Common.{ap, ◌∙◌, subst, append_assoc, append-nil, arith, Option, Some, None, Ok, Err}
 use Rattle.std.specs.Prelude.{map, IfErr}
 use Rattle.sysregs.specs.declared.regs.Config.{Config}
 use Rattle.sysregs.specs.Registers.{config_of}
@@ -124,7 +125,8 @@ module _ {F : Type 0} (may : Holds F) (at : RowAt F) (z : Scene F) (a : Access) 
     };
   }
 
-  pub stop_output : (l : Leaf1) (x : Stop) (before met : Met) (old new : List Item) → c.vm ≡ true → ChainGave may at z false l.out before met old new (Err x)
+  pub stop_output : (l : Leaf1) (x : Stop) (before met : Met) (old new : List Item) → c.vm ≡ true
+      → ChainGave may at z false l.out before met old new (Err x)
       → MayConflict old new met x → length old + most_items2 ≤ most_items
       → WholeGave may at z a 1 (Output (reaches l)) before met old new (comes_out (Err x))
   stop_output l x before met old new v g h k = record {

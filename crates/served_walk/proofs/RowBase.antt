@@ -1,5 +1,6 @@
 -- An access over rows, as code does it: from the base, and behind the trail of a table's row.
-use Rattle.std.proofs.Common.{◌≡◌, ℕ, ◌+◌, ◌*◌, ◌≤◌, ◌<◌, ◌%◌, ◌^◌, Bool, true, false, cond, List, [], ◌∷◌, ◌++◌, length, take, drop, refl, sym, ap, ◌∙◌, subst, append-nil, arith, Ok, Err}
+use Rattle.std.proofs.Common.{◌≡◌, ℕ, ◌+◌, ◌*◌, ◌≤◌, ◌<◌, ◌%◌, ◌^◌, Bool, true, false, cond, List, []}
+use Rattle.std.proofs.Common.{◌∷◌, ◌++◌, length, take, drop, refl, sym, ap, ◌∙◌, subst, append-nil, arith, Ok, Err}
 use Rattle.std.specs.Prelude.{slice_index_or, ℤ}
 use Rattle.std.proofs.lemmas.Bool.{both_ways}
 use Rattle.geometry.specs.Tables.{most_left, left_below, level_of}
@@ -228,7 +229,8 @@ module _ {F : Type 0} (may : Holds F) (at : RowAt F) (z : Scene F) (a : Access) 
 
   parts_by : (i : Item) (kept : List Item) (n : Need) (k : Item → Ask Need Item (End Landing)) (big : Bool) → is_too_large r.stage1 i.value ≡ big
       → EndsInStage1 (i ∷ kept) → fits r stage1_base i ≡ true → IsOn r (Behind i.value) kept (ask n k) → RowParts (i ∷ kept)
-  parts_by i kept n k true b e f o = absurd (done_ask (fault1 AddressSize most_left) kept n k (subst (λ u. IsOn r u kept (ask n k)) (behind_large i.value b) o))
+  parts_by i kept n k true b e f o = absurd (done_ask (fault1 AddressSize most_left) kept n k (subst (λ u. IsOn r u kept (ask n k))
+      (behind_large i.value b) o))
   parts_by i kept n k false b e f o = record {
     first = i;
     kept = kept;
@@ -290,7 +292,8 @@ module _ {F : Type 0} (may : Holds F) (at : RowAt F) (z : Scene F) (a : Access) 
   pub row_rest : (items : List Item) (h : NeedsMore c a items) (rest : List Item) → rest ≡ drop 1 items → rest ≡ (row_parts items h).kept
   row_rest items h rest e = e ∙ ap (drop 1) (row_parts items h).is
 
-  pub row_cut : (items : List Item) (h : NeedsMore c a items) (old new : List Item) → old ≡ items → new ≡ take 1 old → new ≡ (row_parts items h).first ∷ []
+  pub row_cut : (items : List Item) (h : NeedsMore c a items) (old new : List Item) → old ≡ items → new ≡ take 1 old
+      → new ≡ (row_parts items h).first ∷ []
   row_cut items h old new e f = f ∙ ap (take 1) e ∙ ap (take 1) (row_parts items h).is
 
   pub row_from : (items : List Item) (h : NeedsMore c a items) (from : From1) (i : Item) (level : ℤ) → from ≡ record

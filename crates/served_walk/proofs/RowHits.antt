@@ -1,5 +1,6 @@
 -- Rows of stage 1 as code asks them: combined rows, and the deepest table.
-use Rattle.std.proofs.Common.{◌≡◌, ℕ, ◌≤◌, inl, inr, true, false, List, [], ◌∷◌, ◌++◌, length, take, refl, sym, ap, ◌∙◌, subst, arith, Option, Some, None}
+use Rattle.std.proofs.Common.{◌≡◌, ℕ, ◌≤◌, inl, inr, true, false, List, [], ◌∷◌, ◌++◌, length}
+use Rattle.std.proofs.Common.{take, refl, sym, ap, ◌∙◌, subst, arith, Option, Some, None}
 use Rattle.std.specs.Prelude.{option_map, ◌⊎◌}
 use Rattle.geometry.specs.Tables.{most_left}
 use Rattle.sysregs.specs.declared.regs.Config.{Config}
@@ -219,7 +220,8 @@ module _ {F : Type 0} (may : Holds F) (at : RowAt F) (z : Scene F) (a : Access) 
   table_live : (live : List Row) (q : Row) → tables live ≡ Some q → In q live × (matches1 OfTable1 k x q ≡ true)
   table_live live q e = In-deepest (matches1 OfTable1 k x) live q e
 
-  pub table1_long : (s : Seen) (items : List Item) → DeepestIn (Some s) → TrailOf OfTable1 s items → (length items ≤ most_items → ⊥) → NoTable1 may z a
+  pub table1_long : (s : Seen) (items : List Item) → DeepestIn (Some s) → TrailOf OfTable1 s items → (length items ≤ most_items → ⊥)
+      → NoTable1 may z a
   table1_long s items f t long = no_table_by (λ live q m e.
       (let w = at z.finds.now OfTable1 s.slot q in
       let v = table_live live w (sym (f q live m.held m.servable.told m.small)) in
@@ -240,7 +242,8 @@ module _ {F : Type 0} (may : Holds F) (at : RowAt F) (z : Scene F) (a : Access) 
   second_none (stops f) first met = refl
 
   pub table1_ended : (s : Seen) (items : List Item) (met : Met) (len : ℕ) (o : Outcome) (first : List Item) → DeepestIn (Some s) → MadeAs OfTable1 s
-      → TrailOf OfTable1 s items → EndsOn c a items len o → first ≡ take len items → met.services.items ≡ record { kind = OfTable1; seen = s } ∷ []
+      → TrailOf OfTable1 s items → EndsOn c a items len o → first ≡ take len items → met.services.items ≡ record { kind = OfTable1; seen = s } ∷
+      []
       → NoLeaf1 may z a → AccessGave may at z a met first o
   table1_ended s items met len o first f made t e g n none = record {
     result = answered e.0;

@@ -1,5 +1,6 @@
 -- Stage 1 as code walks it over rows.
-use Rattle.std.proofs.Common.{◌≡◌, ℕ, zero, suc, ◌+◌, ◌≤◌, ◌<◌, true, List, [], ◌∷◌, ◌++◌, length, length-append, inl, inr, refl, sym, ap, ◌∙◌, subst, append_assoc, append-nil, arith, Ok, Err, Result}
+use Rattle.std.proofs.Common.{◌≡◌, ℕ, zero, suc, ◌+◌, ◌≤◌, ◌<◌, true, List, [], ◌∷◌, ◌++◌, length, length-append}
+use Rattle.std.proofs.Common.{inl, inr, refl, sym, ap, ◌∙◌, subst, append_assoc, append-nil, arith, Ok, Err, Result}
 use Rattle.std.specs.Prelude.{ℤ, map}
 use Rattle.geometry.specs.Tables.{level_of}
 use Rattle.sysregs.specs.declared.regs.Config.{Config}
@@ -75,7 +76,8 @@ module _ {F : Type 0} (may : Holds F) (at : RowAt F) (z : Scene F) where
     abbrev pub Word : RowWords F → ℤ → ℕ → List Item → Result ℕ Stop → RowWords F → Type 0
     Word = ServedWord sup config by two
 
-    one_word : MayMeet (may z.finds.now) z.moment live → (s t : RowWords F) (level : ℤ) (x : ℕ) (items : List Item) (r : Result ℕ Stop) → s.scene.now ≡ z
+    one_word : MayMeet (may z.finds.now) z.moment live → (s t : RowWords F) (level : ℤ) (x : ℕ) (items : List Item) (r : Result ℕ Stop)
+        → s.scene.now ≡ z
         → s.kept.now ≡ [] → length s.met.services.items < most_services → (g : RowGave may at s level x items r t)
         → Word s level x items r t × AreServices (at_row d) live g.services
     one_word m s t level x items r e bare room g =
@@ -103,7 +105,8 @@ module _ {F : Type 0} (may : Holds F) (at : RowAt F) (z : Scene F) where
         (d : Row) (a : Access)
         → AreServices (at_row d) live services × Ran (λ i. i.value) (by_entry (Word live d a)) t s items r s'
 
-  pub notes : (n : ℕ) (t : Ask Entry1 Item (End Leaf1)) → AtMost n t → (s : RowWords F) (items : List Item) (r : Result (End Leaf1) Stop) (s' : RowWords F)
+  pub notes : (n : ℕ) (t : Ask Entry1 Item (End Leaf1)) → AtMost n t → (s : RowWords F) (items : List Item) (r : Result (End Leaf1) Stop)
+      (s' : RowWords F)
       → s.scene.now ≡ z → Ran (λ i. i.value) (by_entry (RowGave may at)) t s items r s' → Notes n t s items r s'
   notes n (done e) h s items r s' q w = record {
     same = ap (λ y. y.scene.now) w.2 ∙ q;
@@ -185,7 +188,8 @@ module _ {F : Type 0} (may : Holds F) (at : RowAt F) (z : Scene F) where
     no_err : (x : Stop) (v : ℕ) → ◌≡◌ {A = Result ℕ Stop} (Err x) (Ok v) → ⊥
     no_err x v e = absurd cc
 
-    kept_ran : (n : ℕ) (t : Ask Entry1 Item (End Leaf1)) → AtMost n t → (s : RowWords F) (items : List Item) (x : Result (End Leaf1) Stop) (s' : RowWords F)
+    kept_ran : (n : ℕ) (t : Ask Entry1 Item (End Leaf1)) → AtMost n t → (s : RowWords F) (items : List Item) (x : Result (End Leaf1) Stop)
+        (s' : RowWords F)
         → s.scene.now ≡ z → Ran (λ i. i.value) (by_entry (RowGave may at)) t s items x s' → (v : Ask Need Item (End Landing)) (kept : List Item)
         → s.kept.now ≡ kept → EndsInStage1 kept → IsOn (r c a) (after (Finer c a t) (Output c a)) kept v → KeptRan n t s kept items x s'
     kept_ran n t h s items x s' q w v [] e ends o = record {
@@ -223,7 +227,8 @@ module _ {F : Type 0} (may : Holds F) (at : RowAt F) (z : Scene F) where
           left = y.left;
           same = y.same ∙ g.noted ∙ ap (λ u. s.met.services.items ++ u) p.3 ∙ append-nil s.met.services.items;
           more = y.more;
-          is = w.5 ∙ ap (λ u. u ++ w.2) p.0 ∙ ap (λ u. (d.front ++ d.item ∷ []) ++ u) y.is ∙ sym (append_assoc (d.front ++ d.item ∷ []) d.rest y.more)
+          is = w.5 ∙ ap (λ u. u ++ w.2) p.0 ∙ ap (λ u. (d.front ++ d.item ∷ []) ++ u) y.is
+              ∙ sym (append_assoc (d.front ++ d.item ∷ []) d.rest y.more)
               ∙ ap (λ u. u ++ y.more) whole;
           ran = y.ran;
         }

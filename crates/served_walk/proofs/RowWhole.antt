@@ -1,5 +1,6 @@
 -- An access over rows, as code does it: the whole.
-use Rattle.std.proofs.Common.{◌≡◌, ℕ, ◌≤◌, ◌<◌, inl, inr, Bool, true, false, cond, not, List, [], ◌∷◌, ◌++◌, length, refl, sym, ap, ◌∙◌, subst, arith, Option, None, Ok, Err, Result}
+use Rattle.std.proofs.Common.{◌≡◌, ℕ, ◌≤◌, ◌<◌, inl, inr, Bool, true, false, cond, not, List, [], ◌∷◌}
+use Rattle.std.proofs.Common.{◌++◌, length, refl, sym, ap, ◌∙◌, subst, arith, Option, None, Ok, Err, Result}
 use Rattle.std.specs.Prelude.{◌&&◌, ◌⊎◌, ℤ, IfErr}
 use Rattle.geometry.specs.Tables.{most_left, level_of}
 use Rattle.sysregs.specs.declared.regs.Config.{Config}
@@ -174,7 +175,8 @@ module _ {F : Type 0} (may : Holds F) (at : RowAt F) (z : Scene F) (a : Access) 
   refused_by f (inl h) = record {
     bare = and_refused c.m (is_refused1 c a) h.1;
     is = ap (λ t. after t (stage2_behind (asked c true a)))
-        (on_refused c.m (is_refused1 c a) (stops (fault1 Translation most_left)) _ (stage1_off (asked c true a)) h.0 h.1) ∙ ap (λ u. done (stops u)) (sym h.2);
+        (on_refused c.m (is_refused1 c a) (stops (fault1 Translation most_left)) _ (stage1_off (asked c true a)) h.0 h.1)
+        ∙ ap (λ u. done (stops u)) (sym h.2);
   }
   refused_by f (inr h) = record {
     bare = and_off c.m (not (is_refused1 c a)) h.0;

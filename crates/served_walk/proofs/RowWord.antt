@@ -1,5 +1,6 @@
 -- One word of stage 1 as code has it over rows.
-use Rattle.std.proofs.Common.{◌≡◌, ℕ, ◌+◌, ◌≤◌, ◌%◌, Bool, true, false, cond, List, [], ◌∷◌, ◌++◌, length, length-append, refl, sym, ap, ◌∙◌, subst, append_assoc, append-nil, arith, Some, None, Ok, Err, Result}
+use Rattle.std.proofs.Common.{◌≡◌, ℕ, ◌+◌, ◌≤◌, ◌%◌, Bool, true, false, cond, List, [], ◌∷◌, ◌++◌, length}
+use Rattle.std.proofs.Common.{length-append, refl, sym, ap, ◌∙◌, subst, append_assoc, append-nil, arith, Some, None, Ok, Err, Result}
 use Rattle.std.specs.Prelude.{ℤ, ◌==◌, map}
 use Rattle.geometry.specs.Tables.{level_of}
 use Rattle.sysregs.specs.declared.regs.Config.{Config}
@@ -64,7 +65,8 @@ module _ {F : Type 0} (may : Holds F) (at : RowAt F) (s : RowWords F) (level : �
   abbrev sup : List Row → Access → Need → Supplied
   sup live a = supply (place_with z live) a
 
-  given_word : (live : List Row) (a : Access) (w : WordNeed) (v : ℕ) → m w.place ≡ Some v → sup live a (word w) ≡ gives (needed_item z.moment w v) [] []
+  given_word : (live : List Row) (a : Access) (w : WordNeed) (v : ℕ) → m w.place ≡ Some v
+      → sup live a (word w) ≡ gives (needed_item z.moment w v) [] []
   given_word live a w v h = rw h refl
 
   lacks_word : (live : List Row) (a : Access) (w : WordNeed) → m w.place ≡ None → sup live a (word w) ≡ halts (came (lacks (word w)))
@@ -116,7 +118,8 @@ module _ {F : Type 0} (may : Holds F) (at : RowAt F) (s : RowWords F) (level : �
   -- STAGE 2 IS OFF
 
   module _ (off : c.vm ≡ false) (t : RowWords F) (same : t.scene.now ≡ z) (left : t.kept.now ≡ s.kept.now) (no : NoWord) (met : t.met ≡ s.met) where
-    flat_row : (items : List Item) (r : Result ℕ Stop) → ((live : List Row) (a : Access) (side : Side) (e : Entry1) → level_of e.left ≡ level → e.place ≡ x
+    flat_row : (items : List Item) (r : Result ℕ Stop) → ((live : List Row) (a : Access) (side : Side) (e : Entry1) → level_of e.left ≡ level
+        → e.place ≡ x
         → WordServed (sup live a) (word_of (regime_of c side) e) items [] (second_in t.met) r) → RowGave may at s level x items r t
     flat_row items r h = record {
       same = same;
@@ -180,7 +183,8 @@ module _ {F : Type 0} (may : Holds F) (at : RowAt F) (s : RowWords F) (level : �
         })
         tt
 
-    module _ (l : Leaf2) (al : l.pa % 8 ≡ x % 8) (g : ChainGave may at z true x s.met t.met old mid (Ok l)) (n : length mid ≤ length old + most_items2) where
+    module _ (l : Leaf2) (al : l.pa % 8 ≡ x % 8) (g : ChainGave may at z true x s.met t.met old mid (Ok l))
+        (n : length mid ≤ length old + most_items2) where
       w : length g.items ≤ most_items2
       w = short g.items g.grown n
 
@@ -221,7 +225,8 @@ module _ {F : Type 0} (may : Holds F) (at : RowAt F) (s : RowWords F) (level : �
       read_gave new (Ok v) d h =
           let i = item l.pa v in
           let len : length (g.items ++ i ∷ []) ≡ length g.items + 1 = length-append g.items (i ∷ []) in
-          gave_by old new (g.items ++ i ∷ []) (Ok v) t (h.0 ∙ ap (λ y. y ++ i ∷ []) g.grown ∙ append_assoc old g.items (i ∷ [])) (omega (arith, w, len))
+          gave_by old new (g.items ++ i ∷ []) (Ok v) t (h.0 ∙ ap (λ y. y ++ i ∷ []) g.grown ∙ append_assoc old g.items (i ∷ []))
+          (omega (arith, w, len))
           (row_gave (g.items ++ i ∷ []) (Ok v) (λ live r a side e pl q y.
           (let u : m l.pa ≡ Some v = sym (load_is m l.pa pl) ∙ h.1 in
           subst (λ j. WordServed (sup live a) (word_of (regime_of c side) e) (g.items ++ j ∷ []) (rows r) (second_in t.met) (Ok v)) (item_is e l.pa v q)

@@ -1,5 +1,6 @@
 -- Both stages of an access behind what a row gave, and the four ways in which an access is served.
-use Rattle.std.proofs.Common.{◌≡◌, ℕ, ◌-◌, Bool, true, false, cond, List, [], ◌∷◌, ◌++◌, length, length-append, take, refl, sym, ap, ◌∙◌, subst, append_assoc, append-nil, arith, Ok, Err, Result, Some}
+use Rattle.std.proofs.Common.{◌≡◌, ℕ, ◌-◌, Bool, true, false, cond, List, [], ◌∷◌, ◌++◌, length, length-append, take}
+use Rattle.std.proofs.Common.{refl, sym, ap, ◌∙◌, subst, append_assoc, append-nil, arith, Ok, Err, Result, Some}
 use Rattle.sysregs.specs.declared.regs.Config.{Config}
 use Rattle.fault_codes.specs.declared.fault.Fault.{Fault}
 use Rattle.trails.specs.declared.item.Item.{Item}
@@ -88,7 +89,8 @@ module _ (c : Config) (a : Access) (sup : Need → Supplied) (t1 : Ask Need Item
   vm_off false t u h = refl
 
   -- stage 2 is off
-  pub both_flat : (l : Leaf1) (two2 : Second) → c.vm ≡ false → WasServed sup t1 items rows two (Ok l) → WasServed sup Both items rows two2 (Ok (landed l))
+  pub both_flat : (l : Leaf1) (two2 : Second) → c.vm ≡ false → WasServed sup t1 items rows two (Ok l)
+      → WasServed sup Both items rows two2 (Ok (landed l))
   both_flat l two2 v w =
       let o : WasServed sup (stage2_behind q (reaches l)) [] [] two2 (Ok (landed l)) = subst (λ t. WasServed sup t [] [] two2 (Ok (landed l)))
       (vm_off c.vm (Output l) (done (reaches (landed l))) v) (was_end sup (reaches (landed l)) two2) in

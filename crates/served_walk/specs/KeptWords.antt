@@ -24,6 +24,7 @@ pub record BeginsWith (items front : List Item) (word : Item) (rest : List Item)
 
 -- the first word of kept items was taken, with its chain; or they begin with none
 abbrev pub TookWord : (kept left old new : List Item) (word : Option ℕ) → Type 0
-TookWord kept left old new None = (left ≡ kept) × (new ≡ old) × ((front : List Item) (i : Item) (rest : List Item) → BeginsWith kept front i rest → ⊥)
+TookWord kept left old new None = (left ≡ kept) × (new ≡ old) × ((front : List Item) (i : Item) (rest : List Item) → BeginsWith kept front i rest
+    → ⊥)
 TookWord kept left old new (Some v) =
     (front : List Item) × (i : Item) × BeginsWith kept front i left × (new ≡ old ++ (front ++ i ∷ [])) × (v ≡ i.value)

@@ -1,5 +1,6 @@
 //! An access over rows: by a combined row, behind the deepest table of stage 1, or from the base.
-ghost use Rattle.std.specs.Prelude.{◌≡◌, ◌+◌, ◌*◌, ◌≤◌, ◌<◌, ◌%◌, ◌^◌, ◌↔◌, [], ◌∷◌, true, false, None, length, IsTrue, IsFalse, IsSome, IsNone, Err, option_map};
+ghost use Rattle.std.specs.Prelude.{◌≡◌, ◌+◌, ◌*◌, ◌≤◌, ◌<◌, ◌%◌, ◌^◌, ◌↔◌, [], ◌∷◌};
+ghost use Rattle.std.specs.Prelude.{true, false, None, length, IsTrue, IsFalse, IsSome, IsNone, Err, option_map};
 ghost use Rattle.geometry.specs.Tables.{left_below, level_of};
 ghost use Rattle.sysregs.specs.Registers.{config_of};
 ghost use Rattle.sysregs.specs.Sides.{side_of};
@@ -13,7 +14,8 @@ ghost use Rattle.stage1_walk.specs.Clauses.{IsTableOf, table_from};
 ghost use Rattle.translate.specs.Parts.{leaf1_or_off};
 ghost use Rattle.translate.specs.Replayed.{NeedsMore};
 ghost use Rattle.translate.specs.Deep.{outcome_by};
-ghost use Rattle.served_walk.specs.Accessed.{WholeGave, BelowIfOn, RowLeft, most_from_base, GaveByLeaf1, GaveByTable1, NoLeaf1, NoTable1, AccessGave, IsServed, IsSecond, ConflictOf};
+ghost use Rattle.served_walk.specs.Accessed.{WholeGave, BelowIfOn, RowLeft, most_from_base, GaveByLeaf1, GaveByTable1};
+ghost use Rattle.served_walk.specs.Accessed.{NoLeaf1, NoTable1, AccessGave, IsServed, IsSecond, ConflictOf};
 
 use crate::chain::chain;
 use crate::finds::Finds;

@@ -1,5 +1,6 @@
 -- The bits of table descriptors, by the bits of all their words.
-use Rattle.std.proofs.Common.{◌≡◌, ℕ, zero, suc, ◌+◌, ◌-◌, ◌/◌, ◌%◌, ◌^◌, ◌<◌, Bool, true, false, not, refl, sym, ap, ◌∙◌, arith, inl, inr}
+use Rattle.std.proofs.Common.{◌≡◌, ℕ, zero, suc, ◌+◌, ◌-◌, ◌/◌, ◌%◌, ◌^◌, ◌<◌, Bool}
+use Rattle.std.proofs.Common.{true, false, not, refl, sym, ap, ◌∙◌, arith, inl, inr}
 use Rattle.std.proofs.lemmas.Bool.{cases_Bool}
 use Rattle.geometry.specs.Tables.{has_block}
 use Rattle.std.specs.Prelude.{◌==◌, ◌&&◌, ◌||◌, bit_or}
@@ -31,7 +32,11 @@ own_bits c s left w a b e =
     elim (cases_Bool (bit w 0)) [
       | inl x ↦ elim (cases_Bool (bit w 1)) [
         | inl y ↦ elim (cases_Bool (left == 0)) [ inl z ↦ (let f = rw (x, y, z) at e in absurd cc) | inr z ↦ pair_of _ _ _ _ (rw (x, y, z) at e) ]
-        | inr y ↦ elim (cases_Bool (has_block g left)) [ inl z ↦ (let f = rw (x, y, z) at e in absurd cc) | inr z ↦ (let f = rw (x, y, z) at e in absurd cc) ]
+        | inr y ↦ elim (cases_Bool (has_block g left)) [
+          | inl z ↦ (let f = rw (x, y, z) at e in absurd cc)
+          | inr z ↦ (let f = rw (x, y, z) at e in
+              absurd cc)
+        ]
       ]
       | inr x ↦ (let f = rw x at e in absurd cc)
     ]

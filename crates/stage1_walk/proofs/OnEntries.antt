@@ -1,5 +1,6 @@
 -- How a walk of stage 1 goes on over the entries that a supply gives.
-use Rattle.std.proofs.Common.{◌≡◌, ℕ, zero, suc, ◌-◌, ◌<◌, List, [], ◌∷◌, ◌++◌, length, length-append, append_assoc, append-nil, refl, sym, ap, ◌∙◌, subst, arith, Result, Ok, Err, inl, inr}
+use Rattle.std.proofs.Common.{◌≡◌, ℕ, zero, suc, ◌-◌, ◌<◌, List, [], ◌∷◌, ◌++◌, length, length-append}
+use Rattle.std.proofs.Common.{append_assoc, append-nil, refl, sym, ap, ◌∙◌, subst, arith, Result, Ok, Err, inl, inr}
 use Rattle.std.specs.Prelude.{ℤ}
 use Rattle.geometry.specs.Tables.{level_of}
 use Rattle.fault_codes.specs.declared.fault.Fault.{Fault}
@@ -133,6 +134,7 @@ module _ {S : Type 0} (gives : S → ℤ → ℕ → List Item → Result ℕ St
       end = w.end;
       grown = w.grown ∙ ap (λ z. z ++ w.more) g.grown ∙ append_assoc old g.more w.more;
       ran = went w.more w.end after
-          (subst (λ k. Ran value (by_entry gives) k mid w.more w.end after) (sym (ap (walk1_then q left) (sym step) ∙ walk1_below_less q left next l)) w.ran);
+          (subst (λ k. Ran value (by_entry gives) k mid w.more w.end after) (sym (ap (walk1_then q left) (sym step)
+          ∙ walk1_below_less q left next l)) w.ran);
       answer = w.answer;
     }

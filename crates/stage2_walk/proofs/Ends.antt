@@ -17,7 +17,8 @@ use Rattle.stage2_walk.specs.SoundSteps.{leaf_at}
 abbrev same : (a b : Lead Leaf2 ℕ) → Type 0
 same a b = a ≡ b
 
-reached_by : (large off : Bool) (a b : Fault) (k l : Leaf2) → same (Reached l) (if large then Stopped a else (if not off then Stopped b else Reached k)) → l ≡ k
+reached_by : (large off : Bool) (a b : Fault) (k l : Leaf2) → same (Reached l) (if large then Stopped a else (if not off then Stopped b else Reached k))
+    → l ≡ k
 reached_by true off a b k l h = absurd cc
 reached_by false true a b k l h = cc
 reached_by false false a b k l h = absurd cc

@@ -62,7 +62,8 @@ module _ (r : Regime) (q : Asked2) (left table p : ℕ) (here : p ≡ place_of q
       kept_stops d step = kept_by ∙ ap (λ s. on (fits r) (walk2_then q left s) (drop (at + 1) items)) (sym step)
 
       -- it is that of a table
-      pub kept_goes : (next : ℕ) → Down next ≡ step2 q left i.pa i.value → 0 < left → Here (on (fits r) (walk2_from q (left - 1) next) (drop (at + 1) items))
+      pub kept_goes : (next : ℕ) → Down next ≡ step2 q left i.pa i.value → 0 < left
+          → Here (on (fits r) (walk2_from q (left - 1) next) (drop (at + 1) items))
       kept_goes next step few =
           kept_by ∙ ap (λ s. on (fits r) (walk2_then q left s) (drop (at + 1) items)) (sym step)
           ∙ ap (λ t. on (fits r) t (drop (at + 1) items)) (walk2_below_less q left next few)

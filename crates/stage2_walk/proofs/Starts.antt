@@ -33,7 +33,8 @@ level_most (suc (suc (suc zero))) h = omega (arith, ints)
 level_most (suc (suc (suc (suc n)))) h = absurd (omega (arith, h))
 
 -- a table with so many levels left, from the start level down
-pub table_within : (c : Config) (from : From2) (n : Sizes) (left : ℕ) → n ≡ sizes2 c → from.level ≡ level_of left → left ≤ n.start → n.start ≤ most_left
+pub table_within : (c : Config) (from : From2) (n : Sizes) (left : ℕ) → n ≡ sizes2 c → from.level ≡ level_of left → left ≤ n.start
+    → n.start ≤ most_left
     → from.base < 2 ^ 52 → from.base % 8 ≡ 0 → IsTableOf c from
 table_within c from n left e l w m b r =
     let few : left ≤ most_left = omega arith in

@@ -180,7 +180,8 @@ pub fn check_reg(reg: Reg, value: u64) -> Result<(), Unsupported>
 /// Refuses a register write of a trace exactly where it sets a field that a run doesn't support, and names the lowest.
 /// What `check_reg` refuses is refused here too.
 pub fn check_msr(reg: Reg, value: u64) -> Result<(), Unsupported>
-    ensures refusal { MatchResult result (λ _. msr_refused_field reg value ≡ None) (λ e. (e.reg ≡ reg) × (msr_refused_field reg value ≡ Some e.field)) }
+    ensures refusal { MatchResult result (λ _. msr_refused_field reg value ≡ None) (λ e. (e.reg ≡ reg)
+        × (msr_refused_field reg value ≡ Some e.field)) }
     ensures accepted { IfOk result (λ _. refused_field reg value ≡ None) }
 {
     let field = match reg {

@@ -1,5 +1,6 @@
 -- What a row that comes leaves of the sets.
-use Rattle.std.proofs.Common.{◌≡◌, ℕ, ◌<◌, ◌≤◌, ◌+◌, Bool, true, false, List, [], ◌∷◌, ◌++◌, length, get_or, set, refl, sym, ◌∙◌, subst, arith, inl, inr}
+use Rattle.std.proofs.Common.{◌≡◌, ℕ, ◌<◌, ◌≤◌, ◌+◌, Bool, true, false, List, [], ◌∷◌}
+use Rattle.std.proofs.Common.{◌++◌, length, get_or, set, refl, sym, ◌∙◌, subst, arith, inl, inr}
 use Rattle.std.specs.List.{remove, list_any}
 use Rattle.std.proofs.lemmas.Bool.{cases_lt}
 use Rattle.std.proofs.lemmas.List.{get_or_default}
@@ -42,7 +43,8 @@ module _ (h : Header) (core n ways : ℕ) (l : Cache) (r : Row) (fits : shape_of
         rw (added_room h core n ways l r fits sets lt f (any_is false none) short, e.0, e.1, e.2)
         (record { tied = rw one_is (room_tied h core n ways l r fits sets lt f); at = at; count = omega arith })
 
-    full_added : ways ≤ length one → (new ≡ remove one (victim h.policy core l.evictions ways) ++ r ∷ []) × (lost ≡ true) × IsAt core (l.evictions + 1) by2
+    full_added : ways ≤ length one → (new ≡ remove one (victim h.policy core l.evictions ways) ++ r ∷ []) × (lost ≡ true)
+        × IsAt core (l.evictions + 1) by2
         → IsAdded r.kind n core l (added h core l r) lost by2 (set sets (place n r) new)
     full_added k e =
         let long : ways ≤ length (get_or sets (place n r) []) = subst (λ xs. ways ≤ length xs) one_is k in
@@ -56,6 +58,7 @@ module _ (h : Header) (core n ways : ℕ) (l : Cache) (r : Row) (fits : shape_of
         → IsAdded r.kind n core l (added h core l r) lost by2 (set sets (place n r) new)
     was_filled room full = elim (cases_lt (length one) ways) [
       | inl k ↦ with_room_added k (room k)
-      | inr k ↦ full_added k (subst (λ p. (new ≡ remove one (victim p core l.evictions ways) ++ r ∷ []) × (lost ≡ true) × IsAt core (l.evictions + 1) by2)
+      | inr k ↦ full_added k (subst (λ p. (new ≡ remove one (victim p core l.evictions ways) ++ r ∷ []) × (lost ≡ true)
+          × IsAt core (l.evictions + 1) by2)
           (sym same) (full k core l.evictions at))
     ]

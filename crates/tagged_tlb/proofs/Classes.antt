@@ -1,5 +1,6 @@
 -- Classes that are marked.
-use Rattle.std.proofs.Common.{◌-◌, ◌≤◌, ◌≡◌, ℕ, zero, suc, ◌<◌, ◌+◌, Bool, true, false, cond, ◌&&◌, List, [], ◌∷◌, ◌++◌, take, length, get_or, set}
+use Rattle.std.proofs.Common.{◌-◌, ◌≤◌, ◌≡◌, ℕ, zero, suc, ◌<◌, ◌+◌, Bool, true, false, cond}
+use Rattle.std.proofs.Common.{◌&&◌, List, [], ◌∷◌, ◌++◌, take, length, get_or, set}
 use Rattle.std.proofs.Common.{map, replicate, refl, ap, sym, ◌∙◌, subst, arith, inl, inr}
 use Rattle.std.specs.Prelude.{◌==◌, ◌*◌, ◌%◌, ◌^◌, filter, bit_or}
 use Rattle.std.specs.List.{remove}
@@ -104,13 +105,15 @@ module _ (m c : ℕ) (small : c < 64) where
       ))
 
   -- a set that got a row of the class
-  pub filled_marked : (r : Row) → r.region.class ≡ c → (sets : List (List Row)) (i : ℕ) (one new : List Row) → i < length sets → one ≡ get_or sets i one
+  pub filled_marked : (r : Row) → r.region.class ≡ c → (sets : List (List Row)) (i : ℕ) (one new : List Row) → i < length sets
+      → one ≡ get_or sets i one
       → AreMarked m sets → IsFilled one r new → AreMarked more (set sets i new)
   filled_marked r e sets i one new lt value a f =
       marked_set more sets i new (still_are sets a) (filled_by r e one new (subst (AllMarked m) (sym value) (marked_at m sets i one lt a)) f)
 
 -- a row of a set goes last in it
-pub touched_marked : (m : ℕ) (sets : List (List Row)) (i way : ℕ) (one new : List Row) → i < length sets → one ≡ get_or sets i one → way < length one
+pub touched_marked : (m : ℕ) (sets : List (List Row)) (i way : ℕ) (one new : List Row) → i < length sets → one ≡ get_or sets i one
+    → way < length one
     → AreMarked m sets → ((d : Row) → new ≡ remove one way ++ get_or one way d ∷ []) → AreMarked m (set sets i new)
 touched_marked m sets i way [] new lt value within a e = absurd (omega (arith, within))
 touched_marked m sets i way (x ∷ xs) new lt value within a e =
@@ -121,7 +124,8 @@ touched_marked m sets i way (x ∷ xs) new lt value within a e =
 
 -- NO ROW OF A CLASS
 
-none_if : (q : Sought) (c s : ℕ) (x : Row) (xs : List Row) (b : Bool) → hit q c s x ≡ b → (b ≡ true → x.region.class ≡ c → ⊥) → filter (hit q c s) xs ≡ []
+none_if : (q : Sought) (c s : ℕ) (x : Row) (xs : List Row) (b : Bool) → hit q c s x ≡ b → (b ≡ true → x.region.class ≡ c → ⊥)
+    → filter (hit q c s) xs ≡ []
     → cond b (x ∷ filter (hit q c s) xs) (filter (hit q c s) xs) ≡ []
 none_if q c s x xs true e ne rest =
     let a = and_parts ((x.region.start == s) && (x.region.class == c)) (is_keyed_row q x) e in

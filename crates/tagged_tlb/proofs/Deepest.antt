@@ -1,5 +1,6 @@
 -- The row of the smallest region that matches.
-use Rattle.std.proofs.Common.{zero, ◌≡◌, ℕ, suc, ◌<◌, ◌≤◌, ◌+◌, Bool, true, false, cond, ◌&&◌, List, [], ◌∷◌, length, get_or, refl, ap, sym, ◌∙◌}
+use Rattle.std.proofs.Common.{zero, ◌≡◌, ℕ, suc, ◌<◌, ◌≤◌, ◌+◌, Bool, true, false, cond}
+use Rattle.std.proofs.Common.{◌&&◌, List, [], ◌∷◌, length, get_or, refl, ap, sym, ◌∙◌}
 use Rattle.std.proofs.Common.{subst, arith, Option, Some, None, inl, inr}
 use Rattle.std.specs.Prelude.{filter, ◌==◌, ◌%◌, ◌/◌, ◌^◌, nat_lt}
 use Rattle.std.proofs.lemmas.Bool.{cases_Bool, cases_eq, eq-eqb, eqb-true, ltb-true, and_from, and_parts, both_ways}
@@ -49,7 +50,8 @@ module _ (test : Row → Bool) (d : Row) (all : List Row) where
   skipped r rows None e h = rw e h
   skipped r rows (Some w) e h = rw e h
 
-  heads_by : (way : ℕ) (r : Row) (rows : List Row) (b : Bool) → test r ≡ b → get_or all way d ≡ r → Heads test d all rows (first_hit test (way + 1) rows)
+  heads_by : (way : ℕ) (r : Row) (rows : List Row) (b : Bool) → test r ≡ b → get_or all way d ≡ r
+      → Heads test d all rows (first_hit test (way + 1) rows)
       → Heads test d all (r ∷ rows) (cond b (Some way) (first_hit test (way + 1) rows))
   heads_by way r rows true e f rest = (filter test rows, rw (e, f) refl)
   heads_by way r rows false e f rest = skipped r rows (first_hit test (way + 1) rows) e rest
@@ -98,7 +100,8 @@ module _ (m : Row → Bool) where
       by_case true e = k s e
       by_case false e = let f : r ≡ s = Rattle.std.proofs.lemmas.Option.same_Some r s e in subst (λ (v : Row). c ≤ v.region.class) f h
 
-  least_by : (c : ℕ) (r : Row) (rows : List Row) (b : Bool) → (b ≡ true → c ≤ r.region.class) → ((s : Row) → deepest m rows ≡ Some s → c ≤ s.region.class)
+  least_by : (c : ℕ) (r : Row) (rows : List Row) (b : Bool) → (b ≡ true → c ≤ r.region.class)
+      → ((s : Row) → deepest m rows ≡ Some s → c ≤ s.region.class)
       → (s : Row) → cond b (closer r (deepest m rows)) (deepest m rows) ≡ Some s → c ≤ s.region.class
   least_by c r rows true h k s e = closer_least c r (deepest m rows) (h refl) k s e
   least_by c r rows false h k s e = k s e
@@ -149,7 +152,8 @@ module _ (m : Row → Bool) where
   head_class c r rest [] g = no_head r rest (sym g)
   head_class c r rest (y ∷ ys) g = head_by c y r ys rest (of_class c y) refl (head_class c r rest ys) g
 
-  nothing_by : (r : Row) (rows : List Row) (b : Bool) → m r ≡ b → (b ≡ true → 64 ≤ r.region.class) → r.region.class < 64 → deepest m rows ≡ None
+  nothing_by : (r : Row) (rows : List Row) (b : Bool) → m r ≡ b → (b ≡ true → 64 ≤ r.region.class) → r.region.class < 64
+      → deepest m rows ≡ None
       → cond b (closer r (deepest m rows)) (deepest m rows) ≡ None
   nothing_by r rows true e h k rest = absurd (let le = h refl in omega (arith, le, k))
   nothing_by r rows false e h k rest = rest
@@ -173,7 +177,8 @@ module _ (d : Row) (sets : List (List Row)) (k : Kind) (n : ℕ) (q : Sought) (l
   rows_are = ap (filter (hit q c (q.at / 2 ^ c))) one_is ∙ class_rows d sets k n q live told f c lt
 
   headed : Heads (hit q c (q.at / 2 ^ c)) d one one (first_hit (hit q c (q.at / 2 ^ c)) 0 one)
-  headed = heads (hit q c (q.at / 2 ^ c)) d one 0 one (λ j l. let e : 0 + j ≡ j = omega arith in subst (λ v. get_or one v d ≡ get_or one j d) (sym e) refl)
+  headed = heads (hit q c (q.at / 2 ^ c)) d one 0 one (λ j l. let e : 0 + j ≡ j = omega arith in
+      subst (λ v. get_or one v d ≡ get_or one j d) (sym e) refl)
 
   -- the set has none
   pub none_here : first_hit (hit q c (q.at / 2 ^ c)) 0 one ≡ None → NoneBelow (is_sought k q) c live → NoneBelow (is_sought k q) (c + 1) live
@@ -216,7 +221,8 @@ none_of_class d sets k n q live told f c some marks marked no_mark h =
 -- no row has a class from one on
 pub none_of_classes : (d : Row) (sets : List (List Row)) (k : Kind) (n : ℕ) (q : Sought) (live : List Row) (told : AreToldApart live)
     (f : IsTied k n live sets) → 0 < n
-    → (marks : ℕ) → AreMarked marks sets → (gap c : ℕ) → c + gap ≡ 64 → marks < 2 ^ c → NoneBelow (is_sought k q) c live → NoneBelow (is_sought k q) 64 live
+    → (marks : ℕ) → AreMarked marks sets → (gap c : ℕ) → c + gap ≡ 64 → marks < 2 ^ c → NoneBelow (is_sought k q) c live
+    → NoneBelow (is_sought k q) 64 live
 none_of_classes d sets k n q live told f some marks marked zero c e small h = let e : c ≡ 64 = omega (arith, e) in subst (λ v. NoneBelow
     (is_sought k q) v live) e h
 none_of_classes d sets k n q live told f some marks marked (suc gap) c e small h =

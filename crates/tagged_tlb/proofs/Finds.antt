@@ -1,5 +1,6 @@
 -- What a search by class and set finds.
-use Rattle.std.proofs.Common.{◌≤◌, zero, ◌≡◌, ℕ, suc, ◌<◌, ◌+◌, Bool, true, false, cond, ◌&&◌, ◌||◌, List, [], ◌∷◌, length, get_or, take, inl, inr}
+use Rattle.std.proofs.Common.{◌≤◌, zero, ◌≡◌, ℕ, suc, ◌<◌, ◌+◌, Bool, true, false, cond}
+use Rattle.std.proofs.Common.{◌&&◌, ◌||◌, List, [], ◌∷◌, length, get_or, take, inl, inr}
 use Rattle.std.proofs.Common.{refl, ap, sym, ◌∙◌, subst, arith}
 use Rattle.std.specs.Prelude.{filter, ◌==◌, ◌%◌, ◌/◌, ◌^◌, nat_lt}
 use Rattle.std.proofs.lemmas.Bool.{cases_Bool, cases_eq, eq-eqb, eqb-true, ltb-true, and_from, and_parts, or_left, or_right}
@@ -95,7 +96,8 @@ module _ (sets : List (List Row)) (test : Row → Bool) (set : ℕ) (lt : set < 
       (found_by way r.made found (test r) (omega (arith, le)) h)
 
 -- the rows of a set are found where they stand
-pub looked_within : (sets : List (List Row)) (test : Row → Bool) (set : ℕ) (one : List Row) (found : Found) → set < length sets → one ≡ get_or sets set one
+pub looked_within : (sets : List (List Row)) (test : Row → Bool) (set : ℕ) (one : List Row) (found : Found) → set < length sets
+    → one ≡ get_or sets set one
     → AreWithin sets found → AreWithin sets (looked test made_of_row set 0 found one)
 looked_within sets test set one found lt value h =
     let one_is : one ≡ get_or sets set [] = value ∙ get_or_default sets set one [] lt in
@@ -276,7 +278,8 @@ module _ (d : Row) (sets : List (List Row)) where
         (λ j lt. let e : 0 + j ≡ j = omega arith in subst (λ v. row_at sets (q.at / 2 ^ c % n) v d ≡ row_at sets (q.at / 2 ^ c % n) j d) (sym e) refl) h)
 
     -- one class more, of which there is no row
-    pub no_class : (c marks : ℕ) (found : Found) → 0 < n → AreMarked marks sets → is_marked marks c ≡ false → IsBest found (by_making (filter (below c) live))
+    pub no_class : (c marks : ℕ) (found : Found) → 0 < n → AreMarked marks sets → is_marked marks c ≡ false
+        → IsBest found (by_making (filter (below c) live))
         → IsBest found (by_making (filter (below (c + 1)) live))
     no_class c marks found some marked no_mark h =
         let lt : q.at / 2 ^ c % n < n = omega (arith, some) in
@@ -288,7 +291,8 @@ module _ (d : Row) (sets : List (List Row)) where
     -- no row has a class from one on
     pub no_classes : (gap c marks : ℕ) (found : Found) → c + gap ≡ 64 → 0 < n → AreMarked marks sets → marks < 2 ^ c
         → IsBest found (by_making (filter (below c) live)) → IsBest found (by_making (filter (below 64) live))
-    no_classes zero c marks found e some marked small h = let e : c ≡ 64 = omega (arith, e) in subst (λ v. IsBest found (by_making (filter (below v) live))) e h
+    no_classes zero c marks found e some marked small h = let e : c ≡ 64 = omega (arith, e) in
+        subst (λ v. IsBest found (by_making (filter (below v) live))) e h
     no_classes (suc gap) c marks found e some marked small h =
         no_classes gap (c + 1) marks found (omega (arith, e)) some marked (wider marks c small)
         (no_class c marks found some marked (none_from marks c c small (omega arith)) h)
@@ -315,7 +319,8 @@ module _ (d : Row) (sets : List (List Row)) where
     all_below (r ∷ xs) s = ap (λ b. cond b (r ∷ filter (below 64) xs) (filter (below 64) xs)) (all_by r (m r) s.0)
         ∙ ap (λ v. cond (m r) (r ∷ v) v) (all_below xs s.1)
 
-    pub last_class : (found : Found) → AreSmall live → IsBest found (by_making (filter (below 64) live)) → found_rows d sets found ≡ take 2 (matching m live)
+    pub last_class : (found : Found) → AreSmall live → IsBest found (by_making (filter (below 64) live))
+        → found_rows d sets found ≡ take 2 (matching m live)
     last_class found s h = h.are ∙ ap (λ v. take 2 (by_making v)) (all_below live s)
 
     -- the same for the set that was read

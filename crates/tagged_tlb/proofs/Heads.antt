@@ -1,5 +1,6 @@
 -- Heads that move, and trails that stay.
-use Rattle.std.proofs.Common.{◌≡◌, ℕ, zero, suc, ◌<◌, ◌≤◌, ◌+◌, ◌||◌, cond, inl, inr, Some, List, [], ◌∷◌, ◌++◌, length, get_or, set, map, refl, ap}
+use Rattle.std.proofs.Common.{◌≡◌, ℕ, zero, suc, ◌<◌, ◌≤◌, ◌+◌, ◌||◌, cond, inl, inr, Some}
+use Rattle.std.proofs.Common.{List, [], ◌∷◌, ◌++◌, length, get_or, set, map, refl, ap}
 use Rattle.std.proofs.Common.{sym, ◌∙◌, subst, arith}
 use Rattle.std.specs.Prelude.{◌==◌, filter, Bool, true, false, not}
 use Rattle.std.specs.List.{remove, list_any}
@@ -70,7 +71,8 @@ itself t = ap one (eq-eqb t t refl)
 one_fresh : (trails : List (List Item)) (t : ℕ) (v : List Item) (h : Head) → (h.slot ≡ t → ⊥) → row_of (set trails t v) h ≡ row_of trails h
 one_fresh trails t v h ne = rw (get_or-set_other trails t h.slot v [] ne) refl
 
-fresh : (trails : List (List Item)) (t : ℕ) (v : List Item) (hs : List Head) → uses t hs ≡ 0 → map (row_of (set trails t v)) hs ≡ map (row_of trails) hs
+fresh : (trails : List (List Item)) (t : ℕ) (v : List Item) (hs : List Head) → uses t hs ≡ 0
+    → map (row_of (set trails t v)) hs ≡ map (row_of trails) hs
 fresh trails t v [] z = refl
 fresh trails t v (h ∷ hs) z =
     let zs : uses t hs ≡ 0 = omega (arith, z) in
@@ -167,7 +169,8 @@ module _ (n : ℕ) (heads : List Head) (free : List ℕ) (f : IsSpread n heads f
     pub room_here : (trails : List (List Item)) (r : Row) → length trails ≡ n → d ≡ get_or free i d
         → map (row_of (set trails d r.trail)) (heads ++ head_with r d ∷ []) ≡ map (row_of trails) heads ++ r ∷ []
     room_here trails r l value =
-        subst (λ v. map (row_of (set trails v r.trail)) (heads ++ head_with r v ∷ []) ≡ map (row_of trails) heads ++ r ∷ []) (sym value) (room_view trails r l)
+        subst (λ v. map (row_of (set trails v r.trail)) (heads ++ head_with r v ∷ []) ≡ map (row_of trails) heads ++ r ∷ []) (sym value)
+        (room_view trails r l)
 
 -- A NEW SLOT
 
@@ -194,7 +197,8 @@ free_wider n [] b = tt
 free_wider n (t ∷ ts) b = ((let l = b.0 in omega (arith, l)), free_wider n ts b.1)
 
 -- a head takes the slot that follows those in use
-pub grown : (n : ℕ) (heads : List Head) (free : List ℕ) → IsSpread n heads free → (h : Head) → h.slot ≡ n → IsSpread (n + 1) (heads ++ h ∷ []) free
+pub grown : (n : ℕ) (heads : List Head) (free : List ℕ) → IsSpread n heads free → (h : Head) → h.slot ≡ n
+    → IsSpread (n + 1) (heads ++ h ∷ []) free
 grown n heads free f h e = record {
   once = λ s. elim (cases_eq n s) [
     | inl q ↦
@@ -334,7 +338,8 @@ pub any_map : {X Y : Type 0} (p : Y → Bool) (f : X → Y) (xs : List X) → li
 any_map p f [] = refl
 any_map p f (x ∷ xs) = ap (λ v. p (f x) || v) (any_map p f xs)
 
-pub looked_map : {X Y : Type 0} (test : Y → Bool) (made : Y → Made) (f : X → Y) (test2 : X → Bool) (made2 : X → Made) → ((x : X) → test (f x) ≡ test2 x)
+pub looked_map : {X Y : Type 0} (test : Y → Bool) (made : Y → Made) (f : X → Y) (test2 : X → Bool) (made2 : X → Made)
+    → ((x : X) → test (f x) ≡ test2 x)
     → ((x : X) → made (f x) ≡ made2 x)
     → (set way : ℕ) (found : Found) (xs : List X) → looked test made set way found (map f xs) ≡ looked test2 made2 set way found xs
 looked_map test made f test2 made2 h k set way found [] = refl

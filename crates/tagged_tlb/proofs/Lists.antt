@@ -37,7 +37,8 @@ other_later p q x xs n true here rest = ap (λ v. cond (q x) (x ∷ v) v) here
 other_later p q x xs n false here rest = ap (λ v. cond (q x) (x ∷ v) v) rest
 
 -- every other set stays
-pub filter-other : {X : Type 0} (p q : X → Bool) → ((x : X) → p x ≡ true → q x ≡ false) → (xs : List X) (n : ℕ) → filter q (without p xs n) ≡ filter q xs
+pub filter-other : {X : Type 0} (p q : X → Bool) → ((x : X) → p x ≡ true → q x ≡ false) → (xs : List X) (n : ℕ)
+    → filter q (without p xs n) ≡ filter q xs
 filter-other p q apart [] n = refl
 filter-other p q apart (x ∷ xs) zero = other_first p q apart x xs (p x) refl (filter-other p q apart xs zero)
 filter-other p q apart (x ∷ xs) (suc n) = other_later p q x xs n (p x) (filter-other p q apart xs n) (filter-other p q apart xs (suc n))
@@ -67,7 +68,8 @@ pub filter-no_more : {X : Type 0} (p : X → Bool) (xs : List X) (x : X) → p x
 filter-no_more p xs x t = filter-append p xs (x ∷ []) ∙ ap (λ b. filter p xs ++ cond b (x ∷ []) []) t ∙ append-nil (filter p xs)
 
 -- what passes one test passes the other: some element passes the first where some of the others does
-any_case : {X : Type 0} (p q : X → Bool) (x : X) (xs : List X) (b : Bool) → q x ≡ b → (p x ≡ true → q x ≡ true) → list_any p xs ≡ list_any p (filter q xs)
+any_case : {X : Type 0} (p q : X → Bool) (x : X) (xs : List X) (b : Bool) → q x ≡ b → (p x ≡ true → q x ≡ true)
+    → list_any p xs ≡ list_any p (filter q xs)
     → (p x || list_any p xs) ≡ list_any p (cond b (x ∷ filter q xs) (filter q xs))
 any_case p q x xs true e h rest = rw rest refl
 any_case p q x xs false e h rest = any_not (p x) refl

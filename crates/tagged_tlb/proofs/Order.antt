@@ -1,5 +1,6 @@
 -- Rows in the order of their making, whatever the order in which they come.
-use Rattle.std.proofs.Common.{◌≡◌, ℕ, ◌<◌, Bool, true, false, not, cond, ◌&&◌, ◌||◌, List, [], ◌∷◌, take, ◌⊎◌, inl, inr, refl, ap, sym, ◌∙◌, subst, arith}
+use Rattle.std.proofs.Common.{◌≡◌, ℕ, ◌<◌, Bool, true, false, not, cond, ◌&&◌, ◌||◌, List, []}
+use Rattle.std.proofs.Common.{◌∷◌, take, ◌⊎◌, inl, inr, refl, ap, sym, ◌∙◌, subst, arith}
 use Rattle.std.specs.Prelude.{filter, ◌==◌, nat_lt}
 use Rattle.std.proofs.lemmas.Bool.{cases_Bool, cases_lt, eq-eqb, eqb-true, ltb-true, ltb-false, and_from, and_parts, or_left, or_right, both_ways}
 use Rattle.tagged_tlb.specs.declared.row.Made.{Made}
@@ -80,7 +81,8 @@ behind : (r x : Row) (xs : List Row) → is_older r.made x.made ≡ false → in
 behind r x xs e = ap (λ b. cond b (r ∷ x ∷ xs) (x ∷ inserted r xs)) e
 
 module _ (r s x : Row) (xs : List Row) (rest : inserted r (inserted s xs) ≡ inserted s (inserted r xs)) where
-  both_by : (a b c : Bool) → is_older r.made s.made ≡ a → is_older s.made r.made ≡ not a → is_older r.made x.made ≡ b → is_older s.made x.made ≡ c
+  both_by : (a b c : Bool) → is_older r.made s.made ≡ a → is_older s.made r.made ≡ not a → is_older r.made x.made ≡ b
+      → is_older s.made x.made ≡ c
       → inserted r (cond c (s ∷ x ∷ xs) (x ∷ inserted s xs)) ≡ inserted s (cond b (r ∷ x ∷ xs) (x ∷ inserted r xs))
   both_by true true true ea ea2 eb ec = before r s (x ∷ xs) ea ∙ sym (behind s r (x ∷ xs) ea2 ∙ ap (λ v. r ∷ v) (before s x xs ec))
   both_by false true true ea ea2 eb ec = (behind r s (x ∷ xs) ea ∙ ap (λ v. s ∷ v) (before r x xs eb)) ∙ sym (before s r (x ∷ xs) ea2)
@@ -164,6 +166,7 @@ two_with r [] = refl
 two_with r (x ∷ []) = refl
 two_with r (x ∷ y ∷ zs) = by_case (is_older r.made x.made)
   where
-    by_case : (b : Bool) → take 2 (cond b (r ∷ x ∷ y ∷ []) (x ∷ inserted r (y ∷ []))) ≡ take 2 (cond b (r ∷ x ∷ y ∷ zs) (x ∷ inserted r (y ∷ zs)))
+    by_case : (b : Bool) → take 2 (cond b (r ∷ x ∷ y ∷ []) (x ∷ inserted r (y ∷ [])))
+        ≡ take 2 (cond b (r ∷ x ∷ y ∷ zs) (x ∷ inserted r (y ∷ zs)))
     by_case true = refl
     by_case false = ap (λ v. x ∷ v) (sym (first_one r y zs))

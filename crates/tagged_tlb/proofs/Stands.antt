@@ -26,7 +26,8 @@ in_get [] i d h = absurd (omega (arith, h))
 in_get (x ∷ xs) zero d h = inl refl
 in_get (x ∷ xs) (suc i) d h = inr (in_get xs i d (omega (arith, h)))
 
-in_whole_by : {X : Type 0} (p : X → Bool) (y x : X) (xs : List X) (b : Bool) → (In y (filter p xs) → In y xs) → In y (cond b (x ∷ filter p xs) (filter p xs))
+in_whole_by : {X : Type 0} (p : X → Bool) (y x : X) (xs : List X) (b : Bool) → (In y (filter p xs) → In y xs)
+    → In y (cond b (x ∷ filter p xs) (filter p xs))
     → In y (x ∷ xs)
 in_whole_by p y x xs true rest (inl e) = inl e
 in_whole_by p y x xs true rest (inr i) = inr (rest i)
@@ -37,7 +38,8 @@ pub in_whole : {X : Type 0} (p : X → Bool) (y : X) (xs : List X) → In y (fil
 in_whole p y [] i = i
 in_whole p y (x ∷ xs) i = in_whole_by p y x xs (p x) (in_whole p y xs) i
 
-in_filter_by : {X : Type 0} (p : X → Bool) (y x : X) (xs : List X) (b : Bool) → p x ≡ b → p y ≡ true → (In y xs → In y (filter p xs)) → In y (x ∷ xs)
+in_filter_by : {X : Type 0} (p : X → Bool) (y x : X) (xs : List X) (b : Bool) → p x ≡ b → p y ≡ true → (In y xs → In y (filter p xs))
+    → In y (x ∷ xs)
     → In y (cond b (x ∷ filter p xs) (filter p xs))
 in_filter_by p y x xs true e t rest (inl f) = inl f
 in_filter_by p y x xs true e t rest (inr i) = inr (rest i)

@@ -1,5 +1,6 @@
 -- A row that served goes last: in its set, and in the list of all rows.
-use Rattle.std.proofs.Common.{◌≡◌, ℕ, zero, suc, ◌<◌, Bool, true, false, not, cond, List, [], ◌∷◌, ◌++◌, length, get_or, set, refl, ap, sym, ◌∙◌}
+use Rattle.std.proofs.Common.{◌≡◌, ℕ, zero, suc, ◌<◌, Bool, true, false, not, cond, List, []}
+use Rattle.std.proofs.Common.{◌∷◌, ◌++◌, length, get_or, set, refl, ap, sym, ◌∙◌}
 use Rattle.std.proofs.Common.{subst, arith, inl, inr}
 use Rattle.std.specs.Prelude.{filter, ◌==◌}
 use Rattle.std.specs.List.{remove}
@@ -52,8 +53,10 @@ module _ (q : Row → Bool) (d : Row) where
   module _ (y : Row) (ys : List Row) (o : IsOther y ys) (rest : (k : ℕ) → k < length (filter q ys) → Loses ys k) where
     kept : (k : ℕ) → k < length (filter q ys) → filter (λ x. not (is_row (get_or (filter q ys) k d) x)) (y ∷ ys) ≡ y ∷ without q ys k
     kept k lt =
-        let no : is_row (get_or (filter q ys) k d) y ≡ false = turned (get_or (filter q ys) k d) y ∙ other_at y (filter q ys) k d (other_filter q y ys o) lt in
-        ap (λ b. cond (not b) (y ∷ filter (λ x. not (is_row (get_or (filter q ys) k d) x)) ys) (filter (λ x. not (is_row (get_or (filter q ys) k d) x)) ys)) no
+        let no : is_row (get_or (filter q ys) k d) y ≡ false = turned (get_or (filter q ys) k d) y
+        ∙ other_at y (filter q ys) k d (other_filter q y ys o) lt in
+        ap (λ b. cond (not b) (y ∷ filter (λ x. not (is_row (get_or (filter q ys) k d) x)) ys)
+        (filter (λ x. not (is_row (get_or (filter q ys) k d) x)) ys)) no
         ∙ ap (λ v. y ∷ v) (rest k lt)
 
     loses_by : (b : Bool) (way : ℕ) → way < length (cond b (y ∷ filter q ys) (filter q ys))
@@ -97,7 +100,8 @@ module _ (k : Kind) (n at way : ℕ) (d : Row) (live : List Row) (sets : List (L
   within2 = subst (λ xs. way < length xs) (f.each at lt) within
 
   to_end_is : to_end live r ≡ rest ++ r ∷ []
-  to_end_is = ap (λ (v : Row). filter (λ x. not (is_row v x)) live ++ r ∷ []) r_is ∙ ap (λ xs. xs ++ r ∷ []) (loses (in_set k n at) d live way told within2)
+  to_end_is = ap (λ (v : Row). filter (λ x. not (is_row v x)) live ++ r ∷ []) r_is ∙ ap (λ xs. xs ++ r ∷ [])
+      (loses (in_set k n at) d live way told within2)
 
   r_in : in_set k n at r ≡ true
   r_in = rw r_is (passes (in_set k n at) d live way within2)
@@ -112,7 +116,8 @@ module _ (k : Kind) (n at way : ℕ) (d : Row) (live : List Row) (sets : List (L
       ∙ filter-other (in_set k n at) (in_set k n s) (apart_set n s at k ne) live way))
 
   -- the other kinds keep their sets
-  pub touched_other : (j : Kind) (m : ℕ) → same_kind j k ≡ false → (theirs : List (List Row)) → IsTied j m live theirs → IsTied j m (to_end live r) theirs
+  pub touched_other : (j : Kind) (m : ℕ) → same_kind j k ≡ false → (theirs : List (List Row)) → IsTied j m live theirs
+      → IsTied j m (to_end live r) theirs
   touched_other j m ne theirs g =
       rw to_end_is
       (kept_tied j m live (rest ++ r ∷ []) theirs g

@@ -1,5 +1,6 @@
 //! One set: small heads in the order of rank, which move, and trails, which stay in their slots.
-ghost use Rattle.std.specs.Prelude.{◌≡◌, ℕ, ◌+◌, ◌<◌, ◌≤◌, [], ◌∷◌, ◌++◌, not, length, get_or, filter, IfOk, false, true, vec_len, vec_capacity};
+ghost use Rattle.std.specs.Prelude.{◌≡◌, ℕ, ◌+◌, ◌<◌, ◌≤◌, [], ◌∷◌, ◌++◌, not, length};
+ghost use Rattle.std.specs.Prelude.{get_or, filter, IfOk, false, true, vec_len, vec_capacity};
 ghost use Rattle.std.specs.List.{remove, list_any};
 ghost use Rattle.tagged_tlb.specs.declared.row.Row as declared_row;
 ghost use Rattle.tlbi_ops.specs.Covers.{covers};

@@ -1,5 +1,6 @@
 //! The sets of one kind of rows.
-ghost use Rattle.std.specs.Prelude.{◌≡◌, ℕ, ◌<◌, ◌≤◌, ◌^◌, List, [], ◌∷◌, ◌++◌, not, length, get_or, map, filter, replicate, IfOk, take, option_map, false, IfSome};
+ghost use Rattle.std.specs.Prelude.{◌≡◌, ℕ, ◌<◌, ◌≤◌, ◌^◌, List, [], ◌∷◌, ◌++◌, not, length};
+ghost use Rattle.std.specs.Prelude.{get_or, map, filter, replicate, IfOk, take, option_map, false, IfSome};
 ghost use Rattle.trace_lang.specs.Traces.{Header};
 ghost use Rattle.tlbi_ops.specs.Covers.{covers};
 ghost use Rattle.tagged_tlb.specs.declared.row.Row as declared_row;
@@ -205,7 +206,8 @@ impl<const SETS: usize, const WAYS: usize> Tlb<SETS, WAYS> {
     /// The row at a place of a set goes last.
     pub fn touch(&mut self, slot: Slot)
         requires { IsWithin self.old slot }
-        ensures { (d : declared_row.Row) → (kind : declared_kind.Kind) → (live : List declared_row.Row) → AreToldApart live → IsTied kind SETS live self.old →
+        ensures { (d : declared_row.Row) → (kind : declared_kind.Kind) → (live : List declared_row.Row) → AreToldApart live
+            → IsTied kind SETS live self.old →
             IsTied kind SETS (to_end live (slot_row d self.old slot)) self.new }
     {
         let set = &mut self.sets[slot.set];

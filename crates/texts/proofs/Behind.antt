@@ -1,5 +1,6 @@
 -- What is written behind a text that stands at the front of an array.
-use Rattle.std.proofs.Common.{◌≡◌, ℕ, ◌+◌, ◌-◌, ◌≤◌, List, ◌++◌, length, take, drop, sym, ◌∙◌, ap, arith, append_assoc, length-append, length-drop}
+use Rattle.std.proofs.Common.{◌≡◌, ℕ, ◌+◌, ◌-◌, ◌≤◌, List, ◌++◌, length, take, drop, sym}
+use Rattle.std.proofs.Common.{◌∙◌, ap, arith, append_assoc, length-append, length-drop}
 use Rattle.std.proofs.lemmas.List.{length-take-le, take-take, take_at}
 use Rattle.std.proofs.Math.Seq.{take-append-add, take-add}
 
@@ -8,7 +9,8 @@ pub front_part : (k r : ℕ) (a b : List ℕ) → k ≤ r → take r a ≡ take 
 front_part k r a b h e = sym (take-take k r a h) ∙ ap (take k) e ∙ take-take k r b h
 
 -- four writes, each before the last
-pub fronts : (old a b c d : List ℕ) (i j k l : ℕ) → j + 2 ≡ i → k + 2 ≡ j → l + 2 ≡ k → take i a ≡ take i old → take j b ≡ take j a → take k c ≡ take k b
+pub fronts : (old a b c d : List ℕ) (i j k l : ℕ) → j + 2 ≡ i → k + 2 ≡ j → l + 2 ≡ k → take i a ≡ take i old → take j b ≡ take j a
+    → take k c ≡ take k b
     → take l d ≡ take l c → take l d ≡ take l old
 fronts old a b c d i j k l h m n p q r s =
     s ∙ front_part l k c b (omega arith) r ∙ front_part l j b a (omega arith) q ∙ front_part l i a old (omega arith) p
@@ -55,7 +57,8 @@ copied end start count most last size old new room behind text whole rest less f
 
 -- a number that was written first, and then its head
 pub headed : (end after count size : ℕ) (old some new head text : List ℕ) → length some ≡ length old → after ≡ end + size + count
-    → after ≤ length old → 7 ≤ size → drop (after - count) some ≡ text ++ drop after old → take (after - (count + 7)) some ≡ take (after - (count + 7)) old
+    → after ≤ length old → 7 ≤ size → drop (after - count) some ≡ text ++ drop after old
+    → take (after - (count + 7)) some ≡ take (after - (count + 7)) old
     → take (end + size) new ≡ take end some ++ head → drop (end + size) new ≡ drop (end + size) some
     → take after new ≡ take end old ++ (head ++ text)
 headed end after count size old some new head text same at within wide is front put behind =

@@ -1,5 +1,6 @@
 -- The last hexadecimal digits of a number, and those without zeros in front.
-use Rattle.std.proofs.Common.{◌≡◌, ℕ, ◌+◌, ◌-◌, ◌*◌, ◌/◌, ◌%◌, ◌^◌, ◌<◌, ◌≤◌, zero, suc, List, ◌∷◌, ◌++◌, false, drop, max, ap, refl, arith, ◌∙◌, sym, subst}
+use Rattle.std.proofs.Common.{◌≡◌, ℕ, ◌+◌, ◌-◌, ◌*◌, ◌/◌, ◌%◌, ◌^◌, ◌<◌, ◌≤◌, zero, suc}
+use Rattle.std.proofs.Common.{List, ◌∷◌, ◌++◌, false, drop, max, ap, refl, arith, ◌∙◌, sym, subst}
 use Rattle.std.proofs.lemmas.List.{drop-drop}
 use Rattle.std.specs.Prelude.{bit_or}
 use Rattle.std.proofs.lemmas.Nat.{leading_top, pow-add, le_or_l, le_or_r, or_lt}

@@ -1,5 +1,6 @@
 -- The digits of a number, the last one first, before a text that stands.
-use Rattle.std.proofs.Common.{◌≡◌, ℕ, ◌+◌, ◌-◌, ◌/◌, ◌%◌, ◌<◌, ◌≤◌, ◌^◌, zero, suc, List, [], ◌∷◌, ◌++◌, Bool, true, false, sym, ◌∙◌, ap, refl, arith, eqb, subst, append_assoc}
+use Rattle.std.proofs.Common.{◌≡◌, ℕ, ◌+◌, ◌-◌, ◌/◌, ◌%◌, ◌<◌, ◌≤◌, ◌^◌, zero, suc, List, [], ◌∷◌}
+use Rattle.std.proofs.Common.{◌++◌, Bool, true, false, sym, ◌∙◌, ap, refl, arith, eqb, subst, append_assoc}
 use Rattle.std.specs.Fmt.{digits, digits_onto, digit_glyph}
 use Rattle.std.proofs.Math.Nat.{div-lt_iff_lt-mul, pow-suc}
 
@@ -25,7 +26,8 @@ unfolding onto
 onto_none radix n acc = refl
 
 acc_case : (room radix n : ℕ) (acc : List ℕ) (b : Bool) → eqb (n / radix) 0 ≡ b →
-    ((m : ℕ) (more : List ℕ) → onto room radix m more ≡ onto room radix m [] ++ more) → onto (suc room) radix n acc ≡ onto (suc room) radix n [] ++ acc
+    ((m : ℕ) (more : List ℕ) → onto room radix m more ≡ onto room radix m [] ++ more)
+    → onto (suc room) radix n acc ≡ onto (suc room) radix n [] ++ acc
 acc_case room radix n acc true e ih = onto_last room radix n acc e ∙ sym (ap (λ (x : List ℕ). x ++ acc) (onto_last room radix n [] e))
 acc_case room radix n acc false e ih =
     let d : ℕ = digit_glyph false (n % radix) in

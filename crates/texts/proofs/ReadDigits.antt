@@ -1,5 +1,6 @@
 -- A number read digit by digit.
-use Rattle.std.proofs.Common.{◌≡◌, ℕ, ◌+◌, ◌*◌, ◌^◌, ◌<◌, ◌≤◌, List, [], ◌∷◌, length, drop, get_or, Some, None, Bool, true, false, cond, ap, refl, arith, ltb, ◌&&◌}
+use Rattle.std.proofs.Common.{◌≡◌, ℕ, ◌+◌, ◌*◌, ◌^◌, ◌<◌, ◌≤◌, List, [], ◌∷◌, length, drop}
+use Rattle.std.proofs.Common.{get_or, Some, None, Bool, true, false, cond, ap, refl, arith, ltb, ◌&&◌}
 use Rattle.std.specs.Char.{digit_value}
 use Rattle.std.specs.Str.Parse.{digits_value, digits_value_after}
 use Rattle.std.proofs.lemmas.Bool.Decides.{nat_tests}
@@ -29,7 +30,8 @@ pub too_large : (radix most : ℕ) (ds : List ℕ) → 2 ^ 64 ≤ digits_value r
 too_large radix most ds h = rw (not_below (digits_value radix ds) (2 ^ 64) h, and_false) refl
 
 -- one digit more gives a value that is too large
-pub too_large_at : (radix most n i : ℕ) (ds : List ℕ) → 1 ≤ radix → i < length ds → digits_value_after radix n (drop i ds) ≡ digits_value radix ds →
+pub too_large_at : (radix most n i : ℕ) (ds : List ℕ) → 1 ≤ radix → i < length ds
+    → digits_value_after radix n (drop i ds) ≡ digits_value radix ds →
     2 ^ 64 ≤ n * radix + digit_value (get_or ds i 0) → number_in radix most ds ≡ None
 too_large_at radix most n i ds h k e m =
     let step : digits_value_after radix n (drop i ds) ≡ digits_value_after radix (n * radix + digit_value (get_or ds i 0)) (drop (i + 1) ds) =
@@ -44,5 +46,6 @@ none_grown m h = grind (arith, nat_tests)
 
 -- all are read
 pub all_read : (radix most n i : ℕ) (ds : List ℕ) → 0 < length ds → length ds ≤ most → length ds ≤ i → n < 2 ^ 64 →
-    all_digits radix (drop i ds) ≡ all_digits radix ds → digits_value_after radix n (drop i ds) ≡ digits_value radix ds → Some n ≡ number_in radix most ds
+    all_digits radix (drop i ds) ≡ all_digits radix ds → digits_value_after radix n (drop i ds) ≡ digits_value radix ds
+    → Some n ≡ number_in radix most ds
 all_read radix most n i ds h k m fits a v = grind (arith, common_steps, nat_tests)

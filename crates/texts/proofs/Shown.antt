@@ -5,7 +5,8 @@ use Rattle.std.proofs.Math.Nat.{min_comm}
 use Rattle.texts.specs.Shown.{shown, shown_byte}
 
 -- all bytes that are shown were put
-pub all_shown : (count i : ℕ) (name room : List ℕ) → count ≡ min (length name) 64 → i ≤ length (take count name) → length (take count name) ≤ i →
+pub all_shown : (count i : ℕ) (name room : List ℕ) → count ≡ min (length name) 64 → i ≤ length (take count name)
+    → length (take count name) ≤ i →
     take i room ≡ map shown_byte (take i (take count name)) → take count room ≡ shown name
 all_shown count i name room least most all text =
     let size : length (take count name) ≡ count = length-take-le count name (omega arith) in

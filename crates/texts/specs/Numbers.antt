@@ -1,5 +1,6 @@
 -- Numbers in words. The form is this project's own rule.
-use Rattle.std.specs.Prelude.{ℕ, ◌^◌, List, [], ◌∷◌, length, drop, take, Option, Some, None, Bool, true, ◌&&◌, nat_lt, nat_le, bytes_eq, codes, if◌then◌else◌}
+use Rattle.std.specs.Prelude.{ℕ, ◌^◌, List, [], ◌∷◌, length, drop, take, Option, Some, None, Bool, true}
+use Rattle.std.specs.Prelude.{◌&&◌, nat_lt, nat_le, bytes_eq, codes, if◌then◌else◌}
 use Rattle.std.specs.Char.{digit_value}
 use Rattle.std.specs.Str.Parse.{digits_value}
 

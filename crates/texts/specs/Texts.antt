@@ -1,5 +1,6 @@
 -- Numbers in texts. The forms are this project's own rule.
-use Rattle.std.specs.Prelude.{◌≡◌, ℕ, zero, suc, ◌≤◌, ◌<◌, ◌-◌, ◌*◌, ◌/◌, ◌%◌, ◌^◌, max, List, [], ◌∷◌, ◌++◌, false, length, take, drop, codes, flat_map}
+use Rattle.std.specs.Prelude.{◌≡◌, ℕ, zero, suc, ◌≤◌, ◌<◌, ◌-◌, ◌*◌, ◌/◌, ◌%◌, ◌^◌, max}
+use Rattle.std.specs.Prelude.{List, [], ◌∷◌, ◌++◌, false, length, take, drop, codes, flat_map}
 use Rattle.std.specs.Fmt.{digits, digit_glyph}
 
 -- the parts of a text, one behind the other

@@ -1,4 +1,5 @@
-ghost use Rattle.std.specs.Prelude.{◌≡◌, ◌++◌, ℕ, ◌≤◌, ◌<◌, ◌+◌, ◌*◌, ◌^◌, List, [], take, length, map, false, decimal, if◌then◌else◌};
+ghost use Rattle.std.specs.Prelude.{◌≡◌, ◌++◌, ℕ, ◌≤◌, ◌<◌, ◌+◌, ◌*◌, ◌^◌, List};
+ghost use Rattle.std.specs.Prelude.{[], take, length, map, false, decimal, if◌then◌else◌};
 ghost use Rattle.std.specs.Fmt.{digits, digit_glyph};
 ghost use Rattle.texts.specs.Texts.{hex_text, byte_text, pair_text, ArePairs};
 ghost use Rattle.texts.specs.Shown.{shown, shown_byte};

@@ -12,12 +12,14 @@ use Rattle.tlbi_ops.specs.Laws.{end_of, StaysBelow, EndsBelow}
 cut_below : (end start count address : ℕ) → start ≤ address → address < start + min count (end - start) → address < end
 cut_below end start count a h below = omega arith
 
-range_below : (operand : ℕ) (start : ℕ → ℕ) (end : ℕ) (granule : Option ℕ) (address : ℕ) → (range_with operand start end granule).start ≤ address
+range_below : (operand : ℕ) (start : ℕ → ℕ) (end : ℕ) (granule : Option ℕ) (address : ℕ)
+    → (range_with operand start end granule).start ≤ address
     → address < (range_with operand start end granule).start + (range_with operand start end granule).count → address < end
 range_below w start end None a h below = omega arith
 range_below w start end (Some g) a h below = omega arith
 
-stays : (w : ℕ) (scope : Scope) (address : ℕ) → (extent_by w scope).start ≤ address → address < (extent_by w scope).start + (extent_by w scope).count →
+stays : (w : ℕ) (scope : Scope) (address : ℕ) → (extent_by w scope).start ≤ address
+    → address < (extent_by w scope).start + (extent_by w scope).count →
     address < end_of scope
 stays w All a h below = omega arith
 stays w Vmid a h below = omega arith

@@ -14,8 +14,10 @@ use Rattle.tlbi_ops.specs.Laws.{TakesMore, Widens}
 by_parts : (less more : Op)
     → ((i : Inval) (t : Tag) → suits_vmid (form_of less).scope (record i { op = less }) t ≡ true →
     suits_vmid (form_of more).scope (record i { op = more }) t ≡ true)
-    → ((i : Inval) (t : Tag) → is_in (form_of less).scope (record i { op = less }) t ≡ true → is_in (form_of more).scope (record i { op = more }) t ≡ true)
-    → ((i : Inval) (t : Tag) → suits_asid (form_of less) (record i { op = less }) t ≡ true → suits_asid (form_of more) (record i { op = more }) t ≡ true)
+    → ((i : Inval) (t : Tag) → is_in (form_of less).scope (record i { op = less }) t ≡ true
+    → is_in (form_of more).scope (record i { op = more }) t ≡ true)
+    → ((i : Inval) (t : Tag) → suits_asid (form_of less) (record i { op = less }) t ≡ true
+    → suits_asid (form_of more) (record i { op = more }) t ≡ true)
     → ((t : Tag) → suits_level (form_of less) t ≡ true → suits_level (form_of more) t ≡ true) → TakesMore less more
 unfolding covers
 by_parts less more v s a l i t e =

@@ -7,7 +7,8 @@ use Rattle.statuses.specs.Stops.{Form, Named, refusal_in, PassesBy, IsRefusedBy,
 use Rattle.answers.specs.Answers.{words_refusal, files_of, IsTextOf, StopsIn}
 use Rattle.top_call.specs.Clauses.{SurelyPassesBy, IsSurelyRefusedBy, SurelyStops, IsRead, SurelyStopsIn, AllPass}
 use Rattle.answers.specs.Answers.{Due, MayEndBy, MayEnd, IsText, IsDue}
-use Rattle.top_call.specs.Clauses.{SurelyEndsBy, SurelyEnds, IsAnswerable, Tells, Comes, UsageWhere, RefusedWhere, NoFileWhere, ReadFaultWhere, WriteFaultWhere, DoneWhere, Completes, IsComplete}
+use Rattle.top_call.specs.Clauses.{SurelyEndsBy, SurelyEnds, IsAnswerable, Tells, Comes, UsageWhere, RefusedWhere, NoFileWhere}
+use Rattle.top_call.specs.Clauses.{ReadFaultWhere, WriteFaultWhere, DoneWhere, Completes, IsComplete}
 use Rattle.answers.proofs.Passing.{PassAll, text_passes}
 use Rattle.statuses.specs.declared.status.Why.{Why}
 use Rattle.statuses.specs.declared.status.Status.{Status}
@@ -120,7 +121,8 @@ module _ (r : Reading) where
   surely_pass (f ∷ fs) want (n, inr s) p = surely_pass fs want s.1 p.1
 
   -- a command that surely ends otherwise has no text
-  text_ends : (a : Asked) (o : Option Why) (want : Status) (text : List ℕ) → o ≡ None → SurelyEndsBy r o (files_of a) want → IsTextOf r.holds a text → ⊥
+  text_ends : (a : Asked) (o : Option Why) (want : Status) (text : List ℕ) → o ≡ None → SurelyEndsBy r o (files_of a) want → IsTextOf r.holds a text
+      → ⊥
   text_ends a (Some why) want text e s t = let bad : Some why ≡ None = e in cc
   text_ends a None want text e s t = surely_pass (files_of a) want s (text_passes r.holds a text t)
 
@@ -153,7 +155,8 @@ module _ (r : Reading) where
     was_due (Err st) status x (inl w) e n m = ap (λ z. Err z) (sym w.0 ∙ e)
     was_due due status x (inr f) e n m = absurd (m (sym e ∙ f.0))
 
-    due_as : (asked : Option Asked) (due : Due) (status x : Status) → IsDue r asked due → Tells out err due status → status ≡ x → x ≢ Done → x ≢ WriteFault
+    due_as : (asked : Option Asked) (due : Due) (status x : Status) → IsDue r asked due → Tells out err due status → status ≡ x → x ≢ Done
+        → x ≢ WriteFault
         → IsDue r asked (Err x)
     due_as asked due status x d t e n m = subst (IsDue r asked) (was_due due status x t e n m) d
 
@@ -201,24 +204,28 @@ module _ (r : Reading) where
     ends_comes a want (Ok text) status s d t = absurd (text_ends a (words_refusal a) want text d.0 s d.1)
     ends_comes a want (Err st) status s d t = ends_due a (words_refusal a) want st status s d t
 
-    ended : (asked : Option Asked) (x : Status) → x ≢ Usage → x ≢ NoMemory → IsDue r asked (Err x) → (a : Asked) × (asked ≡ Some a) × MayEnd r a x
+    ended : (asked : Option Asked) (x : Status) → x ≢ Usage → x ≢ NoMemory → IsDue r asked (Err x)
+        → (a : Asked) × (asked ≡ Some a) × MayEnd r a x
     ended None x n m (inl e) = absurd (n e)
     ended None x n m (inr e) = absurd (m e)
     ended (Some a) x n m d = (a, refl, d)
 
-    pub refused_where : (asked : Option Asked) (due : Due) (status : Status) → IsDue r asked due → Tells out err due status → RefusedWhere r err asked status
+    pub refused_where : (asked : Option Asked) (due : Due) (status : Status) → IsDue r asked due → Tells out err due status
+        → RefusedWhere r err asked status
     refused_where asked due status d t = record {
       only = λ why e. ended asked (Refused why) (λ h. cc) (λ h. cc) (due_as asked due status (Refused why) d t e (λ h. cc) (λ h. cc));
       due = λ a e why s. ends_comes a (Refused why) due status s (subst (λ z. IsDue r z due) e d) t;
     }
 
-    pub no_file_where : (asked : Option Asked) (due : Due) (status : Status) → IsDue r asked due → Tells out err due status → NoFileWhere r err asked status
+    pub no_file_where : (asked : Option Asked) (due : Due) (status : Status) → IsDue r asked due → Tells out err due status
+        → NoFileWhere r err asked status
     no_file_where asked due status d t = record {
       only = λ name e. ended asked (NoFile name) (λ h. cc) (λ h. cc) (due_as asked due status (NoFile name) d t e (λ h. cc) (λ h. cc));
       due = λ a e name s. ends_comes a (NoFile name) due status s (subst (λ z. IsDue r z due) e d) t;
     }
 
-    pub read_fault_where : (asked : Option Asked) (due : Due) (status : Status) → IsDue r asked due → Tells out err due status → ReadFaultWhere r asked status
+    pub read_fault_where : (asked : Option Asked) (due : Due) (status : Status) → IsDue r asked due → Tells out err due status
+        → ReadFaultWhere r asked status
     read_fault_where asked due status d t e = ended asked ReadFault (λ h. cc) (λ h. cc) (due_as asked due status ReadFault d t e (λ h. cc) (λ h. cc))
 
     pub write_fault_where : (asked : Option Asked) (due : Due) (status : Status) → IsDue r asked due → Tells out err due status
@@ -232,7 +239,8 @@ module _ (r : Reading) where
     done_by None text d t e = absurd d
     done_by (Some a) text d t e = (a, text, refl, d, t, e)
 
-    pub done_where : (asked : Option Asked) (due : Due) (status : Status) → IsDue r asked due → Tells out err due status → DoneWhere r out err asked status
+    pub done_where : (asked : Option Asked) (due : Due) (status : Status) → IsDue r asked due → Tells out err due status
+        → DoneWhere r out err asked status
     done_where asked (Ok text) status d (inl w) e = done_by asked text d w.1 w.2
     done_where asked (Err st) status d (inl w) e = absurd (never_done asked (subst (λ z. IsDue r asked (Err z)) (sym w.0 ∙ e) d))
     done_where asked due status d (inr f) e = let h : Done ≡ WriteFault = sym e ∙ f.0 in absurd cc
@@ -241,11 +249,13 @@ module _ (r : Reading) where
     complete_by (Some why) fs st e p d = absurd (let bad : Some why ≡ None = e in cc)
     complete_by None fs st e p d = pass_in fs st p d
 
-    complete_due : (a : Asked) (due : Due) (status : Status) → IsAnswerable r a → (WriteFails out → ⊥) → IsDue r (Some a) due → Tells out err due status
+    complete_due : (a : Asked) (due : Due) (status : Status) → IsAnswerable r a → (WriteFails out → ⊥) → IsDue r (Some a) due
+        → Tells out err due status
         → Completes err status
     complete_due a (Ok text) status k g d (inl w) = inl w.0
     complete_due a (Ok text) status k g d (inr w) = absurd (g w.1.0)
     complete_due a (Err st) status k g d t = inr (comes_as st NoMemory status (complete_by (words_refusal a) (files_of a) st k.0 k.1 d) t)
 
-    pub complete_where : (asked : Option Asked) (due : Due) (status : Status) → IsDue r asked due → Tells out err due status → IsComplete r out err asked status
+    pub complete_where : (asked : Option Asked) (due : Due) (status : Status) → IsDue r asked due → Tells out err due status
+        → IsComplete r out err asked status
     complete_where asked due status d t a e k g = complete_due a due status k g (subst (λ z. IsDue r z due) e d) t

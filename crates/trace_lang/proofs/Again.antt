@@ -1,5 +1,6 @@
 -- The canonical text of a trace is read as that trace.
-use Rattle.std.proofs.Common.{◌≡◌, ℕ, ◌+◌, ◌*◌, ◌<◌, ◌≤◌, ◌^◌, true, false, not, ◌&&◌, List, [], ◌∷◌, ◌++◌, length, flat_map, Result, Ok, Err, refl, sym, ◌∙◌, ap, arith, subst, codes, append_assoc, append-nil, length-append}
+use Rattle.std.proofs.Common.{◌≡◌, ℕ, ◌+◌, ◌*◌, ◌<◌, ◌≤◌, ◌^◌, true, false, not, ◌&&◌, List, [], ◌∷◌, ◌++◌, length}
+use Rattle.std.proofs.Common.{flat_map, Result, Ok, Err, refl, sym, ◌∙◌, ap, arith, subst, codes, append_assoc, append-nil, length-append}
 use Rattle.std.specs.Prelude.{decimal, nat_lt, nat_le, bytes_eq, take, All}
 use Rattle.std.specs.List.{slice_split, list_any}
 use Rattle.std.proofs.lemmas.Bool.{and_from, cond-false, not_from_false, lt-leb, le-leb, le-ltb}
@@ -43,7 +44,8 @@ AreLines words state done (x ∷ xs) = IsLine words state done x × AreLines wor
 abbrev lines_of : {X : Type 0} (words : X → List (List ℕ)) (xs : List X) → List ℕ
 lines_of words xs = flat_map (λ x. line_of (words x)) xs
 
-next_lines : {X : Type 0} (words : X → List (List ℕ)) (state : List X → State) (done xs : List X) (n : ℕ) (rest : List ℕ) → AreLines words state done xs →
+next_lines : {X : Type 0} (words : X → List (List ℕ)) (state : List X → State) (done xs : List X) (n : ℕ) (rest : List ℕ)
+    → AreLines words state done xs →
     lines_met (state done) n (slice_split is_end (lines_of words xs ++ rest)) ≡ lines_met (state (done ++ xs)) (n + length xs) (slice_split is_end rest)
 next_lines words state done [] n rest h =
     ap (λ d. lines_met (state d) n (slice_split is_end rest)) (sym (append-nil done))
@@ -94,13 +96,15 @@ base_word done r f = let l = (range_parts r f.range).2 in omega (arith, l)
 size_word : (done : List (ℕ × ℕ)) (r : ℕ × ℕ) → RangeFits done r → r.1 < 2 ^ 64
 size_word done r f = let l = (range_parts r f.range).2 in omega (arith, l)
 
-range_back : (c : ℕ) (done : List (ℕ × ℕ)) (r : ℕ × ℕ) → RangeFits done r → range_met (in_ranges c done) (range_words r) ≡ Ok (in_ranges c (done ++ r ∷ []))
+range_back : (c : ℕ) (done : List (ℕ × ℕ)) (r : ℕ × ℕ) → RangeFits done r → range_met (in_ranges c done)
+    (range_words r) ≡ Ok (in_ranges c (done ++ r ∷ []))
 range_back c done r f =
     let ws = range_words r in
     let whole : (b n : ℕ) → Result State LineRefusal = λ b n. Ok (in_ranges c (done ++ (b, n) ∷ [])) in
     let apart : (b n : ℕ) → Result State LineRefusal =
     λ b n. no_word_at ws 4 >>= (λ _. in_range 2 (not (list_any (share_byte (b, n)) done)) b >>= (λ _. whole b n)) in
-    let second : (b : ℕ) → Result State LineRefusal = λ b. number_or 3 (number_of (hex_text r.1)) >>= (λ n. in_range 3 (is_size done b n) n >>= apart b) in
+    let second : (b : ℕ) → Result State LineRefusal = λ b. number_or 3 (number_of (hex_text r.1)) >>=
+    (λ n. in_range 3 (is_size done b n) n >>= apart b) in
     go (number_or 2 (number_of (hex_text r.0))) r.0 (λ b. in_range 2 (is_base b) b >>= second) (hex_at 2 r.0 (base_word done r f))
     ∙ go (in_range 2 (is_base r.0) r.0) r.0 second (within 2 (is_base r.0) r.0 (fits_base done r f))
     ∙ go (number_or 3 (number_of (hex_text r.1))) r.1 (λ n. in_range 3 (is_size done r.0 n) n >>= apart r.0) (hex_at 3 r.1 (size_word done r f))
@@ -108,7 +112,8 @@ range_back c done r f =
     ∙ go (in_range 2 (not (list_any (share_byte r) done)) r.0) r.0 (λ _. whole r.0 r.1)
     (within 2 (not (list_any (share_byte r) done)) r.0 (not_from_false (list_any (share_byte r) done) f.apart))
 
-range_line : (c : ℕ) (done : List (ℕ × ℕ)) (r : ℕ × ℕ) → length done < most_ranges → RangeFits done r → IsLine range_words (in_ranges c) done r
+range_line : (c : ℕ) (done : List (ℕ × ℕ)) (r : ℕ × ℕ) → length done < most_ranges → RangeFits done r
+    → IsLine range_words (in_ranges c) done r
 range_line c done r l f = record {
   are = (refl, (hex_word r.0 (base_word done r f), (hex_word r.1 (size_word done r f), tt)));
   few = omega arith;
@@ -136,7 +141,8 @@ body_back h done e v ws a b l k =
     ∙ cond-false (nat_le most_events (length done)) (Err TooMany) _ (lt-leb most_events (length done) l)
     ∙ go (event_of h (v ∷ ws)) e (λ e. Ok (with_event (in_events h done) e)) k
 
-event_line : (h : Header) (done : List Event) (e : Event) → h.cores ≤ 8 → length done < most_events → IsBack h e → IsLine event_words (in_events h) done e
+event_line : (h : Header) (done : List Event) (e : Event) → h.cores ≤ 8 → length done < most_events → IsBack h e
+    → IsLine event_words (in_events h) done e
 event_line h done e m l b =
     let (v, ws, is, plain, more) = begins e in record {
       are = event_are_words h e m b.fits.0 b.words;

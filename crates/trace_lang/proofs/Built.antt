@@ -1,5 +1,6 @@
 -- What a text may name of sizes, policies and events is what a trace that was read has.
-use Rattle.std.proofs.Common.{◌≡◌, ℕ, ◌+◌, ◌++◌, Bool, true, false, not, cond, List, [], ◌∷◌, length, Some, None, Result, Ok, Err, IfOk, refl, subst}
+use Rattle.std.proofs.Common.{◌≡◌, ℕ, ◌+◌, ◌++◌, Bool, true, false, not, cond, List, []}
+use Rattle.std.proofs.Common.{◌∷◌, length, Some, None, Result, Ok, Err, IfOk, refl, subst}
 use Rattle.std.specs.Prelude.{codes, nat_lt, nat_le, bytes_eq, take, ◌-◌}
 use Rattle.std.specs.List.{list_any, list_all}
 use Rattle.trace_lang.specs.declared.header.Size.TheVariants.{NoRows}
@@ -13,13 +14,15 @@ use Rattle.permissions.specs.AccessNames.{el_of, kind_of}
 use Rattle.phys_mem.specs.Ranges.{share_byte}
 use Rattle.trace_lang.specs.Traces.{Header, most_ranges, most_events, may_issue}
 use Rattle.trace_lang.specs.Words.{word_or, word_at, number_at, name_at, no_word_at, named, words_of, is_text, in_range}
-use Rattle.trace_lang.specs.Events.{Verb, store, msr, settle, isb, tlbi, dsb, deliver, access, event_of, event_by, core_at, place_at, operand_at, pan_at, verbs, reg_names, op_names, origins, barriers}
+use Rattle.trace_lang.specs.Events.{Verb, store, msr, settle, isb, tlbi, dsb, deliver, access, event_of, event_by, core_at}
+use Rattle.trace_lang.specs.Events.{place_at, operand_at, pan_at, verbs, reg_names, op_names, origins, barriers}
 use Rattle.std.proofs.lemmas.List.Elements.{All-nil, All-push}
 use Rattle.sysregs.specs.declared.regs.Op.{Op}
 use Rattle.sysregs.specs.Refused.{msr_refused_field}
 use Rattle.trails.specs.declared.event.Event.{Event}
 use Rattle.trails.specs.declared.event.Event.TheVariants.{Msr, Tlbi}
-use Rattle.trace_lang.specs.Lines.{State, no_lines, with_header, cores_met, range_met, sizes, caches_met, policies, policy_met, ranges_met, body_met, met, words_met, line_met, without_return, lines_met, refused_in, most_line}
+use Rattle.trace_lang.specs.Lines.{State, no_lines, with_header, cores_met, range_met, sizes, caches_met, policies, policy_met, ranges_met}
+use Rattle.trace_lang.specs.Lines.{body_met, met, words_met, line_met, without_return, lines_met, refused_in, most_line}
 use Rattle.trace_lang.specs.Limits.{IsBuilt, HasNoPrefetch, is_prefetch}
 use Rattle.trace_lang.proofs.Keeping.{then_with, then_any, either, supported}
 
@@ -119,7 +122,8 @@ line_built s line h =
     either Builds (not (list_all is_text line)) (Err NotText) _ (λ _. tt)
     (λ _. either Builds (nat_lt most_line (length line)) (Err LongLine) (words_met s (words_of line)) (λ _. tt) (λ _. words_built s (words_of line) h))
 
-goes_on : (n : ℕ) (lines : List (List ℕ)) (r : Result State LineRefusal) → IfOk r Builds → ((t : State) → Builds t → IfOk (lines_met t (n + 1) lines) Builds) →
+goes_on : (n : ℕ) (lines : List (List ℕ)) (r : Result State LineRefusal) → IfOk r Builds
+    → ((t : State) → Builds t → IfOk (lines_met t (n + 1) lines) Builds) →
     IfOk (elim r as (λ _. Result State TraceRefusal) [ Ok t ↦ lines_met t (n + 1) lines | Err why ↦ Err (refused_in n why) ]) Builds
 goes_on n lines (Ok t) h k = k t h
 goes_on n lines (Err why) h k = tt

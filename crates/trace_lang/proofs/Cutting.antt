@@ -1,5 +1,6 @@
 -- A list cut at its first element that passes, and what is left to read behind a cut.
-use Rattle.std.proofs.Common.{◌≡◌, ℕ, zero, suc, ◌+◌, ◌-◌, ◌<◌, ◌≤◌, ◌==◌, ◌++◌, not, eqb, cond, ◌&&◌, List, [], ◌∷◌, length, filter, take, drop, get_or, Option, Some, None, Bool, true, false, sym, ◌∙◌, ap, refl, arith, add-one}
+use Rattle.std.proofs.Common.{◌≡◌, ℕ, zero, suc, ◌+◌, ◌-◌, ◌<◌, ◌≤◌, ◌==◌, ◌++◌, not, eqb, cond, ◌&&◌, List, []}
+use Rattle.std.proofs.Common.{◌∷◌, length, filter, take, drop, get_or, Option, Some, None, Bool, true, false, sym, ◌∙◌, ap, refl, arith, add-one}
 use Rattle.std.proofs.lemmas.List.{take_rest, take-append-drop, length-append}
 use Rattle.std.specs.Prelude.{bytes_eq}
 use Rattle.std.proofs.lemmas.Bool.{both_ways, eqb-true}
@@ -11,7 +12,8 @@ use Rattle.std.proofs.lemmas.List.Splits.{slice_split-cons_yes, slice_split-cons
 use Rattle.trace_lang.specs.Words.{is_blank}
 use Rattle.trace_lang.specs.Views.{parts_behind}
 
-pub cut_at : (p : ℕ → Bool) (xs : List ℕ) (i : ℕ) → i < length xs → ((k : ℕ) → k < i → p (get_or xs k 0) ≡ false) → p (get_or xs i 0) ≡ true →
+pub cut_at : (p : ℕ → Bool) (xs : List ℕ) (i : ℕ) → i < length xs → ((k : ℕ) → k < i → p (get_or xs k 0) ≡ false)
+    → p (get_or xs i 0) ≡ true →
     slice_split p xs ≡ take i xs ∷ slice_split p (drop (suc i) xs)
 cut_at p [] i h f t = absurd (omega arith)
 cut_at p (x ∷ xs) zero h f t = slice_split-cons_yes p x xs t
@@ -23,12 +25,14 @@ not_cut p [] f = refl
 not_cut p (x ∷ xs) f = slice_split-cons_no p x xs (f 0 (omega arith)) ∙ ap (onto_first x) (not_cut p xs (λ k l. f (suc k) (omega arith)))
 
 -- as a loop over places leaves it
-pub cut_here : (p : ℕ → Bool) (xs : List ℕ) (i : ℕ) → i < length xs → ((k : ℕ) → k < i → p (get_or xs k 0) ≡ false) → p (get_or xs i 0) ≡ true →
+pub cut_here : (p : ℕ → Bool) (xs : List ℕ) (i : ℕ) → i < length xs → ((k : ℕ) → k < i → p (get_or xs k 0) ≡ false)
+    → p (get_or xs i 0) ≡ true →
     slice_split p xs ≡ take i xs ∷ slice_split p (take (length xs - (i + 1)) (drop (i + 1) xs))
 cut_here p xs i h f t = cut_at p xs i h f t
     ∙ ap (λ (ys : List ℕ). take i xs ∷ slice_split p ys) (ap (λ (j : ℕ). drop j xs) (sym (add-one i)) ∙ sym (take_rest xs (i + 1)))
 
-pub cut_nowhere : (p : ℕ → Bool) (xs : List ℕ) (i : ℕ) → length xs ≤ i → ((k : ℕ) → k < i → p (get_or xs k 0) ≡ false) → slice_split p xs ≡ xs ∷ []
+pub cut_nowhere : (p : ℕ → Bool) (xs : List ℕ) (i : ℕ) → length xs ≤ i → ((k : ℕ) → k < i → p (get_or xs k 0) ≡ false)
+    → slice_split p xs ≡ xs ∷ []
 cut_nowhere p xs i h f = not_cut p xs (λ k l. f k (omega arith))
 
 -- the first elements all pass
@@ -39,7 +43,8 @@ all_here p (x ∷ xs) zero h f = refl
 all_here p (x ∷ xs) (suc i) h f = ap (λ b. b && list_all p xs) (f 0 (omega arith)) ∙ all_here p xs i (omega arith) (λ k l. f (suc k) (omega arith))
 
 -- as a loop over places leaves it
-pub all_behind : (p : ℕ → Bool) (xs : List ℕ) (i : ℕ) → i < length xs → ((k : ℕ) → k < i → p (get_or xs k 0) ≡ true) → p (get_or xs i 0) ≡ true →
+pub all_behind : (p : ℕ → Bool) (xs : List ℕ) (i : ℕ) → i < length xs → ((k : ℕ) → k < i → p (get_or xs k 0) ≡ true)
+    → p (get_or xs i 0) ≡ true →
     list_all p xs ≡ list_all p (take (length xs - (i + 1)) (drop (i + 1) xs))
 all_behind p xs i h f t =
     all_here p xs i h f ∙ ap (λ b. b && list_all p (drop (suc i) xs)) t

@@ -1,5 +1,6 @@
 -- Each line keeps the limits of a trace.
-use Rattle.std.proofs.Common.{◌≡◌, ℕ, ◌+◌, ◌<◌, ◌≤◌, Bool, true, false, not, ◌&&◌, cond, List, [], ◌∷◌, ◌++◌, length, Option, Some, None, Result, Ok, Err, IfOk, refl, sym, subst, arith, codes, append_assoc, append-nil, length-append, ◌^◌}
+use Rattle.std.proofs.Common.{◌≡◌, ℕ, ◌+◌, ◌<◌, ◌≤◌, Bool, true, false, not, ◌&&◌, cond, List, [], ◌∷◌, ◌++◌, length}
+use Rattle.std.proofs.Common.{Option, Some, None, Result, Ok, Err, IfOk, refl, sym, subst, arith, codes, append_assoc, append-nil, length-append, ◌^◌}
 use Rattle.std.specs.Prelude.{nat_lt, nat_le, bytes_eq, take}
 use Rattle.std.specs.List.{list_any, list_all}
 use Rattle.std.proofs.lemmas.Bool.{and_parts, ltb-true, leb-true, leb-false, not-true, both_ways}
@@ -19,11 +20,14 @@ use Rattle.sysregs.specs.Ops.{form_of, has_operand}
 use Rattle.permissions.specs.AccessNames.{el_of, kind_of}
 use Rattle.phys_mem.specs.Memory.{is_aligned}
 use Rattle.phys_mem.specs.Ranges.{share_byte, bytes_of}
-use Rattle.trace_lang.specs.Traces.{Header, Parts, IsTrace, RangeFits, RangesFitBehind, EventFits, is_within, may_issue, most_cores, most_ranges, most_events, most_memory}
+use Rattle.trace_lang.specs.Traces.{Header, Parts, IsTrace, RangeFits, RangesFitBehind, EventFits, is_within}
+use Rattle.trace_lang.specs.Traces.{may_issue, most_cores, most_ranges, most_events, most_memory}
 use Rattle.texts.specs.Results.{◌>>=◌}
 use Rattle.trace_lang.specs.Words.{in_range, number_at, name_at, no_word_at, named, words_of, is_text}
-use Rattle.trace_lang.specs.Events.{Verb, store, msr, settle, isb, tlbi, dsb, deliver, access, event_of, event_by, core_at, place_at, operand_at, pan_at, supported_by, verbs, reg_names, op_names, origins, barriers}
-use Rattle.trace_lang.specs.Lines.{State, no_lines, with_header, with_event, cores_met, is_base, is_size, range_met, caches_met, policy_met, ranges_met, body_met, met, words_met, line_met, without_return, lines_met, refused_in, most_line, sizes, policies}
+use Rattle.trace_lang.specs.Events.{Verb, store, msr, settle, isb, tlbi, dsb, deliver, access, event_of, event_by, core_at, place_at}
+use Rattle.trace_lang.specs.Events.{operand_at, pan_at, supported_by, verbs, reg_names, op_names, origins, barriers}
+use Rattle.trace_lang.specs.Lines.{State, no_lines, with_header, with_event, cores_met, is_base, is_size, range_met, caches_met, policy_met, ranges_met}
+use Rattle.trace_lang.specs.Lines.{body_met, met, words_met, line_met, without_return, lines_met, refused_in, most_line, sizes, policies}
 use Rattle.trace_lang.specs.Limits.{KeepsLimits, KeepsLimitsIn}
 
 -- WHAT HOLDS OF EACH VALUE
@@ -38,12 +42,14 @@ pub then_any : {A B : Type 0} (Q : B → Type 0) (r : Result A LineRefusal) (f :
 then_any Q (Ok x) f k = k x
 then_any Q (Err e) f k = tt
 
-pub either : {B E : Type 0} (Q : B → Type 0) (b : Bool) (r s : Result B E) → (b ≡ true → IfOk r Q) → (b ≡ false → IfOk s Q) → IfOk (cond b r s) Q
+pub either : {B E : Type 0} (Q : B → Type 0) (b : Bool) (r s : Result B E) → (b ≡ true → IfOk r Q) → (b ≡ false → IfOk s Q)
+    → IfOk (cond b r s) Q
 either Q true r s h k = h refl
 either Q false r s h k = k refl
 
 -- a number that passes a test, and what follows from the test
-pub then_passes : {B : Type 0} (Q : B → Type 0) (place : ℕ) (passes : Bool) (n : ℕ) (f : ℕ → Result B LineRefusal) → (passes ≡ true → IfOk (f n) Q) →
+pub then_passes : {B : Type 0} (Q : B → Type 0) (place : ℕ) (passes : Bool) (n : ℕ) (f : ℕ → Result B LineRefusal)
+    → (passes ≡ true → IfOk (f n) Q) →
     IfOk (in_range place passes n >>= f) Q
 then_passes Q place true n f k = k refl
 then_passes Q place false n f k = tt
@@ -149,7 +155,8 @@ one_more earlier [] r h k = (subst (λ rs. RangeFits rs r) (append-nil earlier) 
 one_more earlier (x ∷ ranges) r h k =
     (h.0, one_more (earlier ++ x ∷ []) ranges r h.1 (subst (λ rs. RangeFits rs r) (sym (append_assoc earlier (x ∷ []) ranges)) k))
 
-range_fits : (earlier : List (ℕ × ℕ)) (b n : ℕ) → is_base b ≡ true → is_size earlier b n ≡ true → not (list_any (share_byte (b, n)) earlier) ≡ true →
+range_fits : (earlier : List (ℕ × ℕ)) (b n : ℕ) → is_base b ≡ true → is_size earlier b n ≡ true
+    → not (list_any (share_byte (b, n)) earlier) ≡ true →
     RangeFits earlier (b, n)
 range_fits earlier b n base size apart =
     let (aligned, below) = and_parts (is_aligned b) (nat_lt b (2 ^ 52)) base in
@@ -160,7 +167,8 @@ range_fits earlier b n base size apart =
       apart = not-true (list_any (share_byte (b, n)) earlier) apart;
     }
 
-longer : (h : Header) (r : ℕ × ℕ) → IsHeader h → length h.ranges < most_ranges → RangeFits h.ranges r → IsHeader (record h { ranges = h.ranges ++ r ∷ [] })
+longer : (h : Header) (r : ℕ × ℕ) → IsHeader h → length h.ranges < most_ranges → RangeFits h.ranges r
+    → IsHeader (record h { ranges = h.ranges ++ r ∷ [] })
 longer h r k l f = record {
   some_cores = k.some_cores;
   cores = k.cores;
@@ -210,7 +218,8 @@ ranges_keep s w ws t e =
 
 -- LINES
 
-with_one : (t : Parts) (e : Event) → IsTrace t → length t.events < most_events → EventFits t.header e → IsTrace (record t { events = t.events ++ e ∷ [] })
+with_one : (t : Parts) (e : Event) → IsTrace t → length t.events < most_events → EventFits t.header e
+    → IsTrace (record t { events = t.events ++ e ∷ [] })
 with_one t e h l f = record {
   some_cores = h.some_cores;
   cores = h.cores;
@@ -228,7 +237,8 @@ body_keeps s w ws p t =
     then_with (EventFits s.trace.header) KeepsLimits (event_of s.trace.header ws) _ (event_fits s.trace.header ws) (λ e q.
     subst (λ phase. KeepsLimitsIn phase (with_event s e).trace) (sym p) (with_one s.trace e t (leb-false most_events (length s.trace.events) f) q))))
 
-met_keeps : (phase : Phase) (s : State) (w : List ℕ) (ws : List (List ℕ)) → s.phase ≡ phase → KeepsLimitsIn phase s.trace → IfOk (met phase s w ws) KeepsLimits
+met_keeps : (phase : Phase) (s : State) (w : List ℕ) (ws : List (List ℕ)) → s.phase ≡ phase → KeepsLimitsIn phase s.trace
+    → IfOk (met phase s w ws) KeepsLimits
 met_keeps Cores s w ws p h = either KeepsLimits (bytes_eq w (codes "cores")) (cores_met s ws) _ (λ _. cores_keeps s ws h.0 h.1) (λ _. tt)
 met_keeps Ranges s w ws p h = ranges_keep s w ws h.0 h.1
 met_keeps PolicyDue s w ws p h = either KeepsLimits (bytes_eq w (codes "policy")) (policy_met s ws) _ (λ _. policy_keeps s ws h.0 h.1) (λ _. tt)

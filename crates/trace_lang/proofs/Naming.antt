@@ -1,5 +1,6 @@
 -- The names of operations: a local form, or one with IS at its end.
-use Rattle.std.proofs.Common.{◌≡◌, ℕ, ◌+◌, ◌<◌, Bool, true, false, cond, List, [], ◌∷◌, ◌++◌, length, drop, get_or, find, map, option_map, Option, Some, None, refl, sym, ap, ◌∙◌, codes}
+use Rattle.std.proofs.Common.{◌≡◌, ℕ, ◌+◌, ◌<◌, Bool, true, false, cond, List, [], ◌∷◌, ◌++◌, length, drop}
+use Rattle.std.proofs.Common.{get_or, find, map, option_map, Option, Some, None, refl, sym, ap, ◌∙◌, codes}
 use Rattle.std.specs.Prelude.{bytes_eq}
 use Rattle.std.specs.Option.{option_or}
 use Rattle.std.proofs.lemmas.Bool.Decides.{same_from_decides}
@@ -70,7 +71,8 @@ shared_at (op ∷ ops) v =
     ∙ sym (map_cond shared (bytes_eq v (op_text op)) (Some op) (named (locals ops) v))
 
 -- a word with IS at its end
-pub with_is : (ops : List Op) (w s v : List ℕ) → s ≡ codes "IS" → v ++ s ≡ w → named (shared_forms ops) w ≡ option_map shared (named (locals ops) v)
+pub with_is : (ops : List Op) (w s v : List ℕ) → s ≡ codes "IS" → v ++ s ≡ w → named (shared_forms ops) w
+    ≡ option_map shared (named (locals ops) v)
 with_is ops w s v h e = ap (named (shared_forms ops)) (sym e ∙ ap (λ u. v ++ u) h) ∙ shared_at ops v
 
 passed : {A : Type 0} (b : Bool) (x y : Option A) → (b ≡ true → ⊥) → cond b x y ≡ y

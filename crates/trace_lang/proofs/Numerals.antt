@@ -1,5 +1,6 @@
 -- Numbers that were written are read back.
-use Rattle.std.proofs.Common.{◌≡◌, ℕ, zero, suc, ◌+◌, ◌-◌, ◌/◌, ◌%◌, ◌<◌, ◌≤◌, ◌^◌, Bool, true, false, eqb, List, [], ◌∷◌, length, Some, refl, ◌∙◌, ap, arith, subst}
+use Rattle.std.proofs.Common.{◌≡◌, ℕ, zero, suc, ◌+◌, ◌-◌, ◌/◌, ◌%◌, ◌<◌, ◌≤◌, ◌^◌, Bool, true}
+use Rattle.std.proofs.Common.{false, eqb, List, [], ◌∷◌, length, Some, refl, ◌∙◌, ap, arith, subst}
 use Rattle.std.specs.Prelude.{decimal, nat_lt}
 use Rattle.std.specs.Char.{digit_value}
 use Rattle.std.specs.Fmt.{digits, digits_onto, digit_glyph}
@@ -34,7 +35,8 @@ some zero n e l = let z : n ≡ 0 = omega arith in absurd (grind (arith, nat_tes
 some (suc k) n e l = omega arith
 
 room_case : (room k n : ℕ) (acc : List ℕ) (b : Bool) → eqb (n / 16) 0 ≡ b → 0 < k → n < 16 ^ k →
-    ((j m : ℕ) (more : List ℕ) → 0 < j → m < 16 ^ j → length (onto room m more) ≤ j + length more) → length (onto (suc room) n acc) ≤ k + length acc
+    ((j m : ℕ) (more : List ℕ) → 0 < j → m < 16 ^ j → length (onto room m more) ≤ j + length more)
+    → length (onto (suc room) n acc) ≤ k + length acc
 room_case room k n acc true e p l ih = let a = ap length (onto_last room n acc e) in omega (arith, a)
 room_case room k n acc false e p l ih =
     let d : ℕ = digit_glyph false (n % 16) in
@@ -64,7 +66,8 @@ all_are : (radix : ℕ) (ds : List ℕ) → AllDigits radix ds → all_digits ra
 all_are radix [] h = refl
 all_are radix (c ∷ cs) h = and_from (nat_lt (digit_value c) radix) (all_digits radix cs) (lt-ltb (digit_value c) radix h.0) (all_are radix cs h.1)
 
-read_in : (radix most n : ℕ) (ds : List ℕ) → 0 < length ds → length ds ≤ most → all_digits radix ds ≡ true → digits_value radix ds ≡ n → n < 2 ^ 64 →
+read_in : (radix most n : ℕ) (ds : List ℕ) → 0 < length ds → length ds ≤ most → all_digits radix ds ≡ true → digits_value radix ds ≡ n
+    → n < 2 ^ 64 →
     number_in radix most ds ≡ Some n
 read_in radix most n ds p q a v l = grind (arith, common_steps, nat_tests)
 
@@ -85,7 +88,8 @@ hex_word n h =
     word_by (hex_text n) (omega arith) (omega (arith, l)) (all_seen (digits 16 false n) d.0.1)
 
 -- a number of cores, or of a core
-one_digit : (P : List ℕ → ℕ → Type 0) → P (0x30 ∷ []) 0 → P (0x31 ∷ []) 1 → P (0x32 ∷ []) 2 → P (0x33 ∷ []) 3 → P (0x34 ∷ []) 4 → P (0x35 ∷ []) 5 →
+one_digit : (P : List ℕ → ℕ → Type 0) → P (0x30 ∷ []) 0 → P (0x31 ∷ []) 1 → P (0x32 ∷ []) 2 → P (0x33 ∷ []) 3 → P (0x34 ∷ []) 4
+    → P (0x35 ∷ []) 5 →
     P (0x36 ∷ []) 6 → P (0x37 ∷ []) 7 → P (0x38 ∷ []) 8 →
     (n : ℕ) → n ≤ 8 → P ((48 + n) ∷ []) n
 one_digit P a b c d e f g h i zero l = a
@@ -100,7 +104,8 @@ one_digit P a b c d e f g h i (suc (suc (suc (suc (suc (suc (suc (suc zero))))))
 one_digit P a b c d e f g h i (suc (suc (suc (suc (suc (suc (suc (suc (suc n))))))))) l = absurd (omega arith)
 
 pub decimal_back : (n : ℕ) → n ≤ 8 → number_of (decimal n) ≡ Some n
-decimal_back n h = ap number_of (decimal_digit n (omega arith)) ∙ one_digit (λ ds m. number_of ds ≡ Some m) refl refl refl refl refl refl refl refl refl n h
+decimal_back n h = ap number_of (decimal_digit n (omega arith)) ∙ one_digit (λ ds m. number_of ds
+    ≡ Some m) refl refl refl refl refl refl refl refl refl n h
 
 pub decimal_word : (n : ℕ) → n ≤ 8 → is_word (decimal n) ≡ true
 decimal_word n h = ap is_word (decimal_digit n (omega arith)) ∙ one_digit (λ ds m. is_word ds ≡ true) refl refl refl refl refl refl refl refl refl n h

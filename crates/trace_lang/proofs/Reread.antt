@@ -1,5 +1,6 @@
 -- The words of an event are read as that event.
-use Rattle.std.proofs.Common.{◌≡◌, ℕ, ◌<◌, ◌≤◌, ◌^◌, Bool, true, false, ◌&&◌, cond, List, [], ◌∷◌, length, Some, None, Result, Ok, Err, refl, sym, ◌∙◌, ap, arith, codes}
+use Rattle.std.proofs.Common.{◌≡◌, ℕ, ◌<◌, ◌≤◌, ◌^◌, Bool, true, false, ◌&&◌, cond, List, [], ◌∷◌}
+use Rattle.std.proofs.Common.{length, Some, None, Result, Ok, Err, refl, sym, ◌∙◌, ap, arith, codes}
 use Rattle.std.specs.Prelude.{decimal, nat_lt, bytes_eq, take}
 use Rattle.std.proofs.lemmas.Bool.{true≢false, and_from, cond-true, cond-false, lt-ltb}
 use Rattle.sysregs.specs.declared.regs.Reg.{Reg}
@@ -29,7 +30,8 @@ use Rattle.phys_mem.specs.Memory.{is_aligned}
 use Rattle.trace_lang.specs.Traces.{Header, EventFits, core_of, is_within, may_issue}
 use Rattle.texts.specs.Results.{◌>>=◌}
 use Rattle.trace_lang.specs.Words.{word_or, number_or, in_range, number_at, name_at, no_word_at, named}
-use Rattle.trace_lang.specs.Events.{Verb, store, msr, settle, isb, tlbi, dsb, deliver, access, event_of, event_by, core_at, place_at, operand_at, pan_at, supported_by, allowed_from, reg_names, op_names, origins, barriers}
+use Rattle.trace_lang.specs.Events.{Verb, store, msr, settle, isb, tlbi, dsb, deliver, access, event_of, event_by, core_at, place_at}
+use Rattle.trace_lang.specs.Events.{operand_at, pan_at, supported_by, allowed_from, reg_names, op_names, origins, barriers}
 use Rattle.trace_lang.specs.Limits.{is_prefetch, HasWords}
 use Rattle.trace_lang.specs.Canonical.{op_word, origin_text, barrier_text, event_words}
 use Rattle.trace_lang.proofs.Spaced.{is_word, AreWords}

@@ -1,5 +1,6 @@
 -- How stage 1 stands on a kept trail from its base.
-use Rattle.std.proofs.Common.{◌≡◌, ◌<◌, ◌%◌, ◌^◌, List, [], ◌∷◌, ◌++◌, length, length-append, drop, get_or, refl, sym, ap, ◌∙◌, true, false, Bool, arith, Ok, Err}
+use Rattle.std.proofs.Common.{◌≡◌, ◌<◌, ◌%◌, ◌^◌, List, [], ◌∷◌, ◌++◌, length, length-append}
+use Rattle.std.proofs.Common.{drop, get_or, refl, sym, ap, ◌∙◌, true, false, Bool, arith, Ok, Err}
 use Rattle.std.specs.Prelude.{◌&&◌, ◌||◌, if◌then◌else◌}
 use Rattle.geometry.specs.Tables.{most_left}
 use Rattle.sysregs.specs.declared.regs.Config.{Config}
@@ -47,7 +48,8 @@ base_top c s i h = both_top (stage_eq i.stage S1) (is_base i.what) _ (first_true
 pub none_top : (c : Config) (s : Side) (items : List Item) → length items ≡ 0 → EndsAtTop c s items → ⊥
 none_top c s items e t = absurd (omega (arith, e, ap length t.2, length-append t.0 (t.1 ∷ [])))
 
-by_first : {N I A : Type 0} (fit : N → I → Bool) (t : Ask N I A) (n : N) (k : I → Ask N I A) (i : I) (rest : List I) → t ≡ ask n k → fit n i ≡ true
+by_first : {N I A : Type 0} (fit : N → I → Bool) (t : Ask N I A) (n : N) (k : I → Ask N I A) (i : I) (rest : List I) → t ≡ ask n k
+    → fit n i ≡ true
     → on fit t (i ∷ rest) ≡ on fit (k i) rest
 by_first fit t n k i rest e f = rw (e, f) refl
 

@@ -61,7 +61,8 @@ module _ (under : RegsAt) (m : Told) (p : Bool) (ipa : ℕ) where
         walked_ends (Reads2 under m) m F _ (stage2_base ipa) _ base (stops (fault2 q AddressSize most_left)) old mid s asks kept refl (on_with _ h _ _) e
 
     -- the walk goes on from the base
-    pub walked_from2 : (F : Type 0) (new : List Item) (s : Result Leaf2 Stop) → is_too_large (sizes2 (config_of under.regs)) (start_base2 under.regs) ≡ false
+    pub walked_from2 : (F : Type 0) (new : List Item) (s : Result Leaf2 Stop) → is_too_large (sizes2 (config_of under.regs))
+        (start_base2 under.regs) ≡ false
         → Walked (ReadsWord under.moment m) m F (walk2_from q (sizes2 (config_of under.regs)).start (start_base2 under.regs)) mid new s
         → Walked2 m F under p ipa old new s
     walked_from2 F new s h w =

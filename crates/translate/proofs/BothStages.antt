@@ -1,5 +1,6 @@
 -- How both stages together are walked.
-use Rattle.std.proofs.Common.{◌≡◌, List, [], ◌++◌, Bool, true, false, not, Option, Some, None, refl, sym, ap, subst, append-nil, Ok, Err, if◌then◌else◌}
+use Rattle.std.proofs.Common.{◌≡◌, List, [], ◌++◌, Bool, true, false, not, Option, Some, None, refl}
+use Rattle.std.proofs.Common.{sym, ap, subst, append-nil, Ok, Err, if◌then◌else◌}
 use Rattle.sysregs.specs.declared.regs.Config.{Config}
 use Rattle.sysregs.specs.Registers.{config_of}
 use Rattle.permissions.specs.Rights.{is_allowed2}

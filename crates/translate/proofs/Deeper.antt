@@ -1,5 +1,6 @@
 -- The items of a walk through stage 2 are of stage 2.
-use Rattle.std.proofs.Common.{◌≡◌, ℕ, zero, suc, ◌<◌, ◌≤◌, List, [], ◌∷◌, ◌++◌, length, length-append, drop, refl, sym, ap, ◌∙◌, subst, true, false, Bool, cond, arith, Ok, Result, inl, inr, append-nil}
+use Rattle.std.proofs.Common.{◌≡◌, ℕ, zero, suc, ◌<◌, ◌≤◌, List, [], ◌∷◌, ◌++◌, length, length-append, drop, refl}
+use Rattle.std.proofs.Common.{sym, ap, ◌∙◌, subst, true, false, Bool, cond, arith, Ok, Result, inl, inr, append-nil}
 use Rattle.std.specs.Prelude.{◌&&◌, ◌||◌}
 use Rattle.geometry.specs.Tables.{left_below}
 use Rattle.descriptors.specs.Meaning.{means1_of}
@@ -61,21 +62,24 @@ ends_true : {A : Type 0} (b : Bool) (u : Stands Need Item A) (a : A) (rest : Lis
 ends_true true u a rest h = (refl, h)
 ends_true false u a rest h = absurd cc
 
-pub needs_deep : {A : Type 0} (r : Regime) (t : Ask Need Item A) → Only2 r t → (items : List Item) (n : Need) → on (fits r) t items ≡ needs n → AllDeep items
+pub needs_deep : {A : Type 0} (r : Regime) (t : Ask Need Item A) → Only2 r t → (items : List Item) (n : Need) → on (fits r) t items ≡ needs n
+    → AllDeep items
 needs_deep r (done a) o items n h = absurd cc
 needs_deep r (ask m k) o [] n h = tt
 needs_deep r (ask m k) o (i ∷ items) n h =
     let d = needs_true (fits r m i) (on (fits r) (k i) items) n h in
     (o.0 i d.0, needs_deep r (k i) (o.1 i) items n d.1)
 
-pub ends_deep : {A : Type 0} (r : Regime) (t : Ask Need Item A) → Only2 r t → (items : List Item) (a : A) → on (fits r) t items ≡ ends a [] → AllDeep items
+pub ends_deep : {A : Type 0} (r : Regime) (t : Ask Need Item A) → Only2 r t → (items : List Item) (a : A) → on (fits r) t items ≡ ends a []
+    → AllDeep items
 ends_deep r (done b) o items a h = let e : items ≡ [] = cc in subst AllDeep (sym e) tt
 ends_deep r (ask m k) o [] a h = tt
 ends_deep r (ask m k) o (i ∷ items) a h =
     let d = ends_true (fits r m i) (on (fits r) (k i) items) a [] h in
     (o.0 i d.0, ends_deep r (k i) (o.1 i) items a d.1)
 
-then_only : (r : Regime) (below : ℕ → Ask Need Item (End Leaf2)) → ((t : ℕ) → Only2 r (below t)) → (step : Lead Leaf2 ℕ) → Only2 r (step_then below step)
+then_only : (r : Regime) (below : ℕ → Ask Need Item (End Leaf2)) → ((t : ℕ) → Only2 r (below t)) → (step : Lead Leaf2 ℕ)
+    → Only2 r (step_then below step)
 then_only r below h (Down t) = h t
 then_only r below h (Reached l) = tt
 then_only r below h (Stopped f) = tt

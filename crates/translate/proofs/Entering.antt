@@ -1,5 +1,6 @@
 -- What stages check before their bases, by numbers that are at hand.
-use Rattle.std.proofs.Common.{◌≡◌, ℕ, ◌<◌, ◌%◌, ◌^◌, Bool, true, false, not, List, Option, Some, None, Result, Ok, Err, refl, sym, ap, ◌∙◌, subst}
+use Rattle.std.proofs.Common.{◌≡◌, ℕ, ◌<◌, ◌%◌, ◌^◌, Bool, true, false, not, List, Option}
+use Rattle.std.proofs.Common.{Some, None, Result, Ok, Err, refl, sym, ap, ◌∙◌, subst}
 use Rattle.std.specs.Prelude.{◌&&◌, ◌||◌, ℤ, if◌then◌else◌}
 use Rattle.geometry.specs.Tables.{level_of, input_size}
 use Rattle.sysregs.specs.declared.regs.Regs.{Regs}
@@ -140,9 +141,11 @@ none_sized1 c s h e = absurd cc
 pub none_sized2 : (c : Config) → IsSized2 c None → is_sized2 c ≡ true → ⊥
 none_sized2 c h e = absurd cc
 
-some_by : (c : Config) (o : Option Sizes) (kept base : ℕ) → IsSized2 c o → HasBase o kept base → (n : Sizes) → o ≡ Some n → (n ≡ sizes2 c) × AreSound n
+some_by : (c : Config) (o : Option Sizes) (kept base : ℕ) → IsSized2 c o → HasBase o kept base → (n : Sizes) → o ≡ Some n
+    → (n ≡ sizes2 c) × AreSound n
 some_by c o kept base h b n e = let k : IsSized2 c (Some n) = rw e at h in let d : HasBase (Some n) kept base = rw e at b in (k.1, d.0)
 
 -- the numbers that are there
-pub some_sized2 : (regs : Regs) (start : Start) → IsStart2 regs start → (n : Sizes) → start.sizes ≡ Some n → (n ≡ sizes2 (config_of regs)) × AreSound n
+pub some_sized2 : (regs : Regs) (start : Start) → IsStart2 regs start → (n : Sizes) → start.sizes ≡ Some n
+    → (n ≡ sizes2 (config_of regs)) × AreSound n
 some_sized2 regs start h n e = some_by (config_of regs) start.sizes start.base (start_base2 regs) h.sized h.base n e

@@ -1,5 +1,6 @@
 -- How stage 1 is walked from its base, on or off.
-use Rattle.std.proofs.Common.{◌≡◌, ℕ, List, [], ◌∷◌, Bool, true, false, None, refl, sym, ap, subst, Result, Ok, Err, ◌%◌, ◌^◌, if◌then◌else◌}
+use Rattle.std.proofs.Common.{◌≡◌, ℕ, List, [], ◌∷◌, Bool, true, false, None, refl, sym, ap}
+use Rattle.std.proofs.Common.{subst, Result, Ok, Err, ◌%◌, ◌^◌, if◌then◌else◌}
 use Rattle.geometry.specs.Tables.{most_left}
 use Rattle.sysregs.specs.declared.regs.Config.{Config}
 use Rattle.sysregs.specs.Registers.{config_of}

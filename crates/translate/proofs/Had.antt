@@ -1,5 +1,6 @@
 -- How a word of stage 1 was had, over the stage 2 of its place.
-use Rattle.std.proofs.Common.{◌≡◌, ℕ, ◌≤◌, ◌+◌, List, [], ◌∷◌, ◌++◌, length, length-append, refl, sym, ap, subst, ◌∙◌, arith, append-nil, append_assoc, true, false, Ok, Err, Result}
+use Rattle.std.proofs.Common.{◌≡◌, ℕ, ◌≤◌, ◌+◌, List, [], ◌∷◌, ◌++◌, length, length-append, refl, sym, ap}
+use Rattle.std.proofs.Common.{subst, ◌∙◌, arith, append-nil, append_assoc, true, false, Ok, Err, Result}
 use Rattle.std.specs.Prelude.{ℤ}
 use Rattle.bitwords.specs.Causes.{Rose}
 use Rattle.geometry.specs.Tables.{level_of}
@@ -43,7 +44,8 @@ pub record Had (under : RegsAt) (m : Told) (F : Type 0) (level : ℤ) (p : ℕ) 
   pub more : List Item
   pub grown : new ≡ old ++ more
   pub most : length more ≤ most_per_word
-  pub had : (side : Side) (e : Entry1) → level_of e.left ≡ level → e.place ≡ p → HadWord under m F (word_of (regime_of (config_of under.regs) side) e) more r
+  pub had : (side : Side) (e : Entry1) → level_of e.left ≡ level → e.place ≡ p → HadWord under m F
+      (word_of (regime_of (config_of under.regs) side) e) more r
   pub word : EndsInWord more r
 
 module _ (under : RegsAt) (m : Told) where
@@ -104,8 +106,10 @@ module _ (under : RegsAt) (m : Told) where
   deep_word e p = after (walk2 (asked2_of under.regs true p)) (read1_by (config_of under.regs) e)
 
   module _ (on : (config_of under.regs).vm ≡ true) (level : ℤ) (p : ℕ) (old : List Item) where
-    had_deep_at : (F : Type 0) (more : List Item) (r : Result ℕ Stop) → ((e : Entry1) → level_of e.left ≡ level → HadWord under m F (deep_word e p) more r)
-        → (s : Side) (e : Entry1) → level_of e.left ≡ level → e.place ≡ p → HadWord under m F (word_of (regime_of (config_of under.regs) s) e) more r
+    had_deep_at : (F : Type 0) (more : List Item) (r : Result ℕ Stop) → ((e : Entry1) → level_of e.left ≡ level
+        → HadWord under m F (deep_word e p) more r)
+        → (s : Side) (e : Entry1) → level_of e.left ≡ level → e.place ≡ p → HadWord under m F
+        (word_of (regime_of (config_of under.regs) s) e) more r
     had_deep_at F more r d s e q z =
         subst (λ t. HadWord under m F t more r) (sym (on_with (config_of under.regs).vm on (deep_word e e.place) (read1 e e.place)))
         (had_place F e p more r (deep_word e) z (d e q))
@@ -173,7 +177,8 @@ module _ (under : RegsAt) (m : Told) where
             word = tt;
           }
 
-      pub had_denied_by : is_readable (config_of under.regs) l ≡ false → (f : Fault) → f ≡ unreadable l → Had under m F level p old mid (Err (FaultStop f))
+      pub had_denied_by : is_readable (config_of under.regs) l ≡ false → (f : Fault) → f ≡ unreadable l
+          → Had under m F level p old mid (Err (FaultStop f))
       had_denied_by d f e = subst (λ g. Had under m F level p old mid (Err (FaultStop g))) (sym e) (had_denied d)
 
       had_more : (G H : Type 0) → (G → H) → (e : Entry1) (r : Result ℕ Stop) (js : List Item) → is_readable (config_of under.regs) l ≡ true
@@ -208,7 +213,8 @@ module _ (under : RegsAt) (m : Told) where
           }
 
 -- what the wrapper gives
-pub gave_deep : {S : Type 0} (memory : S → Told) (faults : S → ℕ) (keeps : S → S → Type 0) (d d' : Deep S) (level : ℤ) (p : ℕ) (old new : List Item)
+pub gave_deep : {S : Type 0} (memory : S → Told) (faults : S → ℕ) (keeps : S → S → Type 0) (d d' : Deep S) (level : ℤ) (p : ℕ)
+    (old new : List Item)
     (r : Result ℕ Stop) → d'.under.now ≡ d.under.now → d'.supply.ghost_name ≡ d.supply.ghost_name → memory d'.supply.now ≡ memory d.supply.now
     → faults d.supply.now ≤ faults d'.supply.now → keeps d.supply.now d'.supply.now
     → Had d.under.now (memory d.supply.now) (Rose (faults d.supply.now) (faults d'.supply.now)) level p old new r

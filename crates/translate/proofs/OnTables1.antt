@@ -1,5 +1,6 @@
 -- How stage 1 stands from a table on kept items.
-use Rattle.std.proofs.Common.{◌≡◌, ℕ, ◌-◌, ◌<◌, ◌≤◌, List, [], ◌∷◌, ◌++◌, length, drop, sym, ap, ◌∙◌, true, false, Bool, Ok, Result}
+use Rattle.std.proofs.Common.{◌≡◌, ℕ, ◌-◌, ◌<◌, ◌≤◌, List, [], ◌∷◌, ◌++◌}
+use Rattle.std.proofs.Common.{length, drop, sym, ap, ◌∙◌, true, false, Bool, Ok, Result}
 use Rattle.geometry.specs.Tables.{most_left, left_below}
 use Rattle.sysregs.specs.declared.regs.Config.{Config}
 use Rattle.sysregs.specs.declared.regs.Side.{Side}
@@ -50,7 +51,8 @@ module _ (c : Config) (a : Access) (left : ℕ) (t : Table1) (e : Entry1) (here 
     pub by_stopped : (f : Fault) → Stopped f ≡ step1 q e i.pa i.value → stands1 c a left t rest ≡ ends (stops f) more
     by_stopped f step = by_word rest _ h ∙ ap (λ s. on (fits r) (finer stops (word_of r) (walk1_then q left s)) more) (sym step)
 
-  pub by_down : (i : Item) (rest more : List Item) → on (fits r) (word_of r e) rest ≡ ends (Ok i) more → (next : Table1) → Down next ≡ step1 q e i.pa i.value
+  pub by_down : (i : Item) (rest more : List Item) → on (fits r) (word_of r e) rest ≡ ends (Ok i) more → (next : Table1)
+      → Down next ≡ step1 q e i.pa i.value
       → 0 < left → stands1 c a left t rest ≡ stands1 c a (left - 1) next more
   by_down i rest more h next step few =
       by_word rest _ h ∙ ap (λ s. on (fits r) (finer stops (word_of r) (walk1_then q left s)) more) (sym step)
@@ -70,7 +72,8 @@ module _ (c : Config) (a : Access) (left : ℕ) (t : Table1) (e : Entry1) (here 
   lifted i items rest more h next step few Unfit d = by_down i rest more h next step few ∙ d
 
 -- the walk goes on from the table in hand where no item is left
-pub goes_here : (c : Config) (a : Access) (left : ℕ) (t : Table1) (rest : List Item) (from : From1) → left ≤ most_left → rest ≡ [] → from ≡ from1_at left t
+pub goes_here : (c : Config) (a : Access) (left : ℕ) (t : Table1) (rest : List Item) (from : From1) → left ≤ most_left → rest ≡ []
+    → from ≡ from1_at left t
     → GoesOn c a left t rest from
 goes_here c a left t rest from few none e = λ more.
     ap (λ z. stands1 c a left t (z ++ more)) none ∙ ap (λ n. stands1 c a n t more) (sym (left_below_of left few))

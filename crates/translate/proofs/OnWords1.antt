@@ -1,5 +1,6 @@
 -- How the words of stage 1 stand on kept items.
-use Rattle.std.proofs.Common.{◌≡◌, ℕ, zero, suc, ◌+◌, ◌<◌, List, [], ◌∷◌, ◌++◌, length, drop, add-one, get_or, refl, sym, ap, ◌∙◌, true, false, Bool, arith, Err}
+use Rattle.std.proofs.Common.{◌≡◌, ℕ, zero, suc, ◌+◌, ◌<◌, List, [], ◌∷◌, ◌++◌, length, drop}
+use Rattle.std.proofs.Common.{add-one, get_or, refl, sym, ap, ◌∙◌, true, false, Bool, arith, Err}
 use Rattle.std.specs.Prelude.{◌&&◌}
 use Rattle.fault_codes.specs.declared.fault.Fault.{Fault}
 use Rattle.trails.specs.declared.item.Item.{Item}

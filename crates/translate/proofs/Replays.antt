@@ -1,5 +1,6 @@
 -- What a kept trail gives, by how the walk stands on it.
-use Rattle.std.proofs.Common.{◌≡◌, ℕ, zero, suc, inl, inr, ◌<◌, ◌≤◌, List, [], ◌++◌, length, length-append, drop, refl, sym, ap, ◌∙◌, true, false, arith}
+use Rattle.std.proofs.Common.{◌≡◌, ℕ, zero, suc, inl, inr, ◌<◌, ◌≤◌, List, [], ◌++◌, length}
+use Rattle.std.proofs.Common.{length-append, drop, refl, sym, ap, ◌∙◌, true, false, arith}
 use Rattle.std.specs.Prelude.{◌⊎◌}
 use Rattle.std.proofs.lemmas.List.{length-drop}
 use Rattle.sysregs.specs.declared.regs.Config.{Config}
@@ -72,7 +73,8 @@ module _ (c : Config) (a : Access) where
   other_bad items h = (λ len o d. no_end_bad _ d.0 d.2 h (whole_ends items len o d), λ m. no_needs_bad _ m.0.0 h m.0.1)
 
   -- something is needed elsewhere
-  pub other_needs : (items : List Item) (n : Need) → stands_whole c a items ≡ needs n → (EndsAtTop c (side_of a.va) items → ⊥) → IsReplayed c a items Other
+  pub other_needs : (items : List Item) (n : Need) → stands_whole c a items ≡ needs n → (EndsAtTop c (side_of a.va) items → ⊥)
+      → IsReplayed c a items Other
   other_needs items n h t = (λ len o d. no_end_needs _ n d.0 d.2 h (whole_ends items len o d), λ m. t m.1)
 
   -- the whole stands by how stage 1 stands
@@ -97,7 +99,8 @@ module _ (c : Config) (a : Access) where
         ∙ ap (λ z. then_on z (λ e more. ends (judged2 true a l e) more)) k
 
   -- behind stage 1, items that are needed for the output leave no table of stage 1 last
-  pub output_untop : (items : List Item) (at out : ℕ) (n : Need) → at ≤ length items → (at ≡ length items → EndsAtTop c (side_of a.va) items → ⊥)
+  pub output_untop : (items : List Item) (at out : ℕ) (n : Need) → at ≤ length items → (at ≡ length items → EndsAtTop c (side_of a.va) items
+      → ⊥)
       → on (fits r) (walk2 (asked2 r false out)) (drop at items) ≡ needs n → EndsAtTop c (side_of a.va) items → ⊥
   output_untop items at out n l untop h t =
       elim (le_cases at (length items) l) as (λ _. ⊥) [
@@ -117,7 +120,8 @@ module _ (c : Config) (a : Access) (items : List Item) (at : ℕ) (o1 : Option L
         → stands_whole c a items ≡ then_on s (λ d more. ends (judged2 true a (leaf1_or_off c a o1) d) more)
     by_out s k =
         let own : (leaf1_or_off c a o1).out ≡ out = sym (e ∙ out_same c a o1) in
-        by_output c a items (leaf1_or_off c a o1) (drop at items) h v s (ap (λ x. on (fits (r c a)) (walk2 (asked2 (r c a) false x)) (drop at items)) own ∙ k)
+        by_output c a items (leaf1_or_off c a o1) (drop at items) h v s (ap (λ x. on (fits (r c a)) (walk2 (asked2 (r c a) false x)) (drop at items)) own
+        ∙ k)
 
     pub line_found : (m : Leaf2) (len : ℕ) (o : Outcome) → len ≤ length items
         → on (fits (r c a)) (walk2 (asked2 (r c a) false out)) (drop at items) ≡ ends (reaches m) (drop len items) → o ≡ finish_of c a o1 (Some m)
@@ -125,7 +129,8 @@ module _ (c : Config) (a : Access) (items : List Item) (at : ℕ) (o1 : Option L
     line_found m len o l k p = ended_at c a items len (judged2 true a (leaf1_or_off c a o1) (reaches m)) o l (by_out _ k) p
 
     pub line_refused : (f : Fault) (len : ℕ) → len ≤ length items
-        → on (fits (r c a)) (walk2 (asked2 (r c a) false out)) (drop at items) ≡ ends (stops f) (drop len items) → IsReplayed c a items (Ended len (Faulted f))
+        → on (fits (r c a)) (walk2 (asked2 (r c a) false out)) (drop at items) ≡ ends (stops f) (drop len items)
+        → IsReplayed c a items (Ended len (Faulted f))
     line_refused f len l k = ended_at c a items len (stops f) (Faulted f) l (by_out _ k) refl
 
     pub line_needs : (n : Need) → (at ≡ length items → EndsAtTop c (side_of a.va) items → ⊥)

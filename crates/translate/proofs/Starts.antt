@@ -10,7 +10,8 @@ use Rattle.stage1_walk.specs.declared.walk.From1.{From1}
 use Rattle.stage2_walk.proofs.Starts.{left_below_of, level_least, level_most}
 
 -- the start table is a table of its stage
-pub table1_of : (c : Config) (s : Side) (from : From1) (n : Sizes) → n ≡ sizes1 c s → from.level ≡ level_of n.start → n.start ≤ most_left → from.base < 2 ^ 52
+pub table1_of : (c : Config) (s : Side) (from : From1) (n : Sizes) → n ≡ sizes1 c s → from.level ≡ level_of n.start → n.start ≤ most_left
+    → from.base < 2 ^ 52
     → from.base % 8 ≡ 0 → Tables1.IsTableOf c s from
 table1_of c s from n e l m b r = record {
   least = rw l (level_least n.start m);

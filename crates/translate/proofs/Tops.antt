@@ -50,11 +50,13 @@ by_reached q e p (Table next bits) l h =
     absurd (not_reached (is_too_large q.regime.stage1 next) (fault1 AddressSize e.left) record { address = next; bits = joined e.table.bits bits } l h)
 by_reached q e p (Leaf out attr_index bits sh af global contiguous) l h = refl
 
-step_down : (q : Asked) (e : Entry1) (p v : ℕ) (t : Table1) → Down t ≡ step1 q e p v → is_table (means1_of q.regime.config q.regime.side e.left v) ≡ true
+step_down : (q : Asked) (e : Entry1) (p v : ℕ) (t : Table1) → Down t ≡ step1 q e p v → is_table (means1_of q.regime.config q.regime.side e.left v)
+    ≡ true
 unfolding step1
 step_down q e p v t h = by_down q e p (means1_of q.regime.config q.regime.side e.left v) t h
 
-step_reached : (q : Asked) (e : Entry1) (p v : ℕ) (l : Leaf1) → Reached l ≡ step1 q e p v → is_table (means1_of q.regime.config q.regime.side e.left v) ≡ false
+step_reached : (q : Asked) (e : Entry1) (p v : ℕ) (l : Leaf1) → Reached l ≡ step1 q e p v
+    → is_table (means1_of q.regime.config q.regime.side e.left v) ≡ false
 unfolding step1
 step_reached q e p v l h = by_reached q e p (means1_of q.regime.config q.regime.side e.left v) l h
 

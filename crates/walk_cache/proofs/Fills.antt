@@ -22,7 +22,8 @@ module _ (h : Header) (core : ℕ) (l : Cache) (served made : List Row) where
   abbrev moved : Cache
   moved = record l { rows = touched h.policy l.rows served }
 
-  filled_by : (b : Bool) → (b ≡ false → served ≡ []) → cond b (fold (added h core) moved made) l ≡ fold (λ l r. cond b (added h core l r) l) moved made
+  filled_by : (b : Bool) → (b ≡ false → served ≡ []) → cond b (fold (added h core) moved made) l
+      ≡ fold (λ l r. cond b (added h core l r) l) moved made
   filled_by true none = refl
   filled_by false none =
       sym (none_comes moved made

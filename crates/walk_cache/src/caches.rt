@@ -97,7 +97,8 @@ impl Caches {
     /// changes.
     pub fn add(&mut self, row: Row) -> bool
         requires { row.region.class < 64 }
-        ensures added { (h : Header) → (core : ℕ) → (l : Cache) → AreCachesOf h core l self.old → AreCachesOf h core (added_to h core l row) self.new }
+        ensures added { (h : Header) → (core : ℕ) → (l : Cache) → AreCachesOf h core l self.old
+            → AreCachesOf h core (added_to h core l row) self.new }
         ensures count { (h : Header) → (core : ℕ) → (l : Cache) → AreCachesOf h core l self.old →
             (added_to h core l row).evictions ≡ l.evictions + (if result then 1 else 0) }
         ensures alike { AreAlike self.old self.new }

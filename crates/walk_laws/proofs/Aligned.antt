@@ -1,5 +1,6 @@
 -- Tables that begin with whole runs.
-use Rattle.std.proofs.Common.{◌≡◌, ℕ, ◌+◌, ◌-◌, ◌*◌, ◌/◌, ◌%◌, ◌^◌, ◌≤◌, refl, sym, ap, ◌∙◌, arith, Bool, true, false, cond, eqb}
+use Rattle.std.proofs.Common.{◌≡◌, ℕ, ◌+◌, ◌-◌, ◌*◌, ◌/◌, ◌%◌, ◌^◌, ◌≤◌}
+use Rattle.std.proofs.Common.{refl, sym, ap, ◌∙◌, arith, Bool, true, false, cond, eqb}
 use Rattle.std.proofs.lemmas.Nat.{pow-add, div-add-mod'}
 use Rattle.bitwords.specs.Fields.{bits_of, bit}
 use Rattle.geometry.specs.Tables.{IsGranule, class_of, table_size, has_block}
@@ -69,7 +70,8 @@ table2_where k nothing pointer mapping true false b2 true a next e n p m = absur
 table2_where k nothing pointer mapping true false b2 false a next e n p m = absurd cc
 
 table1_where : {S : Type 0} (k : S → Kind1) (nothing pointer mapping : S) (b0 b1 b2 b3 : Bool) (a next : ℕ) (bits bits' : TableBits) →
-    k (cond b0 (cond b1 (cond b2 mapping pointer) (cond b3 mapping nothing)) nothing) ≡ Table next bits → k nothing ≡ Invalid → k pointer ≡ Table a bits' →
+    k (cond b0 (cond b1 (cond b2 mapping pointer) (cond b3 mapping nothing)) nothing) ≡ Table next bits → k nothing ≡ Invalid
+    → k pointer ≡ Table a bits' →
     (k mapping ≡ Table next bits → ⊥) → next ≡ a
 table1_where k nothing pointer mapping false b1 b2 b3 a next bits bits' e n p m = absurd cc
 table1_where k nothing pointer mapping true true true b3 a next bits bits' e n p m = absurd (m e)
@@ -82,7 +84,8 @@ pub table2_page : (c : Config) (left w next : ℕ) → means2_of c left w ≡ Ta
 unfolding means2_of
 table2_page c left w next e =
     let q : next ≡ address_in (granule_of c.tg2) w (granule_of c.tg2) =
-    table2_where (kind2_of (granule_of c.tg2) left w) _ _ _ (bit w 0) (bit w 1) (eqb left 0) (has_block (granule_of c.tg2) left) _ next e refl refl (λ h. cc) in
+    table2_where (kind2_of (granule_of c.tg2) left w) _ _ _ (bit w 0) (bit w 1) (eqb left 0)
+    (has_block (granule_of c.tg2) left) _ next e refl refl (λ h. cc) in
     rw q (address_page (granule_of c.tg2) w (granule_of_is_granule c.tg2))
 
 pub table1_page : (c : Config) (s : Side) (left w next : ℕ) (bits : TableBits) → means1_of c s left w ≡ Table next bits → next % 2 ^ 12 ≡ 0

@@ -36,7 +36,8 @@ module _ (r : Regime) (f : IsOfFields r) (a b : Access) where
         × (Same1 r false a b n.class → InStep (fits r) (SameRegion r) (Output vm a l) (Output vm b (moved1 l (untagged b.va))) items (done (reaches n))
         (done (reaches (moved n (untagged b.va)))))
 
-    piece_again : (m : Leaf2) → m.pa ≡ goes_to m.pa m.class l.out → piece (moved1 l (untagged b.va)) (moved2 m other) ≡ moved (piece l m) (untagged b.va)
+    piece_again : (m : Leaf2) → m.pa ≡ goes_to m.pa m.class l.out → piece (moved1 l (untagged b.va)) (moved2 m other) ≡ moved (piece l m)
+        (untagged b.va)
     piece_again m e = let g : ℕ → Landing = λ z. record (piece l m) { pa = z } in ap g (goes_to_piece l.out m.pa l.class m.class (untagged b.va) e)
 
     output_deep : (front rest : List Item) (e : End Leaf2) → Takes (fits r) (walk2 (asked2 r false l.out)) front (done e) →
@@ -85,7 +86,8 @@ module _ (r : Regime) (f : IsOfFields r) (a b : Access) where
       × (Same1 r false a b n.class → is_refused1 r.config b ≡ false →
       InStep (fits r) (SameRegion r) (Whole m a) (Whole m b) items (done (reaches n)) (done (reaches (moved n (untagged b.va)))))
 
-  lands_behind : r.side ≡ side_of a.va → (front rest : List Item) (e : End Leaf1) (n : Landing) → Takes (fits r) (stage1_on (under r false a)) front (done e) →
+  lands_behind : r.side ≡ side_of a.va → (front rest : List Item) (e : End Leaf1) (n : Landing)
+      → Takes (fits r) (stage1_on (under r false a)) front (done e) →
       Takes (fits r) (stage2_behind (under r false a) e) rest (done (reaches n)) → Lands true (front ++ rest) n
   lands_behind side front rest (stops d) n w h =
       (let q : done (reaches n) ≡ done (stops d) = (done_takes (fits r) (stops d) rest (done (reaches n)) h).1 in absurd cc)
@@ -108,7 +110,8 @@ module _ (r : Regime) (f : IsOfFields r) (a b : Access) where
         | inr w ↦ rw w.3 (lands_behind side w.1 w.2 w.0 n w.4 w.5)
       ]
 
-  lands_by : (m : Bool) → m ≡ true → r.side ≡ side_of a.va → (items : List Item) (n : Landing) → Takes (fits r) (Whole m a) items (done (reaches n)) →
+  lands_by : (m : Bool) → m ≡ true → r.side ≡ side_of a.va → (items : List Item) (n : Landing)
+      → Takes (fits r) (Whole m a) items (done (reaches n)) →
       Lands m items n
   lands_by true e side items n h = lands_on side items n h
   lands_by false e side items n h = absurd cc

@@ -1,5 +1,6 @@
 -- A walk down the levels of either stage, one word a level, and two such walks side by side.
-use Rattle.std.proofs.Common.{◌≡◌, ℕ, zero, suc, ◌<◌, ◌≤◌, List, [], ◌∷◌, ◌++◌, refl, sym, ◌∙◌, arith, Bool, inl, inr, Ok, Err, Result, append-nil}
+use Rattle.std.proofs.Common.{◌≡◌, ℕ, zero, suc, ◌<◌, ◌≤◌, List, [], ◌∷◌, ◌++◌, refl, sym}
+use Rattle.std.proofs.Common.{◌∙◌, arith, Bool, inl, inr, Ok, Err, Result, append-nil}
 use Rattle.std.specs.Prelude.{◌⊎◌}
 use Rattle.fault_codes.specs.declared.fault.Fault.{Fault}
 use Rattle.trails.specs.declared.item.Item.{Item}
@@ -56,18 +57,22 @@ pub record Measure (T : Type 0) : Type 1 where
 pub record Twins {L T : Type 0} (fits : Need → Item → Bool) (alike : Need → Need → Item → Type 0) (d d' : Descent L T) (m : Measure T) : Type 0 where
   -- no word is had without an item, and the last item is the word, if it is of this stage
   pub none : (left : ℕ) (t : T) (i : Item) → Takes fits (d.had left t) [] (done (Ok i)) → ⊥
-  pub whole : (left : ℕ) (t : T) (items : List Item) (u : Ask Need Item (Result Item Fault)) (i : Item) → Takes fits (d.had left t) items u → LastIs items i →
+  pub whole : (left : ℕ) (t : T) (items : List Item) (u : Ask Need Item (Result Item Fault)) (i : Item) → Takes fits (d.had left t) items u
+      → LastIs items i →
       m.own i → u ≡ done (Ok i)
   -- a word serves both walks
-  pub words : (left : ℕ) (t : T) (items : List Item) (i : Item) (k : ℕ) → m.sound left t → Takes fits (d.had left t) items (done (Ok i)) → k ≤ m.class left i →
+  pub words : (left : ℕ) (t : T) (items : List Item) (i : Item) (k : ℕ) → m.sound left t → Takes fits (d.had left t) items (done (Ok i))
+      → k ≤ m.class left i →
       m.same k → InStep fits alike (d.had left t) (d'.had left t) items (done (Ok i)) (done (Ok i))
   -- a table is one for both
-  pub tables : (left : ℕ) (t : T) (i : Item) (next : T) → d.step left t i ≡ Down next → (d'.step left t i ≡ Down next) × ((below : ℕ) → m.sound below next)
+  pub tables : (left : ℕ) (t : T) (i : Item) (next : T) → d.step left t i ≡ Down next
+      → (d'.step left t i ≡ Down next) × ((below : ℕ) → m.sound below next)
   -- classes shrink on the way down
   pub least : (left : ℕ) (i : Item) → m.low left ≤ m.class left i
   pub shrinks : (below left : ℕ) (i : Item) → below < left → m.class below i ≤ m.low left
 
-module _ {L T : Type 0} (fits : Need → Item → Bool) (alike : Need → Need → Item → Type 0) (d d' : Descent L T) (m : Measure T) (law : Twins fits alike d d' m)
+module _ {L T : Type 0} (fits : Need → Item → Bool) (alike : Need → Need → Item → Type 0) (d d' : Descent L T) (m : Measure T)
+    (law : Twins fits alike d d' m)
   where
     abbrev Ends : List Item → Ask Need Item (End L) → Type 0
     Ends items u = Closes m.own items u
@@ -110,8 +115,10 @@ module _ {L T : Type 0} (fits : Need → Item → Bool) (alike : Need → Need �
         }
 
     -- the word was a table
-    way_below : (left : ℕ) (t next : T) (front rest : List Item) (j : Item) (u : Ask Need Item (End L)) → Takes fits (d.had (suc left) t) front (done (Ok j)) →
-        d.step (suc left) t j ≡ Down next → ((i : Item) → LastIs (front ++ rest) i → LastIs rest i) → Way left next rest u → Way (suc left) t (front ++ rest) u
+    way_below : (left : ℕ) (t next : T) (front rest : List Item) (j : Item) (u : Ask Need Item (End L))
+        → Takes fits (d.had (suc left) t) front (done (Ok j)) →
+        d.step (suc left) t j ≡ Down next → ((i : Item) → LastIs (front ++ rest) i → LastIs rest i) → Way left next rest u
+        → Way (suc left) t (front ++ rest) u
     way_below left t next front rest j u h down l w =
         let most = w.most in
         record {
@@ -137,7 +144,8 @@ module _ {L T : Type 0} (fits : Need → Item → Bool) (alike : Need → Need �
     not_fault : (left : ℕ) (t : T) (f : Fault) (front : List Item) (u : Ask Need Item (End L)) → Takes fits (d.had left t) front (done (Err f)) →
         u ≡ done (stops f) → Ends (front ++ []) u → ⊥
     not_fault left t f front u h e (inl l) = let q : done (reaches l.0) ≡ done (stops f) = sym l.1 ∙ e in cc
-    not_fault left t f front u h e (inr i) = let q : done (Err f) ≡ done (Ok i.0) = law.whole left t front (done (Err f)) i.0 h (rw append-nil at i.1) i.2 in cc
+    not_fault left t f front u h e (inr i) = let q : done (Err f) ≡ done (Ok i.0) = law.whole left t front (done (Err f)) i.0 h
+        (rw append-nil at i.1) i.2 in cc
 
     closes_rest : (front : List Item) (r : Item) (rest : List Item) (u : Ask Need Item (End L)) → Ends (front ++ r ∷ rest) u → Ends (r ∷ rest) u
     closes_rest front r rest u (inl l) = inl l
@@ -146,7 +154,8 @@ module _ {L T : Type 0} (fits : Need → Item → Bool) (alike : Need → Need �
     -- a word with further items behind it was a table
     by_step : (left : ℕ) (t : T) (front : List Item) (r : Item) (rest : List Item) (j : Item) (u : Ask Need Item (End L)) (s : Lead L T) →
         d.step (suc left) t j ≡ s → Takes fits (d.had (suc left) t) front (done (Ok j)) →
-        ((next : T) → Takes fits (levels d left next) (r ∷ rest) u → Way left next (r ∷ rest) u) → Takes fits (step_then (levels d left) s) (r ∷ rest) u →
+        ((next : T) → Takes fits (levels d left next) (r ∷ rest) u → Way left next (r ∷ rest) u)
+        → Takes fits (step_then (levels d left) s) (r ∷ rest) u →
         Way (suc left) t (front ++ r ∷ rest) u
     by_step left t front r rest j u (Down next) e h deeper w =
         way_below left t next front (r ∷ rest) j u h e (λ i l. last_back front r rest i l) (deeper next w)
@@ -168,7 +177,8 @@ module _ {L T : Type 0} (fits : Need → Item → Bool) (alike : Need → Need �
     way_zero t (Ok j) front (r ∷ rest) u h w c = absurd (none_below t r rest j u (d.step 0 t j) w)
 
     way_suc : (left : ℕ) (t : T) (a : Result Item Fault) (front rest : List Item) (u : Ask Need Item (End L)) →
-        ((next : T) (r : Item) (rest : List Item) → Takes fits (levels d left next) (r ∷ rest) u → Ends (r ∷ rest) u → Way left next (r ∷ rest) u) →
+        ((next : T) (r : Item) (rest : List Item) → Takes fits (levels d left next) (r ∷ rest) u → Ends (r ∷ rest) u
+        → Way left next (r ∷ rest) u) →
         Takes fits (d.had (suc left) t) front (done a) → Takes fits (onward (levels d left) (d.step (suc left) t) a) rest u → Ends (front ++ rest) u →
         Way (suc left) t (front ++ rest) u
     way_suc left t (Err f) front [] u deeper h w c = absurd (not_fault (suc left) t f front u h w c)
@@ -181,7 +191,8 @@ module _ {L T : Type 0} (fits : Need → Item → Bool) (alike : Need → Need �
     Second left t items u = InSecond fits (d.had left t) (onward (beneath d left) (d.step left t)) items u
 
     -- walks down the levels go in step, as far as the last word speaks
-    pub way : (left : ℕ) (t : T) (items : List Item) (u : Ask Need Item (End L)) → Takes fits (levels d left t) items u → Ends items u → Way left t items u
+    pub way : (left : ℕ) (t : T) (items : List Item) (u : Ask Need Item (End L)) → Takes fits (levels d left t) items u → Ends items u
+        → Way left t items u
     way zero t items u h c =
         elim (takes_after fits (d.had 0 t) (onward (λ _. done (stops d.last)) (d.step 0 t)) items u h) as (λ _. Way 0 t items u) [
           | inl w ↦ absurd (not_first 0 t _ items u w c)
@@ -193,7 +204,8 @@ module _ {L T : Type 0} (fits : Need → Item → Bool) (alike : Need → Need �
           | inr w ↦ rw w.3 (way_suc left t w.0 w.1 w.2 u (λ next r rest v e. way left next (r ∷ rest) u v e) w.4 w.5 (rw w.3 at c))
         ]
 
-    no_leaf_had : (left : ℕ) (t : T) (b : Ask Need Item (Result Item Fault)) (f : Item → Ask Need Item (End L)) (l : L) → ((i : Item) → b ≡ done (Ok i) → ⊥) →
+    no_leaf_had : (left : ℕ) (t : T) (b : Ask Need Item (Result Item Fault)) (f : Item → Ask Need Item (End L)) (l : L)
+        → ((i : Item) → b ≡ done (Ok i) → ⊥) →
         after b (go_on stops f) ≡ done (reaches l) → ⊥
     no_leaf_had left t (ask n k) f l w h = absurd cc
     no_leaf_had left t (done (Err d)) f l w h = absurd cc

@@ -1,5 +1,6 @@
 -- Numbers that agree above a bit, and addresses put together.
-use Rattle.std.proofs.Common.{◌≡◌, ℕ, ◌+◌, ◌-◌, ◌*◌, ◌/◌, ◌%◌, ◌^◌, ◌<◌, ◌≤◌, refl, sym, ap, ◌∙◌, arith, true, false, cond}
+use Rattle.std.proofs.Common.{◌≡◌, ℕ, ◌+◌, ◌-◌, ◌*◌, ◌/◌, ◌%◌, ◌^◌, ◌<◌}
+use Rattle.std.proofs.Common.{◌≤◌, refl, sym, ap, ◌∙◌, arith, true, false, cond}
 use Rattle.std.specs.Prelude.{nat_le}
 use Rattle.std.proofs.lemmas.Bool.{leb-false, leb-true}
 use Rattle.std.proofs.lemmas.Nat.{pow-add, pow_pos, div-add-mod', shr-shr}
@@ -112,7 +113,8 @@ goes_to_piece out pa k m y f =
     ] refl
 
 -- of two addresses of one piece the outputs of the first leaf agree above the second's class
-pub goes_to_piece_same : (out k m x y : ℕ) → out ≡ goes_to out k x → x / 2 ^ smaller k m ≡ y / 2 ^ smaller k m → out / 2 ^ m ≡ goes_to out k y / 2 ^ m
+pub goes_to_piece_same : (out k m x y : ℕ) → out ≡ goes_to out k x → x / 2 ^ smaller k m ≡ y / 2 ^ smaller k m
+    → out / 2 ^ m ≡ goes_to out k y / 2 ^ m
 goes_to_piece_same out k m x y e h =
     elim (nat_le k m) as (λ b. nat_le k m ≡ b → x / 2 ^ cond b k m ≡ y / 2 ^ cond b k m → out / 2 ^ m ≡ goes_to out k y / 2 ^ m) [
       | true ↦ (λ t q. coarser out (goes_to out k y) k m (leb-true k m t) (sym (goes_to_whole out k y)))

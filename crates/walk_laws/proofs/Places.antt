@@ -1,5 +1,6 @@
 -- The places of two addresses of one region, in either stage, and the items that serve both.
-use Rattle.std.proofs.Common.{◌≡◌, ℕ, ◌+◌, ◌-◌, ◌*◌, ◌/◌, ◌%◌, ◌^◌, ◌<◌, ◌≤◌, refl, sym, ap, ◌∙◌, arith, Bool, true, false, cond, ◌&&◌, ◌||◌, List, [], ◌∷◌, Ok, Result}
+use Rattle.std.proofs.Common.{◌≡◌, ℕ, ◌+◌, ◌-◌, ◌*◌, ◌/◌, ◌%◌, ◌^◌, ◌<◌, ◌≤◌, refl, sym, ap}
+use Rattle.std.proofs.Common.{◌∙◌, arith, Bool, true, false, cond, ◌&&◌, ◌||◌, List, [], ◌∷◌, Ok, Result}
 use Rattle.std.specs.Prelude.{◌==◌, Option, Some, None}
 use Rattle.std.proofs.lemmas.Bool.Decides.{nat_tests}
 use Rattle.std.proofs.lemmas.Bool.{leb-true}
@@ -124,7 +125,8 @@ pub alike_through : (n : Sizes) (left pa : ℕ) (m : Option (ℕ × Bool)) (p p'
 alike_through n left pa m p p' q q' e l a = record { line = λ t. l (a.line t); same = λ t. e (a.same t) }
 
 -- places that a word serves lie in one page of 4 KB
-pub alike_page : (n : Sizes) (left pa : ℕ) (m : Option (ℕ × Bool)) (p p' : ℕ) → IsGranule n.granule → Alike n left pa m p p' → p' / 2 ^ 12 ≡ p / 2 ^ 12
+pub alike_page : (n : Sizes) (left pa : ℕ) (m : Option (ℕ × Bool)) (p p' : ℕ) → IsGranule n.granule → Alike n left pa m p p'
+    → p' / 2 ^ 12 ≡ p / 2 ^ 12
 alike_page n left pa m p p' h a =
     elim (counted_by m n left pa) as (λ b. (b ≡ true → p' / line_of n.granule left ≡ p / line_of n.granule left) → (b ≡ false → p' ≡ p) →
     p' / 2 ^ 12 ≡ p / 2 ^ 12) [
@@ -134,7 +136,8 @@ alike_page n left pa m p p' h a =
     ] a.line a.same
 
 -- a line of places goes where a page of them goes
-pub line_along : (g left : ℕ) (f : ℕ → ℕ) (p p' : ℕ) → IsGranule g → ((j : ℕ) → j ≤ 12 → p' / 2 ^ j ≡ p / 2 ^ j → f p' / 2 ^ j ≡ f p / 2 ^ j) →
+pub line_along : (g left : ℕ) (f : ℕ → ℕ) (p p' : ℕ) → IsGranule g → ((j : ℕ) → j ≤ 12 → p' / 2 ^ j ≡ p / 2 ^ j
+    → f p' / 2 ^ j ≡ f p / 2 ^ j) →
     p' / line_of g left ≡ p / line_of g left → f p' / line_of g left ≡ f p / line_of g left
 line_along g left f p p' h k e = by_line g left (f p') ∙ k (3 + run_bits g left) (line_within g left h) (sym (by_line g left p') ∙ e ∙ by_line g left p)
     ∙ sym (by_line g left (f p))
@@ -175,7 +178,8 @@ mate_tail : (b : Bool) (g left pa p p' : ℕ) → (b ≡ true → p' / line_of g
 mate_tail true g left pa p p' l s h = let q : p' / line_of g left ≡ p / line_of g left = l refl in grind (arith, nat_tests)
 mate_tail false g left pa p p' l s h = let q : p' ≡ p = s refl in rw q h
 
-mate_alike : (n : Sizes) (left pa : ℕ) (m : Option (ℕ × Bool)) (p p' : ℕ) → Alike n left pa m p p' → ((pa == p) || serves_run m n left pa p) ≡ true →
+mate_alike : (n : Sizes) (left pa : ℕ) (m : Option (ℕ × Bool)) (p p' : ℕ) → Alike n left pa m p p'
+    → ((pa == p) || serves_run m n left pa p) ≡ true →
     ((pa == p') || serves_run m n left pa p') ≡ true
 mate_alike n left pa m p p' a h =
     let u : ((pa == p) || (counted_by m n left pa && is_one_run n.granule left pa p)) ≡ true = rw (serves_run_is m n left pa p) at h in
@@ -185,7 +189,8 @@ and_last : (a b b' : Bool) → (b ≡ true → b' ≡ true) → (a && b) ≡ tru
 and_last true b b' f h = f h
 and_last false b b' f h = h
 
-fits_alike : (r : Regime) (s : Stage) (left p p' : ℕ) (q : Bool) (x y t t' : ℕ) (i : Item) → Alike (sizes_of r s) left i.pa (mapping_of r s left i.value) p p' →
+fits_alike : (r : Regime) (s : Stage) (left p p' : ℕ) (q : Bool) (x y t t' : ℕ) (i : Item)
+    → Alike (sizes_of r s) left i.pa (mapping_of r s left i.value) p p' →
     fits r (word_at s left p q x t) i ≡ true → fits r (word_at s left p' q y t') i ≡ true
 unfolding fits
 fits_alike r s left p p' q x y t t' i a h =

@@ -50,7 +50,8 @@ module _ {L : Type 0} (fits : Need → Item → Bool) (own : Item → Type 0) (o
   last_behind b [] i f l w = absurd (no_word b i f l w)
   last_behind b (k ∷ rest) i f l w = l
 
-  closes_behind : (b : Item) (rest : List Item) (u : Ask Need Item (End L)) → fits o.need b ≡ true → Closes (WordOf own) (b ∷ rest) u → Closes own rest u
+  closes_behind : (b : Item) (rest : List Item) (u : Ask Need Item (End L)) → fits o.need b ≡ true → Closes (WordOf own) (b ∷ rest) u
+      → Closes own rest u
   closes_behind b rest u f (inl l) = inl l
   closes_behind b rest u f (inr i) = inr (i.0, last_behind b rest i.0 f i.1 i.2.1, i.2.0)
 
@@ -82,7 +83,8 @@ module _ {L : Type 0} (fits : Need → Item → Bool) (own : Item → Type 0) (o
       }
 
   -- a stage whose items end at a leaf, or with a word, has taken a base
-  pub from_root : (refused : Bool) (items : List Item) (u : Ask Need Item (End L)) → Takes fits (rooted o walk refused) items u → Closes (WordOf own) items u →
+  pub from_root : (refused : Bool) (items : List Item) (u : Ask Need Item (End L)) → Takes fits (rooted o walk refused) items u
+      → Closes (WordOf own) items u →
       Rooted fits own o walk refused items u
   from_root true [] u h c = absurd (no_close_none u (λ l e. (let q : done (reaches l) ≡ done (stops o.refusal) = sym e ∙ h in cc)) c)
   from_root true (b ∷ rest) u h c = absurd h

@@ -1,5 +1,6 @@
 -- The laws as they are stated, from walks in step.
-use Rattle.std.proofs.Common.{◌+◌, ◌-◌, ◌≡◌, ℕ, ◌/◌, ◌%◌, ◌^◌, ◌≤◌, List, [], refl, sym, ap, ◌∙◌, arith, Bool, false, subst}
+use Rattle.std.proofs.Common.{◌+◌, ◌-◌, ◌≡◌, ℕ, ◌/◌, ◌%◌, ◌^◌, ◌≤◌, List}
+use Rattle.std.proofs.Common.{[], refl, sym, ap, ◌∙◌, arith, Bool, false, subst}
 use Rattle.std.specs.Prelude.{◌==◌, if◌then◌else◌}
 use Rattle.bitwords.specs.Fields.{bit, bits_of}
 use Rattle.geometry.specs.Tables.{class_of}

@@ -102,7 +102,8 @@ sound2 r x f h =
           (ltb-true x (2 ^ input_size r.config.t2sz) (second_of_and _ _ t)),
     )
 
-in_range_with : (s : Bool) (x y input : ℕ) → not (s && nat_lt x (2 ^ input)) ≡ false → (x < 2 ^ input → y < 2 ^ input) → not (s && nat_lt y (2 ^ input)) ≡ false
+in_range_with : (s : Bool) (x y input : ℕ) → not (s && nat_lt x (2 ^ input)) ≡ false → (x < 2 ^ input → y < 2 ^ input)
+    → not (s && nat_lt y (2 ^ input)) ≡ false
 in_range_with true x y input h f = let l : x < 2 ^ input = ltb-true x (2 ^ input) (not_false _ h) in let m = f l in grind (arith, nat_tests)
 in_range_with false x y input h f = absurd cc
 

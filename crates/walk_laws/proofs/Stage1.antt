@@ -1,5 +1,6 @@
 -- Stage 1 for two accesses, each word with its own stage 2, side by side.
-use Rattle.std.proofs.Common.{◌≡◌, ℕ, zero, suc, ◌/◌, ◌%◌, ◌^◌, ◌≤◌, List, [], ◌∷◌, ◌++◌, refl, sym, ap, ◌∙◌, arith, Bool, true, false, cond, ◌&&◌, ◌||◌, inl, inr, Ok, Err, Result, subst, append-nil}
+use Rattle.std.proofs.Common.{◌≡◌, ℕ, zero, suc, ◌/◌, ◌%◌, ◌^◌, ◌≤◌, List, [], ◌∷◌, ◌++◌, refl, sym, ap, ◌∙◌}
+use Rattle.std.proofs.Common.{arith, Bool, true, false, cond, ◌&&◌, ◌||◌, inl, inr, Ok, Err, Result, subst, append-nil}
 use Rattle.std.specs.Prelude.{◌⊎◌, not, Some}
 use Rattle.std.proofs.lemmas.Bool.{eqb-true}
 use Rattle.geometry.specs.Tables.{class_of, table_size, most_left}
@@ -38,7 +39,9 @@ use Rattle.walk_spec.specs.BothStages.{is_refused1, stage1_on}
 use Rattle.walk_laws.specs.Moved.{moved1, moved2}
 use Rattle.walk_laws.proofs.Numbers.{coarser, goes_to_again, goes_to_above}
 use Rattle.walk_laws.proofs.Stepping.{Takes, InStep, LastIs, Asks, last_asked, last_back, done_takes, takes_after, step_on, step_after}
-use Rattle.walk_laws.proofs.Places.{one_word, one_last, one_taken, word_flat, IsAligned, line_of, line_along, run_below, class_up, class_by_least, class_by_most, class_by_fits, Alike, alike_places, alike_through, alike_page, word_at, SameRegion, first_of_and, second_of_and}
+use Rattle.walk_laws.proofs.Places.{one_word, one_last, one_taken, word_flat, IsAligned, line_of, line_along, run_below, class_up, class_by_least}
+use Rattle.walk_laws.proofs.Places.{class_by_most, class_by_fits, Alike, alike_places, alike_through, alike_page, word_at, SameRegion, first_of_and}
+use Rattle.walk_laws.proofs.Places.{second_of_and}
 use Rattle.walk_laws.proofs.Aligned.{aligned_page, aligned_start, table1_page}
 use Rattle.walk_laws.proofs.Levels.{Descent, levels, beneath, behind, Closes, Measure, Twins, Way, way, no_leaf}
 use Rattle.walk_laws.proofs.Roots.{Root, WordOf, Rooted, from_root}
@@ -58,11 +61,13 @@ pub data Turn1 (r : Regime) (left : ℕ) (i : Item) : Type 0 where
       ((j : Bool) (a : Access) (t : Table1) →
       step1 (under r j a) (entry1 (under r j a) left t) i.pa i.value ≡ judged1 r.config j a left (is_uxn f.bits t.bits)
       (leaf1_of r (entry1 (under r j a) left t) i.pa f)) → Turn1 r left i
-  fault : (k : Class) → ((j : Bool) (a : Access) (t : Table1) → step1 (under r j a) (entry1 (under r j a) left t) i.pa i.value ≡ Stopped (fault1 k left)) →
+  fault : (k : Class) → ((j : Bool) (a : Access) (t : Table1) → step1 (under r j a) (entry1 (under r j a) left t) i.pa i.value
+      ≡ Stopped (fault1 k left)) →
       Turn1 r left i
 
 module _ (r : Regime) (left : ℕ) (i : Item) where
-  turn_table : (next : ℕ) (bits : TableBits) (big : Bool) → means1_of r.config r.side left i.value ≡ Table next bits → is_too_large r.stage1 next ≡ big →
+  turn_table : (next : ℕ) (bits : TableBits) (big : Bool) → means1_of r.config r.side left i.value ≡ Table next bits
+      → is_too_large r.stage1 next ≡ big →
       Turn1 r left i
   unfolding step1
   turn_table next bits true e b = fault AddressSize (λ j a t. rw (e, b) refl)
@@ -121,7 +126,8 @@ fits_stage2 r (stage2_base x) i n h =
 fits_stage2 r (word w) i n h = stage_eq_true i.stage w.stage (second_of_and (is_word i.what) _ (first_of_and _ _ (first_of_and _ _ h))) ∙ n
 
 module _ (r : Regime) (p : Bool) (x : ℕ) where
-  asks_step : {L T : Type 0} (s : Lead L T) (below : T → Ask Need Item (End L)) → ((t : T) → Asks IsStage2 (below t)) → Asks IsStage2 (step_then below s)
+  asks_step : {L T : Type 0} (s : Lead L T) (below : T → Ask Need Item (End L)) → ((t : T) → Asks IsStage2 (below t))
+      → Asks IsStage2 (step_then below s)
   asks_step (Down t) below h = h t
   asks_step (Reached l) below h = tt
   asks_step (Stopped f) below h = tt
@@ -194,7 +200,8 @@ module _ (r : Regime) (e : Entry1) where
   behind_last (reaches l) j rest u i h k = read_last (is_readable r.config l) l j rest u i h k
 
   deep_second : (front rest : List Item) (d : End Leaf2) (u : Ask Need Item (Result Item Fault)) (i : Item) →
-      Takes (fits r) (walk2 (asked2 r true e.place)) front (done d) → Takes (fits r) (read1_by r.config e d) rest u → LastIs (front ++ rest) i → i.stage ≡ S1 →
+      Takes (fits r) (walk2 (asked2 r true e.place)) front (done d) → Takes (fits r) (read1_by r.config e d) rest u → LastIs (front ++ rest) i
+      → i.stage ≡ S1 →
       u ≡ done (Ok i)
   deep_second front [] d u i w h k o = absurd (two_stages i o (last_stage2 r true e.place front (done d) i w (rw append-nil at k)))
   deep_second front (j ∷ rest) d u i w h k o = behind_last d j rest u i h (last_back front j rest i k)
@@ -224,7 +231,8 @@ module _ (r : Regime) (e : Entry1) where
       × Takes (fits r) (one_word (entry_at l.pa)) rest (done (Ok i))
 
   deep_read : (front rest : List Item) (l : Leaf2) (i : Item) (readable : Bool) → is_readable r.config l ≡ readable →
-      Takes (fits r) (walk2 (asked2 r true e.place)) front (done (reaches l)) → Takes (fits r) (read_by readable l) rest (done (Ok i)) → Deep (front ++ rest) i
+      Takes (fits r) (walk2 (asked2 r true e.place)) front (done (reaches l)) → Takes (fits r) (read_by readable l) rest (done (Ok i))
+      → Deep (front ++ rest) i
   deep_read front rest l i true b w h = (front, rest, l, refl, w, b, h)
   deep_read front rest l i false b w h = (let z = (done_takes (fits r) (Err (read_fault l)) rest (done (Ok i)) h).1 in absurd cc)
 
@@ -340,7 +348,8 @@ module _ (r : Regime) (j : Bool) where
       abbrev AlikeAt : Item → ℕ → ℕ → Type 0
       AlikeAt i p p' = Alike r.stage1 left i.pa (mapping_of r S1 left i.value) p p'
 
-      read_shift : (rest : List Item) (i : Item) (k : ℕ) (l : Leaf2) → 12 ≤ l.class → l.pa ≡ goes_to l.pa l.class place_a → AlikeAt i place_a place_b →
+      read_shift : (rest : List Item) (i : Item) (k : ℕ) (l : Leaf2) → 12 ≤ l.class → l.pa ≡ goes_to l.pa l.class place_a
+          → AlikeAt i place_a place_b →
           k ≤ class1 left i → Same1 a b k → is_readable r.config l ≡ true → Takes (fits r) (one_word (entry_at r entry_a l.pa)) rest (done (Ok i)) →
           InStep (fits r) (SameRegion r) (read1_by r.config entry_a (reaches l)) (read1_by r.config entry_b (reaches (moved2 l place_b))) rest (done (Ok i))
           (done (Ok i))
@@ -367,12 +376,14 @@ module _ (r : Regime) (j : Bool) where
           rw d.3 (step_on (fits r) (SameRegion r) _ _ d.0 d.1 _ _ _ _ first (read_shift d.1 i k d.2 q.least q.here al n s d.5 d.6))
 
       -- a word of stage 1 serves both accesses, with the items of stage 2 on the way to it
-      pub word_shift : (items : List Item) (i : Item) (k : ℕ) → Sound1 left t → Takes (fits r) (had1 a left t) items (done (Ok i)) → k ≤ class1 left i →
+      pub word_shift : (items : List Item) (i : Item) (k : ℕ) → Sound1 left t → Takes (fits r) (had1 a left t) items (done (Ok i))
+          → k ≤ class1 left i →
           Same1 a b k → InStep (fits r) (SameRegion r) (had1 a left t) (had1 b left t) items (done (Ok i)) (done (Ok i))
       word_shift items i k d h n s = word_shift_by r.config.vm items i k
           (alike_places r.stage1 left t.address i.pa (mapping_of r S1 left i.value) (untagged a.va) (untagged b.va) k (granule1 r f) d n s) n s h
 
-      tables1 : (i : Item) (next : Table1) → Turn1 r left i → by1 a left t i ≡ Down next → (by1 b left t i ≡ Down next) × ((below : ℕ) → Sound1 below next)
+      tables1 : (i : Item) (next : Table1) → Turn1 r left i → by1 a left t i ≡ Down next
+          → (by1 b left t i ≡ Down next) × ((below : ℕ) → Sound1 below next)
       tables1 i next (table n bits al d) h =
           let e : Down record { address = n; bits = joined t.bits bits } ≡ Down next = sym (d j a t) ∙ h in
           let q : record { address = n; bits = joined t.bits bits } ≡ next = cc in
@@ -392,7 +403,8 @@ module _ (r : Regime) (j : Bool) where
     }
 
 -- a base of stage 1 is a multiple of its table's size
-base_fits : (r : Regime) (b : Item) → fits r stage1_base b ≡ true → (b.what ≡ Base) × (b.value % table_size r.stage1.granule r.stage1.input r.stage1.start ≡ 0)
+base_fits : (r : Regime) (b : Item) → fits r stage1_base b ≡ true → (b.what ≡ Base)
+    × (b.value % table_size r.stage1.granule r.stage1.input r.stage1.start ≡ 0)
 unfolding fits
 base_fits r b h =
     let d = first_of_and _ _ h in
@@ -458,7 +470,8 @@ module _ (r : Regime) (j : Bool) (a b : Access) where
       }
 
   -- Stage 1 that has taken items up to a word or a leaf goes in step with that of another access of the word's region.
-  pub stepped1 : IsOfFields r → r.side ≡ side_of a.va → (items : List Item) (u : Ask Need Item (End Leaf1)) → Takes (fits r) (stage1_on (under r j a)) items u →
+  pub stepped1 : IsOfFields r → r.side ≡ side_of a.va → (items : List Item) (u : Ask Need Item (End Leaf1))
+      → Takes (fits r) (stage1_on (under r j a)) items u →
       Closes (WordOf (Own1 r j)) items u → Stepped1 items u
   stepped1 f side items u h c =
       let o = from_root (fits r) (Own1 r j) start1 from1 (λ i k. (base_fits r i k).0) (is_refused1 r.config a) items u h c in
@@ -475,7 +488,8 @@ module _ (r : Regime) (a b : Access) where
         InStep (fits r) (SameRegion r) (stage1_on (under r false a)) (stage1_on (under r false b)) items (done (reaches l))
         (done (reaches (moved1 l (untagged b.va))))
 
-  at_leaf : (f : IsOfFields r) (items : List Item) (l : Leaf1) (w : Stepped1 r false a b items (done (reaches l))) → Turn1 r w.left w.item → Reached1 items l
+  at_leaf : (f : IsOfFields r) (items : List Item) (l : Leaf1) (w : Stepped1 r false a b items (done (reaches l))) → Turn1 r w.left w.item
+      → Reached1 items l
   at_leaf f items l w (table next bits al d) =
       let e : done (reaches l) ≡ beneath (down1 r false a) w.left record { address = next; bits = joined w.table.bits bits } = w.left_as
       ∙ rw (d false a w.table) refl in
@@ -485,10 +499,12 @@ module _ (r : Regime) (a b : Access) where
       } l (sym e))
   at_leaf f items l w (fault k d) = (let e : done (reaches l) ≡ done (stops (fault1 k w.left)) = w.left_as ∙ rw (d false a w.table) refl in absurd cc)
   at_leaf f items l w (leaf v m d) =
-      let e : done (reaches l) ≡ done (reaches (leaf1_of r (entry1 (under r false a) w.left w.table) w.item.pa v)) = w.left_as ∙ rw (d false a w.table) refl in
+      let e : done (reaches l) ≡ done (reaches (leaf1_of r (entry1 (under r false a) w.left w.table) w.item.pa v)) = w.left_as
+      ∙ rw (d false a w.table) refl in
       let q : l ≡ leaf1_of r (entry1 (under r false a) w.left w.table) w.item.pa v = cc in
       let c : l.class ≡ class1 r false w.left w.item = ap (λ z. z.class) q ∙ rw m refl in
-      let h : l.out ≡ goes_to v.out l.class (untagged a.va) = ap (λ z. z.out) q ∙ ap (λ k. goes_to v.out k (untagged a.va)) (sym (ap (λ z. z.class) q)) in
+      let h : l.out ≡ goes_to v.out l.class (untagged a.va) = ap (λ z. z.out) q ∙ ap (λ k. goes_to v.out k (untagged a.va))
+      (sym (ap (λ z. z.class) q)) in
       let n = w.most in
       let s = w.sound.input in
       record {

@@ -1,5 +1,6 @@
 -- Stage 2 for two IPAs of one region, side by side.
-use Rattle.std.proofs.Common.{◌≡◌, ℕ, zero, suc, ◌/◌, ◌%◌, ◌^◌, ◌≤◌, List, [], ◌∷◌, refl, sym, ap, ◌∙◌, arith, Bool, true, false, ◌||◌, inl, Ok, Result, subst}
+use Rattle.std.proofs.Common.{◌≡◌, ℕ, zero, suc, ◌/◌, ◌%◌, ◌^◌, ◌≤◌, List, [], ◌∷◌, refl, sym}
+use Rattle.std.proofs.Common.{ap, ◌∙◌, arith, Bool, true, false, ◌||◌, inl, Ok, Result, subst}
 use Rattle.std.specs.Prelude.{not, Some}
 use Rattle.std.proofs.lemmas.Bool.{eqb-true}
 use Rattle.geometry.specs.Tables.{IsGranule, class_of, table_size, most_left}
@@ -29,7 +30,8 @@ use Rattle.walk_spec.specs.Stage1.{asked2}
 use Rattle.walk_laws.specs.Moved.{moved2}
 use Rattle.walk_laws.proofs.Numbers.{goes_to_again}
 use Rattle.walk_laws.proofs.Stepping.{Takes, InStep, LastIs}
-use Rattle.walk_laws.proofs.Places.{one_word, one_last, one_taken, word_flat, IsAligned, run_below, class_up, class_least, class_by_least, class_by_most, class_by_fits, alike_places, word_at, SameRegion, first_of_and, second_of_and}
+use Rattle.walk_laws.proofs.Places.{one_word, one_last, one_taken, word_flat, IsAligned, run_below, class_up, class_least, class_by_least}
+use Rattle.walk_laws.proofs.Places.{class_by_most, class_by_fits, alike_places, word_at, SameRegion, first_of_and, second_of_and}
 use Rattle.walk_laws.proofs.Aligned.{aligned_page, aligned_start, table2_page}
 use Rattle.walk_laws.proofs.Levels.{Descent, levels, beneath, behind, Closes, Measure, Twins, Way, way, no_leaf}
 use Rattle.walk_laws.proofs.Roots.{Root, WordOf, Rooted, from_root}
@@ -76,7 +78,8 @@ module _ (r : Regime) (left : ℕ) (i : Item) where
   pub turn2 : Turn2 r left i
   turn2 = turn_by (means2_of r.config left i.value) refl
 
-leaf2_again : (r : Regime) (p : Bool) (left pa : ℕ) (f : Fields2) (x y : ℕ) → leaf2_of (asked2 r p y) left pa f ≡ moved2 (leaf2_of (asked2 r p x) left pa f) y
+leaf2_again : (r : Regime) (p : Bool) (left pa : ℕ) (f : Fields2) (x y : ℕ) → leaf2_of (asked2 r p y) left pa f
+    ≡ moved2 (leaf2_of (asked2 r p x) left pa f) y
 leaf2_again r p left pa f x y =
     let g : ℕ → Leaf2 = λ n. record (leaf2_of (asked2 r p x) left pa f) { pa = n } in
     ap g (sym (goes_to_again f.out (leaf2_of (asked2 r p x) left pa f).class x y))
@@ -101,7 +104,8 @@ module _ (r : Regime) where
   walk2_levels_all : (p : Bool) (x left : ℕ) → walk2_from (asked2 r p x) left ≡ levels2 p x left
   walk2_levels_all p x zero = refl
   walk2_levels_all p x (suc left) =
-      let f : (ℕ → Ask Need Item (End Leaf2)) → ℕ → Ask Need Item (End Leaf2) = λ below. λ t. after (level2 (asked2 r p x) (suc left) t) (step_then below) in
+      let f : (ℕ → Ask Need Item (End Leaf2)) → ℕ → Ask Need Item (End Leaf2) = λ below. λ t. after (level2 (asked2 r p x) (suc left) t)
+      (step_then below) in
       ap f (walk2_levels_all p x left)
 
   pub walk2_levels : (p : Bool) (x left t : ℕ) → walk2_from (asked2 r p x) left t ≡ levels2 p x left t
@@ -124,7 +128,8 @@ module _ (r : Regime) where
   none2 p x left t i h = absurd cc
 
   tables2 : (g : IsGranule r.stage2.granule) (p : Bool) (x y left : ℕ) (i : Item) (next : ℕ) → Turn2 r left i →
-      step2 (asked2 r p x) left i.pa i.value ≡ Down next → (step2 (asked2 r p y) left i.pa i.value ≡ Down next) × ((below : ℕ) → IsAligned r.stage2 below next)
+      step2 (asked2 r p x) left i.pa i.value ≡ Down next → (step2 (asked2 r p y) left i.pa i.value ≡ Down next)
+      × ((below : ℕ) → IsAligned r.stage2 below next)
   tables2 g p x y left i next (table n a d) h =
       let e : Down n ≡ Down next = sym (d p x) ∙ h in
       let q : n ≡ next = cc in
@@ -190,7 +195,8 @@ module _ (r : Regime) (p : Bool) (x y : ℕ) where
   abbrev from2 : ℕ → Ask Need Item (End Leaf2)
   from2 = walk2_from (asked2 r p x) r.stage2.start
 
-  from_way : (f : IsOfFields r) (items : List Item) (u : Ask Need Item (End Leaf2)) (o : Rooted (fits r) (Any r) root2 from2 (is_refused2 r.config x) items u) →
+  from_way : (f : IsOfFields r) (items : List Item) (u : Ask Need Item (End Leaf2)) (o : Rooted (fits r)
+      (Any r) root2 from2 (is_refused2 r.config x) items u) →
       Way (fits r) (SameRegion r) (down2 r p x) (down2 r p y) (measure2 r x y) (law2 r (granule2 r f) p x y) r.stage2.start o.base.value o.rest u →
       Stepped2 (o.base ∷ o.rest) u
   from_way f items u o w =

@@ -14,7 +14,8 @@ Takes fits (done a) (i ∷ items) u = ⊥
 abbrev pub InStep : {N I A B : Type 0} →
     (fits : N → I → Bool) (alike : N → N → I → Type 0) (t : Ask N I A) (t' : Ask N I B) (items : List I) (u : Ask N I A) (u' : Ask N I B) → Type 0
 InStep fits alike t t' [] u u' = (u ≡ t) × (u' ≡ t')
-InStep fits alike (ask n k) (ask n' k') (i ∷ items) u u' = (fits n i ≡ true) × (fits n' i ≡ true) × alike n n' i × InStep fits alike (k i) (k' i) items u u'
+InStep fits alike (ask n k) (ask n' k') (i ∷ items) u u' = (fits n i ≡ true) × (fits n' i ≡ true) × alike n n' i
+    × InStep fits alike (k i) (k' i) items u u'
 InStep fits alike (ask n k) (done b) (i ∷ items) u u' = ⊥
 InStep fits alike (done a) t' (i ∷ items) u u' = ⊥
 
@@ -85,7 +86,8 @@ module _ {N I : Type 0} (fits : N → I → Bool) where
   InFirst {A} t f items u = (n : N) × (k : I → Ask N I A) × Takes fits t items (ask n k) × (u ≡ after (ask n k) f)
 
   abbrev pub InSecond : {A B : Type 0} → (t : Ask N I A) (f : A → Ask N I B) (items : List I) (u : Ask N I B) → Type 0
-  InSecond {A} t f items u = (a : A) × (front : List I) × (rest : List I) × (items ≡ front ++ rest) × Takes fits t front (done a) × Takes fits (f a) rest u
+  InSecond {A} t f items u = (a : A) × (front : List I) × (rest : List I) × (items ≡ front ++ rest) × Takes fits t front (done a)
+      × Takes fits (f a) rest u
 
   further : {A B : Type 0} (n : N) (k : I → Ask N I A) (f : A → Ask N I B) (i : I) (items : List I) (u : Ask N I B) → fits n i ≡ true →
       InFirst (k i) f items u ⊎ InSecond (k i) f items u → InFirst (ask n k) f (i ∷ items) u ⊎ InSecond (ask n k) f (i ∷ items) u
@@ -99,7 +101,8 @@ module _ {N I : Type 0} (fits : N → I → Bool) where
   takes_after (ask n k) f (i ∷ items) u h = further n k f i items u h.0 (takes_after (k i) f items u h.1)
 
   -- it holds of the question that took the last item
-  pub last_asked : {A : Type 0} (P : N → Type 0) (t : Ask N I A) (items : List I) (u : Ask N I A) (l : I) → Asks P t → Takes fits t items u → LastIs items l →
+  pub last_asked : {A : Type 0} (P : N → Type 0) (t : Ask N I A) (items : List I) (u : Ask N I A) (l : I) → Asks P t → Takes fits t items u
+      → LastIs items l →
       (n : N) × P n × (fits n l ≡ true)
   last_asked P t [] u l p h e = absurd e
   last_asked P (done a) (i ∷ items) u l p h e = absurd h

@@ -1,5 +1,6 @@
 -- The whole walk behind a table of stage 1, for each access of the table's region.
-use Rattle.std.proofs.Common.{◌≡◌, ℕ, zero, suc, ◌≤◌, List, [], ◌∷◌, ◌++◌, refl, sym, ap, ◌∙◌, arith, Bool, true, false, cond, inl, inr, Err, Result, subst, append-nil, pos}
+use Rattle.std.proofs.Common.{◌≡◌, ℕ, zero, suc, ◌≤◌, List, [], ◌∷◌, ◌++◌, refl, sym, ap, ◌∙◌}
+use Rattle.std.proofs.Common.{arith, Bool, true, false, cond, inl, inr, Err, Result, subst, append-nil, pos}
 use Rattle.std.specs.Prelude.{None}
 use Rattle.geometry.specs.Tables.{class_of, level_of, most_left}
 use Rattle.sysregs.specs.declared.regs.Config.{Config}
@@ -30,7 +31,8 @@ use Rattle.walk_laws.proofs.Places.{SameRegion}
 use Rattle.walk_laws.proofs.Levels.{beneath, levels, levels_is, onward}
 use Rattle.walk_laws.proofs.Sound.{IsOfFields}
 use Rattle.walk_laws.proofs.Tables2.{level_of_one, fit_level, no_mapping}
-use Rattle.walk_laws.proofs.Stage1.{had_by, under, Turn1, table, leaf, fault, turn1, by1, down1, class1, Same1, behind1, Stepped1, stepped1, last_stage2, two_stages}
+use Rattle.walk_laws.proofs.Stage1.{had_by, under, Turn1, table, leaf, fault, turn1, by1, down1, class1, Same1}
+use Rattle.walk_laws.proofs.Stage1.{behind1, Stepped1, stepped1, last_stage2, two_stages}
 
 -- a walk goes on, or it has ended in a fault of stage 2 at level 0
 abbrev pub Opens : {L : Type 0} → Ask Need Item (End L) → Type 0
@@ -100,10 +102,12 @@ module _ (r : Regime) (j : Bool) where
   within_end a front [] e u i w h l o = (refl, (done e, rw append-nil w, h))
   within_end a front (k ∷ rest) e u i w h l o = absurd (behind_stage2 a e k rest u i h (last_back front k rest i l) o)
 
-  within : (m : Bool) (a : Access) (items : List Item) (u : Ask Need Item (End Landing)) (i : Item) → Takes (fits r) (Whole m a) items u → LastIs items i →
+  within : (m : Bool) (a : Access) (items : List Item) (u : Ask Need Item (End Landing)) (i : Item) → Takes (fits r) (Whole m a) items u
+      → LastIs items i →
       i.stage ≡ S1 → Within m a items u
   within false a [] u i h l o = absurd l
-  within false a (k ∷ items) u i h l o = absurd (behind_stage2 a (cond (is_refused_off r.config a) (stops _) (reaches (off_leaf r.config a))) k items u i h l o)
+  within false a (k ∷ items) u i h l o = absurd (behind_stage2 a (cond (is_refused_off r.config a) (stops _)
+      (reaches (off_leaf r.config a))) k items u i h l o)
   within true a items u i h l o =
       elim (takes_after (fits r) (stage1_on (under r j a)) (stage2_behind (under r j a)) items u h) as (λ _. Within true a items u) [
         | inl w ↦ (refl, (ask w.0 w.1, w.2, w.3))
@@ -131,12 +135,14 @@ module _ (r : Regime) (j : Bool) where
         rw (levels_is (down1 r j b) left t)
         (opens_had r.config.vm (entry1 (under r j b) left t) (onward (beneath (down1 r j b) left) (by1 r j b left t)) (λ d. refl))
 
-  opens_beneath : (a b : Access) (left : ℕ) (t : Table1) → Opens (Behind a (beneath (down1 r j a) left t)) → Opens (Behind b (beneath (down1 r j b) left t))
+  opens_beneath : (a b : Access) (left : ℕ) (t : Table1) → Opens (Behind a (beneath (down1 r j a) left t))
+      → Opens (Behind b (beneath (down1 r j b) left t))
   opens_beneath a b zero t h = h
   opens_beneath a b (suc left) t h = opens_levels b left t
 
   -- behind a table both walks are open, if one is
-  opens_behind : (a b : Access) (left : ℕ) (t : Table1) (i : Item) (next : ℕ) (bits : TableBits) → means1_of r.config r.side left i.value ≡ Table next bits →
+  opens_behind : (a b : Access) (left : ℕ) (t : Table1) (i : Item) (next : ℕ) (bits : TableBits)
+      → means1_of r.config r.side left i.value ≡ Table next bits →
       Turn1 r left i → Opens (Behind a (behind1 r j a b a left t i)) → Opens (Behind b (behind1 r j a b b left t i))
   opens_behind a b left t i next bits m (table n s al d) h =
       let w : Opens (Behind a (beneath (down1 r j a) left record { address = n; bits = joined t.bits s })) = rw (d j a t) at h in
@@ -155,11 +161,14 @@ module _ (r : Regime) (j : Bool) where
 
   abbrev OpenedBy : Bool → (a b : Access) (left : ℕ) (items : List Item) → Type 0
   OpenedBy m a b left items = (class_of r.stage1.granule left ≤ 52)
-      × (Same1 r j a b (class_of r.stage1.granule left) → is_refused1 r.config b ≡ false → (u : Ask Need Item (End Landing)) × (v : Ask Need Item (End Landing))
+      × (Same1 r j a b (class_of r.stage1.granule left) → is_refused1 r.config b ≡ false
+      → (u : Ask Need Item (End Landing)) × (v : Ask Need Item (End Landing))
       × InStep (fits r) (SameRegion r) (Whole m a) (Whole m b) items u v × Opens u × Opens v)
 
-  opened_at : (a b : Access) (items : List Item) (i : Item) (left next : ℕ) (bits : TableBits) (u : Ask Need Item (End Leaf1)) → LastIs items i → i.stage ≡ S1 →
-      i.what ≡ Word → i.level ≡ level_of left → means1_of r.config r.side left i.value ≡ Table next bits → Opens (Behind a u) → Stepped1 r j a b items u →
+  opened_at : (a b : Access) (items : List Item) (i : Item) (left next : ℕ) (bits : TableBits) (u : Ask Need Item (End Leaf1)) → LastIs items i
+      → i.stage ≡ S1 →
+      i.what ≡ Word → i.level ≡ level_of left → means1_of r.config r.side left i.value ≡ Table next bits → Opens (Behind a u)
+      → Stepped1 r j a b items u →
       OpenedBy true a b left items
   opened_at a b items i left next bits u l o v e m h w =
       let q : i ≡ w.item = w.is_last i l o v in

@@ -1,5 +1,6 @@
 -- Stage 2 behind a table, for each IPA of the table's region.
-use Rattle.std.proofs.Common.{◌≡◌, ℕ, zero, suc, ◌/◌, ◌^◌, ◌≤◌, List, [], refl, sym, ap, ◌∙◌, arith, Bool, true, ◌&&◌, inr, ℤ, pos, negsuc, subst}
+use Rattle.std.proofs.Common.{◌≡◌, ℕ, zero, suc, ◌/◌, ◌^◌, ◌≤◌, List, [], refl, sym, ap}
+use Rattle.std.proofs.Common.{◌∙◌, arith, Bool, true, ◌&&◌, inr, ℤ, pos, negsuc, subst}
 use Rattle.std.specs.Prelude.{◌≡◌, Option, Some, None}
 use Rattle.std.proofs.lemmas.Bool.{eqb-true}
 use Rattle.std.proofs.lemmas.Int.{ints}
@@ -71,7 +72,8 @@ table_of : (c : Config) (left left' next : ℕ) (i i' : Item) → i ≡ i' → l
     means2_of c left' i'.value ≡ Table next
 table_of c left left' next i i' e l m = rw (← e, ← l) m
 
-class_of_table : (r : Regime) (left next : ℕ) (i : Item) → means2_of r.config left i.value ≡ Table next → class_of r.stage2.granule left ≤ class2 r left i
+class_of_table : (r : Regime) (left next : ℕ) (i : Item) → means2_of r.config left i.value ≡ Table next
+    → class_of r.stage2.granule left ≤ class2 r left i
 class_of_table r left next i m = rw m (omega arith)
 
 module _ (r : Regime) (p : Bool) (x y : ℕ) where
@@ -81,7 +83,8 @@ module _ (r : Regime) (p : Bool) (x y : ℕ) where
   asks_beneath (suc (suc left)) next h = tt
 
   -- behind a table both ask for a word, if one does
-  asks_behind : (left : ℕ) (i : Item) (next : ℕ) → means2_of r.config left i.value ≡ Table next → Turn2 r left i → AsksWord (behind2 r p x y x left i) →
+  asks_behind : (left : ℕ) (i : Item) (next : ℕ) → means2_of r.config left i.value ≡ Table next → Turn2 r left i
+      → AsksWord (behind2 r p x y x left i) →
       AsksWord (behind2 r p x y y left i)
   asks_behind left i next m (table n a d) h =
       let w : AsksWord (beneath (down2 r p x) left n) = rw (d p x) at h in
@@ -91,7 +94,8 @@ module _ (r : Regime) (p : Bool) (x y : ℕ) where
 
   -- Where the last item is a table and stage 2 needs a word, it goes in step with that of each IPA of the table's region,
   -- which needs a word too.
-  pub tables2_in_step : IsOfFields r → (items : List Item) (i : Item) (left next : ℕ) → LastIs items i → i.what ≡ Word → i.level ≡ level_of left →
+  pub tables2_in_step : IsOfFields r → (items : List Item) (i : Item) (left next : ℕ) → LastIs items i → i.what ≡ Word
+      → i.level ≡ level_of left →
       means2_of r.config left i.value ≡ Table next → x / 2 ^ class_of r.stage2.granule left ≡ y / 2 ^ class_of r.stage2.granule left →
       NeedsWord (on (fits r) (walk2 (asked2 r p x)) items) → (u : Ask Need Item (End Leaf2)) × (v : Ask Need Item (End Leaf2))
       × InStep (fits r) (SameRegion r) (walk2 (asked2 r p x)) (walk2 (asked2 r p y)) items u v × AsksWord u × AsksWord v

@@ -12,7 +12,8 @@ stands_fed (lacks n) = needs n
 abbrev pub GivesFitting : {N I : Type 0} → (N → I → Bool) → (N → Option I) → Type 0
 GivesFitting {N} {I} fits give = (n : N) (i : I) → give n ≡ Some i → fits n i ≡ true
 
-on_fed_at : {N I A : Type 0} (fits : N → I → Bool) (give : N → Option I) (n : N) (k : I → Ask N I A) (o : Option I) → ((i : I) → o ≡ Some i → fits n i ≡ true) →
+on_fed_at : {N I A : Type 0} (fits : N → I → Bool) (give : N → Option I) (n : N) (k : I → Ask N I A) (o : Option I)
+    → ((i : I) → o ≡ Some i → fits n i ≡ true) →
     ((i : I) → on fits (k i) (fed_items give (k i)) ≡ stands_fed (fed_end give (k i))) →
     on fits (ask n k) (with_answer o [] (λ i. i ∷ fed_items give (k i))) ≡ stands_fed (with_answer o (lacks n) (λ i. fed_end give (k i)))
 on_fed_at fits give n k None f r = refl

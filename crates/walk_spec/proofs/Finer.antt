@@ -15,14 +15,17 @@ TellsEnd tells (Ok a) e = e ≡ ended a
 TellsEnd tells (Err x) e = tells x e
 
 -- what is asked of a supply that walks for each question; `kept` holds of it from call to call
-pub record Walks {N M I V Y A X S : Type 0} (end : Y → A) (value : I → V) (gives : S → N → List I → Result V X → S → Type 0) (answers : M → I →
+pub record Walks {N M I V Y A X S : Type 0} (end : Y → A) (value : I → V) (gives : S → N → List I → Result V X → S → Type 0)
+    (answers : M → I →
     Type 0) (how : N → Ask M I (Result I Y)) (kept : S → Type 0) (tells : S → X → Fed M A → Type 0) : Type 0 where
   pub word : (s : S) (n : N) (front : List I) (i : I) (s' : S) → kept s → gives s n (front ++ i ∷ []) (Ok (value i)) s' →
       Took answers (how n) (front ++ i ∷ []) (ended (Ok i)) × kept s'
-  pub stop : (s : S) (n : N) (items : List I) (x : X) (s' : S) → kept s → gives s n items (Err x) s' → (e : Fed M (Result I Y)) × Took answers (how n) items e
+  pub stop : (s : S) (n : N) (items : List I) (x : X) (s' : S) → kept s → gives s n items (Err x) s'
+      → (e : Fed M (Result I Y)) × Took answers (how n) items e
       × StopsBy end (tells s') x e
 
-module _ {N M I V Y A X S : Type 0} (end : Y → A) (value : I → V) (gives : S → N → List I → Result V X → S → Type 0) (answers : M → I → Type 0) (how : N →
+module _ {N M I V Y A X S : Type 0} (end : Y → A) (value : I → V) (gives : S → N → List I → Result V X → S → Type 0)
+    (answers : M → I → Type 0) (how : N →
     Ask M I (Result I Y)) (kept : S → Type 0) (tells : S → X → Fed M A → Type 0) (law : Walks end value gives answers how kept tells) where
   abbrev pub Together : Ask N I A → List I → Result A X → S → Type 0
   Together t items r s' = (e : Fed M A) × Took answers (finer end how t) items e × TellsEnd (tells s') r e
@@ -53,7 +56,8 @@ pub record Keeps {N I V X S : Type 0} (gives : S → N → List I → Result V X
   pub each : (s : S) (n : N) (items : List I) (r : Result V X) (s' : S) → gives s n items r s' → kept s s'
 
 -- what each answer of a supply keeps, a walk over it keeps
-pub ran_keeps : {N I V A X S : Type 0} (value : I → V) (gives : S → N → List I → Result V X → S → Type 0) (kept : S → S → Type 0) → Keeps gives kept →
+pub ran_keeps : {N I V A X S : Type 0} (value : I → V) (gives : S → N → List I → Result V X → S → Type 0) (kept : S → S → Type 0)
+    → Keeps gives kept →
     (t : Ask N I A) (s : S) (items : List I) (r : Result A X) (s' : S) → Ran value gives t s items r s' → kept s s'
 ran_keeps value gives kept k (done a) s items r s' h = rw h.2 (k.here s)
 ran_keeps value gives kept k (ask n f) s items r s' (inl w) =

@@ -22,7 +22,8 @@ on_after fits (ask n k) f (i ∷ items) =
     ]
 
 -- a walk that has ended takes no more
-pub on_ends_append : {N I A : Type 0} (fits : N → I → Bool) (t : Ask N I A) (items more : List I) (a : A) (rest : List I) → on fits t items ≡ ends a rest →
+pub on_ends_append : {N I A : Type 0} (fits : N → I → Bool) (t : Ask N I A) (items more : List I) (a : A) (rest : List I)
+    → on fits t items ≡ ends a rest →
     on fits t (items ++ more) ≡ ends a (rest ++ more)
 on_ends_append fits (done b) items more a rest h = cc
 on_ends_append fits (ask n k) [] more a rest h = cc
@@ -34,7 +35,8 @@ on_ends_append fits (ask n k) (i ∷ items) more a rest h =
     ] h
 
 -- an item that does not fit is not mended by further items
-pub on_bad_append : {N I A : Type 0} (fits : N → I → Bool) (t : Ask N I A) (items more : List I) → on fits t items ≡ bad → on fits t (items ++ more) ≡ bad
+pub on_bad_append : {N I A : Type 0} (fits : N → I → Bool) (t : Ask N I A) (items more : List I) → on fits t items ≡ bad
+    → on fits t (items ++ more) ≡ bad
 on_bad_append fits (done b) items more h = cc
 on_bad_append fits (ask n k) [] more h = cc
 on_bad_append fits (ask n k) (i ∷ items) more h =
@@ -83,7 +85,8 @@ on_after_ends fits t f items b rest h =
     let s = on_split fits t items d.0 d.1 d.2 in
     (d.0, d.1, s.0, s.1, s.2, d.3)
 
-after_needs : {N I A B : Type 0} (fits : N → I → Bool) (f : A → Ask N I B) (s : Stands N I A) (n : N) → then_on s (λ a left. on fits (f a) left) ≡ needs n →
+after_needs : {N I A B : Type 0} (fits : N → I → Bool) (f : A → Ask N I B) (s : Stands N I A) (n : N)
+    → then_on s (λ a left. on fits (f a) left) ≡ needs n →
     (s ≡ needs n) ⊎ ((a : A) × (left : List I) × (s ≡ ends a left) × (on fits (f a) left ≡ needs n))
 after_needs fits f (needs m) n h = let q : m ≡ n = cc in inl (ap (λ z. needs z) q)
 after_needs fits f bad n h = absurd cc

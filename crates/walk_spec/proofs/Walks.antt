@@ -1,5 +1,6 @@
 -- How code that walks over a supply goes on, ends and lacks a word.
-use Rattle.std.proofs.Common.{◌≡◌, List, [], ◌∷◌, ◌++◌, refl, sym, ap, ◌∙◌, append_assoc, append-nil, ◌+◌, length, length-append, Err, Result}
+use Rattle.std.proofs.Common.{◌≡◌, List, [], ◌∷◌, ◌++◌, refl, sym, ap, ◌∙◌, append_assoc}
+use Rattle.std.proofs.Common.{append-nil, ◌+◌, length, length-append, Err, Result}
 use Rattle.geometry.specs.Tables.{level_of}
 use Rattle.trails.specs.declared.item.Item.{Item}
 use Rattle.trails.specs.declared.outcome.Stop.{Stop}
@@ -25,8 +26,16 @@ lacks_weaker m F G f (lacks (word w)) h = misses_weaker m w.place F G f h
 module _ {L : Type 0} (reads : Need → Item → Type 0) (m : Told) where
   -- the word was lacking
   pub walked_lacks : (F : Type 0) (t : Ask Need Item (End L)) (w : WordNeed) (k : Item → Ask Need Item (End L)) (old new : List Item) (r : Result L Stop) →
-      t ≡ ask (word w) k → new ≡ old → r ≡ Err (Absent w.stage (level_of w.left) w.place w.s1ptw) → Misses m w.place F → Walked reads m F t old new r
-  walked_lacks F t w k old new r e n a h = record { more = []; end = lacks (word w); grown = n ∙ sym (append-nil old); took = rw e refl; cause = h; answer = a }
+      t ≡ ask (word w) k → new ≡ old → r ≡ Err (Absent w.stage (level_of w.left) w.place w.s1ptw) → Misses m w.place F
+      → Walked reads m F t old new r
+  walked_lacks F t w k old new r e n a h = record {
+    more = [];
+    end = lacks (word w);
+    grown = n ∙ sym (append-nil old);
+    took = rw e refl;
+    cause = h;
+    answer = a;
+  }
 
   -- the walk asks nothing
   pub walked_done : (F : Type 0) (d : End L) (old new : List Item) (r : Result L Stop) → new ≡ old → r ≡ result_of (ended d) →
@@ -35,12 +44,14 @@ module _ {L : Type 0} (reads : Need → Item → Type 0) (m : Told) where
 
   -- the walk ended with this item
   pub walked_ends : (F : Type 0) (t : Ask Need Item (End L)) (n : Need) (k : Item → Ask Need Item (End L)) (i : Item) (d : End L) (old new : List Item)
-      (r : Result L Stop) → t ≡ ask n k → new ≡ old ++ i ∷ [] → reads n i → k i ≡ done d → r ≡ result_of (ended d) → Walked reads m F t old new r
+      (r : Result L Stop) → t ≡ ask n k → new ≡ old ++ i ∷ [] → reads n i → k i ≡ done d → r ≡ result_of (ended d)
+      → Walked reads m F t old new r
   walked_ends F t n k i d old new r e a h w x = record { more = i ∷ []; end = ended d; grown = a; took = rw e (h, rw w (refl, refl)); cause = tt; answer = x }
 
   -- the walk went on after this item
   pub walked_goes : (F G : Type 0) (t : Ask Need Item (End L)) (n : Need) (k : Item → Ask Need Item (End L)) (i : Item) (t' : Ask Need Item (End L))
-      (old mid new : List Item) (r : Result L Stop) → t ≡ ask n k → mid ≡ old ++ i ∷ [] → reads n i → k i ≡ t' → (F → G) → Walked reads m F t' mid new r →
+      (old mid new : List Item) (r : Result L Stop) → t ≡ ask n k → mid ≡ old ++ i ∷ [] → reads n i → k i ≡ t' → (F → G)
+      → Walked reads m F t' mid new r →
       Walked reads m G t old new r
   walked_goes F G t n k i t' old mid new r e a h w f d =
       record {

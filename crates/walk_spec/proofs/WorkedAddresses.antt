@@ -7,7 +7,8 @@ use Rattle.attributes.specs.declared.kinds.Share.TheVariants.{Nsh, Ish, Osh}
 use Rattle.fault_codes.specs.declared.fault.Stage.TheVariants.{S1}
 use Rattle.fault_codes.specs.declared.fault.Class.TheVariants.{Translation, AddressSize}
 use Rattle.trails.specs.declared.outcome.Outcome.TheVariants.{Mapped}
-use Rattle.walk_spec.proofs.Worked.{on_worked_walks, image, words_at, tables, stage1_regs, page_regs, access, kernel_read, descent, rights, wb, wt, normal, fault, Comes, Comes1, user_regs}
+use Rattle.walk_spec.proofs.Worked.{on_worked_walks, image, words_at, tables, stage1_regs, page_regs, access, kernel_read}
+use Rattle.walk_spec.proofs.Worked.{descent, rights, wb, wt, normal, fault, Comes, Comes1, user_regs}
 
 -- a tagged user address to a page that EL0 and EL1 may read and write
 maps_a_tagged_address

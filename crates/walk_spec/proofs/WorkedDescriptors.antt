@@ -10,7 +10,8 @@ use Rattle.fault_codes.specs.declared.fault.Stage.TheVariants.{S1, S2}
 use Rattle.fault_codes.specs.declared.fault.Class.TheVariants.{Translation, AddressSize, AccessFlag, Permission}
 use Rattle.trails.specs.declared.item.Item.{Item}
 use Rattle.trails.specs.declared.outcome.Outcome.TheVariants.{Mapped}
-use Rattle.walk_spec.proofs.Worked.{on_worked_walks, words_at, tables, stage1_regs, page_regs, nested_regs, access, kernel_read, base, item, descent, one_page, rights, fault, descriptor_fault, absent, descriptor_absent, Comes}
+use Rattle.walk_spec.proofs.Worked.{on_worked_walks, words_at, tables, stage1_regs, page_regs, nested_regs, access, kernel_read, base, item}
+use Rattle.walk_spec.proofs.Worked.{descent, one_page, rights, fault, descriptor_fault, absent, descriptor_absent, Comes}
 
 -- an empty memory lacks the first word
 lacks_the_first_word : Comes (stage1_regs 0x10 0x1000) (words_at []) (kernel_read 0x40201abc) (base S1 0 0x1000 ∷ []) (absent S1 0 0x1000)

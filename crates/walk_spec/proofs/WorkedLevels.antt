@@ -12,7 +12,8 @@ use Rattle.fault_codes.specs.declared.fault.Stage.TheVariants.{S1, S2}
 use Rattle.fault_codes.specs.declared.fault.Class.TheVariants.{Translation}
 use Rattle.trails.specs.declared.item.Item.{Item}
 use Rattle.trails.specs.declared.outcome.Outcome.TheVariants.{Mapped}
-use Rattle.walk_spec.proofs.Worked.{on_worked_walks, image, words_at, tables, stage1_regs, stage2_regs, page_regs, nested_regs, access, kernel_read, base, item, descent, one_page, rights, wb, wt, normal, fault, descriptor_fault, Comes, Comes1, Comes2}
+use Rattle.walk_spec.proofs.Worked.{on_worked_walks, image, words_at, tables, stage1_regs, stage2_regs, page_regs, nested_regs, access, kernel_read, base}
+use Rattle.walk_spec.proofs.Worked.{item, descent, one_page, rights, wb, wt, normal, fault, descriptor_fault, Comes, Comes1, Comes2}
 
 -- four levels to a page
 maps_a_page

@@ -8,7 +8,8 @@ use Rattle.attributes.specs.declared.kinds.Share.TheVariants.{Nsh, Osh}
 use Rattle.fault_codes.specs.declared.fault.Stage.TheVariants.{S1, S2}
 use Rattle.fault_codes.specs.declared.fault.Class.TheVariants.{AccessFlag, Permission}
 use Rattle.trails.specs.declared.outcome.Outcome.TheVariants.{Mapped}
-use Rattle.walk_spec.proofs.Worked.{on_worked_walks, image, words_at, tables, stage1_regs, stage2_regs, page_regs, nested_regs, access, kernel_read, base, item, descent, one_page, rights, wb, normal, fault, Comes, Comes1, Comes2, user_regs}
+use Rattle.walk_spec.proofs.Worked.{on_worked_walks, image, words_at, tables, stage1_regs, stage2_regs, page_regs, nested_regs, access, kernel_read}
+use Rattle.walk_spec.proofs.Worked.{base, item, descent, one_page, rights, wb, normal, fault, Comes, Comes1, Comes2, user_regs}
 
 -- with PAN, EL1 may not read what EL0 may
 guards_user_pages

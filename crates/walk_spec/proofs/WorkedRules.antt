@@ -8,7 +8,8 @@ use Rattle.attributes.specs.declared.kinds.Share.TheVariants.{Osh}
 use Rattle.fault_codes.specs.declared.fault.Stage.TheVariants.{S1, S2}
 use Rattle.fault_codes.specs.declared.fault.Class.TheVariants.{Translation, AddressSize, Permission}
 use Rattle.trails.specs.declared.outcome.Outcome.TheVariants.{Mapped}
-use Rattle.walk_spec.proofs.Worked.{on_worked_walks, words_at, stage1_regs, stage2_regs, page_regs, nested_regs, access, kernel_read, base, item, one_page, rights, fault, Comes, Comes1, Comes2}
+use Rattle.walk_spec.proofs.Worked.{on_worked_walks, words_at, stage1_regs, stage2_regs, page_regs, nested_regs, access}
+use Rattle.walk_spec.proofs.Worked.{kernel_read, base, item, one_page, rights, fault, Comes, Comes1, Comes2}
 
 -- a stage 2 base at the output size: for the output the fault has no mark
 bounds_the_stage_2_base_for_the_output

@@ -9,7 +9,8 @@ use Rattle.attributes.specs.declared.kinds.Share.TheVariants.{Ish, Osh}
 use Rattle.fault_codes.specs.declared.fault.Stage.TheVariants.{S1, S2}
 use Rattle.fault_codes.specs.declared.fault.Class.TheVariants.{AddressSize}
 use Rattle.trails.specs.declared.outcome.Outcome.TheVariants.{Mapped}
-use Rattle.walk_spec.proofs.Worked.{on_worked_walks, image, words_at, tables, stage1_regs, stage2_regs, nested_regs, access, kernel_read, base, descent, rights, wb, wt, normal, fault, descriptor_fault, Comes, Comes1, Comes2}
+use Rattle.walk_spec.proofs.Worked.{on_worked_walks, image, words_at, tables, stage1_regs, stage2_regs, nested_regs, access, kernel_read}
+use Rattle.walk_spec.proofs.Worked.{base, descent, rights, wb, wt, normal, fault, descriptor_fault, Comes, Comes1, Comes2}
 
 -- an output above 32 bits
 bounds_the_output

@@ -10,7 +10,8 @@ use Rattle.attributes.specs.declared.kinds.Share.TheVariants.{Osh}
 use Rattle.fault_codes.specs.declared.fault.Stage.TheVariants.{S1, S2}
 use Rattle.fault_codes.specs.declared.fault.Class.TheVariants.{Translation}
 use Rattle.trails.specs.declared.outcome.Outcome.TheVariants.{Mapped}
-use Rattle.walk_spec.proofs.Worked.{on_worked_walks, words_at, stage1_regs, stage2_regs, nested_regs, access, kernel_read, base, item, descent, rights, wb, wt, normal, fault, descriptor_fault, Comes, Comes2}
+use Rattle.walk_spec.proofs.Worked.{on_worked_walks, words_at, stage1_regs, stage2_regs, nested_regs, access, kernel_read, base, item}
+use Rattle.walk_spec.proofs.Worked.{descent, rights, wb, wt, normal, fault, descriptor_fault, Comes, Comes2}
 
 -- stage 1 off, and stage 2 from level 1 with tables concatenated
 abbrev guest_regs : ℕ → Regs

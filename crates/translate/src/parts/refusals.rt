@@ -1,5 +1,6 @@
 //! What each stage refuses before its base.
-ghost use Rattle.std.specs.Prelude.{◌≡◌, ◌≤◌, ◌<◌, ◌+◌, ◌-◌, ◌^◌, ◌==◌, pos, ◌≤ℤ◌, if◌then◌else◌, IsTrue, IfSome, IfOk};
+ghost use Rattle.std.specs.Prelude.{◌≡◌, ◌≤◌, ◌<◌, ◌+◌, ◌-◌, ◌^◌, ◌==◌, pos};
+ghost use Rattle.std.specs.Prelude.{◌≤ℤ◌, if◌then◌else◌, IsTrue, IfSome, IfOk};
 ghost use Rattle.bitwords.specs.Fields.{bits_of, bit};
 ghost use Rattle.sysregs.specs.Registers.{InRange};
 ghost use Rattle.sysregs.specs.Sides.{side_of};

@@ -23,7 +23,9 @@ loop-index-preserved c =
     let whole : 56 * c.loop-index.index + 56 - 56 * c.loop-index.index ≡ 56 = omega arith in
     record {
       within =
-          rw c.in_ok-push.ensures.items (All-push (λ (s : Segment). s.offset + s.size ≤ c.args.size) _ _ c.loop-index.invariant.within c.if-segment-size.false);
+          rw c.in_ok-push.ensures.items (All-push (λ
+          (s : Segment). s.offset + s.size ≤ c.args.size) _ _ c.loop-index.invariant.within c.if-segment-size.false);
       due = rw c.in_ok-push.ensures.items
-          (sym (taken _ _ _ _ _ c.in-Some.segment c.loop-index-test.true (rw whole at c.in-Some.ensures) c.if-segment-size.false) ∙ c.loop-index.invariant.due);
+          (sym (taken _ _ _ _ _ c.in-Some.segment c.loop-index-test.true (rw whole at c.in-Some.ensures) c.if-segment-size.false)
+          ∙ c.loop-index.invariant.due);
     }

@@ -19,7 +19,8 @@ returns-clause-part g c =
     let size : length page ≡ min 4096 (c.args.file.now.size - (c.args.at - c.args.at % 4096)) = omega (arith, c.in-Ok.ensures.len) in
     let start : c.args.at - c.args.at % 4096 ≡ 4096 * (c.args.at / 4096) = omega arith in
     let same = written c.in-Ok.page.len page c.in-Ok.page.items (omega arith) in
-    let copied = c.copy_part.ensures ∙ ap (λ (x : List ℕ). take (length c.copy_part.new.into) (drop (c.args.at % 4096) x)) (c.as_slice.ensures.value ∙ same) in
+    let copied = c.copy_part.ensures ∙ ap (λ (x : List ℕ). take (length c.copy_part.new.into) (drop (c.args.at % 4096) x))
+    (c.as_slice.ensures.value ∙ same) in
     part_whole _ _ _ _ _ _ page size _ (c.args.at % 4096) _ _ c.in_ok-count.ensures.bytes (omega arith) (omega arith) copied
 
 pub returns-clause-stay : goal.returns-clause-stay

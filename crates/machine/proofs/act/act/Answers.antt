@@ -25,7 +25,8 @@ returns-in-Msr-clause-cores c h cores are =
     rw c.in-Msr.is (λ d lt.
     one_at h cores (moved h w (Msr c.in-Msr.core c.in-Msr.reg c.in-Msr.value)) c.args.seats.now c.in-Msr.core c.index-seats-core.result new
     (rw c.in-Msr.is at c.requires.here) are
-    (λ v t. subst (λ (u : Core). IsSeatOf h c.in-Msr.core u new) (msr_own h w c.in-Msr.core c.in-Msr.reg c.in-Msr.value v) (c.msr.ensures h c.in-Msr.core v t))
+    (λ v t. subst (λ (u : Core). IsSeatOf h c.in-Msr.core u new) (msr_own h w c.in-Msr.core c.in-Msr.reg c.in-Msr.value v)
+    (c.msr.ensures h c.in-Msr.core v t))
     (λ k v ne. msr_other h w c.in-Msr.core c.in-Msr.reg c.in-Msr.value k v ne) d lt)
 
 pub returns-in-Settle-clause-cores : goal.returns-in-Settle-clause-cores

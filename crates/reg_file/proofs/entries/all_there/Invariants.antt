@@ -6,4 +6,5 @@ use Rattle.reg_file.proofs.entries.all_there.Given as goal
 -- the registers so far are there
 abbrev pub invariant-loop-reg : goal.invariant-loop-reg
 invariant-loop-reg l =
-    find (λ reg. is_none (entry (table_view l.table) reg)) (drop l.reg-index l.reg-items) ≡ find (λ reg. is_none (entry (table_view l.table) reg)) needed_regs
+    find (λ reg. is_none (entry (table_view l.table) reg)) (drop l.reg-index l.reg-items) ≡ find
+    (λ reg. is_none (entry (table_view l.table) reg)) needed_regs

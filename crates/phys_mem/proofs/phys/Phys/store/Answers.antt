@@ -3,7 +3,10 @@ use Rattle.phys_mem.proofs.Places.{there_by, stored}
 use Rattle.phys_mem.proofs.phys.Phys.store.Goals as goal
 
 pub returns-in_default-clause-there : goal.returns-in_default-clause-there
-returns-in_default-clause-there c = rw (← c.self.view_is) (there_by _ c.args.pa None (rw (← c.as_slice.ensures.value, ← c.index_of.ensures.is) c.in_default.is))
+returns-in_default-clause-there c = rw (← c.self.view_is) (there_by _ c.args.pa None (rw (
+  ← c.as_slice.ensures.value,
+  ← c.index_of.ensures.is,
+) c.in_default.is))
 
 pub returns-clause-there : goal.returns-clause-there
 returns-clause-there c = rw (← c.self.view_is)
