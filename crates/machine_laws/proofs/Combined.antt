@@ -35,7 +35,8 @@ use Rattle.machine_spec.specs.Kept.{View, now, IsHeld}
 use Rattle.tagged_tlb.specs.declared.row.Row.{Row}
 use Rattle.machine_spec.specs.Made.{Maker, key_of, key_for, made_in, is_read_now, last_first, rows_of, leaf_row}
 use Rattle.machine_spec.specs.Made.{leaf_rows, combined_rows, numbered, rows_made, chain_with}
-use Rattle.machine_laws.proofs.Trees.{IsOn, AllSecond}
+use Rattle.machine_laws.specs.Standing.{IsOn}
+use Rattle.machine_laws.proofs.Trees.{AllSecond}
 use Rattle.machine_laws.proofs.Facts.{In, sided, regime_for, IsStored, IsRow}
 use Rattle.machine_laws.proofs.Laws.{FirstLeaf, Laws}
 use Rattle.machine_laws.proofs.Stands.{on_ends}

@@ -32,7 +32,8 @@ use Rattle.machine_spec.specs.Machine.{Core, World, core_numbered}
 pub use Rattle.machine_laws.specs.Leaving.{In}
 pub use Rattle.machine_laws.specs.MayServe.{MayServe}
 use Rattle.machine_laws.proofs.Pairs.{AllPairs}
-use Rattle.machine_laws.proofs.Trees.{IsOn, chain, Plan, fin, flat, IsSound, IsWords}
+use Rattle.machine_laws.specs.Standing.{IsOn}
+use Rattle.machine_laws.proofs.Trees.{chain, Plan, fin, flat, IsSound, IsWords}
 
 -- the view of a core, of an access of this side
 abbrev pub sided : View → Side → View

@@ -31,7 +31,8 @@ use Rattle.machine_spec.specs.Made.{key_of, last_first}
 use Rattle.tagged_tlb.specs.Sets.{Cache, filled}
 use Rattle.machine_spec.specs.Served.{Supplied, gives, halts, Place, supply, Halt, came, clash, Reply, serve, served}
 use Rattle.machine_spec.specs.Machine.{Core, made_by}
-use Rattle.machine_laws.proofs.Trees.{IsOn, chain, Plan, flat, IsSound, IsWords, IsWord}
+use Rattle.machine_laws.specs.Standing.{IsOn}
+use Rattle.machine_laws.proofs.Trees.{chain, Plan, flat, IsSound, IsWords, IsWord}
 use Rattle.machine_laws.proofs.Facts.{In, regime_for, IsRow, AllApart, Facts}
 
 -- kept as of now, with a use that has been

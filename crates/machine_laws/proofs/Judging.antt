@@ -25,7 +25,8 @@ use Rattle.walk_spec.specs.BothStages.{Landing, landed, judged2, is_refused1, wa
 use Rattle.walk_laws.proofs.Stage1.{under, Turn1, table, leaf, fault, turn1}
 use Rattle.machine_spec.specs.Marks.{Mark, mark, marks, is_first}
 use Rattle.machine_spec.specs.Allowed.{is_of_word}
-use Rattle.machine_laws.proofs.Trees.{IsOn, chain, Plan, fin, own, via, joined, flat, rest_by}
+use Rattle.machine_laws.specs.Standing.{IsOn}
+use Rattle.machine_laws.proofs.Trees.{chain, Plan, fin, own, via, joined, flat, rest_by}
 use Rattle.machine_laws.proofs.Facts.{regime_for}
 use Rattle.machine_laws.proofs.Laws.{IsCut, Judged}
 use Rattle.machine_laws.proofs.Stands.{on_append, marks_append, on_after, marks_after, Split, on_split, joined_is}

@@ -34,7 +34,8 @@ use Rattle.walk_laws.proofs.Stage1.{under, Turn1, table as goes_down, leaf as ma
 use Rattle.machine_spec.specs.Marks.{Mark, mark, marks, is_first, is_global, part_of}
 use Rattle.machine_spec.specs.Made.{last_first}
 use Rattle.machine_spec.specs.Allowed.{Entry, entry_of, last_entry, last_entry1}
-use Rattle.machine_laws.proofs.Trees.{IsOn, is_need1, chain, IsSecond, AllSecond}
+use Rattle.machine_laws.specs.Standing.{IsOn}
+use Rattle.machine_laws.proofs.Trees.{is_need1, chain, IsSecond, AllSecond}
 use Rattle.machine_laws.proofs.Facts.{regime_for}
 use Rattle.machine_laws.proofs.Stands.{on_after, marks_append, marks_after, on_split, second_marks, mark_first}
 use Rattle.machine_laws.proofs.PlanOf.{word_need, early2, root_table, out_is}

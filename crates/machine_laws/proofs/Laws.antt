@@ -18,7 +18,8 @@ use Rattle.machine_spec.specs.Uses.{LastIs}
 use Rattle.machine_spec.specs.Allowed.{is_of_word, last_entry, last_entry1}
 use Rattle.tagged_tlb.specs.Rows.{holds}
 use Rattle.machine_spec.specs.Made.{last_first}
-use Rattle.machine_laws.proofs.Trees.{IsOn, chain, Plan, fin, flat, IsSound, IsWords, IsWord, AllSecond}
+use Rattle.machine_laws.specs.Standing.{IsOn}
+use Rattle.machine_laws.proofs.Trees.{chain, Plan, fin, flat, IsSound, IsWords, IsWord, AllSecond}
 use Rattle.machine_laws.proofs.Facts.{regime_for}
 
 -- a trail of stage 2 that reaches a leaf for another IPA, and meets the same

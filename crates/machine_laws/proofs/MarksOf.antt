@@ -17,7 +17,7 @@ use Rattle.walk_laws.proofs.Stepping.{Takes, InStep}
 use Rattle.walk_laws.proofs.Places.{SameRegion, first_of_and, second_of_and}
 use Rattle.walk_laws.proofs.Tables2.{level_of_one}
 use Rattle.machine_spec.specs.Marks.{Mark, mark, marks, part_of}
-use Rattle.machine_laws.proofs.Trees.{IsOn}
+use Rattle.machine_laws.specs.Standing.{IsOn}
 use Rattle.machine_laws.proofs.Stands.{marks_nil}
 
 -- ITEMS THAT FIT

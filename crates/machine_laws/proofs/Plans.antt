@@ -26,7 +26,8 @@ use Rattle.machine_spec.specs.Kept.{View, now, IsNowBase}
 use Rattle.machine_spec.specs.Allowed.{is_of_word, IsNowOf}
 use Rattle.tagged_tlb.specs.declared.row.Row.{Row}
 use Rattle.machine_spec.specs.Served.{Supplied, gives, halts, clash, supplied_by, supply, came, Reply, pushed, goes_on, serve}
-use Rattle.machine_laws.proofs.Trees.{IsOn, is_need1, needs_base, chain, Plan, fin, own, via, joined, flat, rest_by, IsSound, IsSecond, IsWords, AllSecond}
+use Rattle.machine_laws.specs.Standing.{IsOn}
+use Rattle.machine_laws.proofs.Trees.{is_need1, needs_base, chain, Plan, fin, own, via, joined, flat, rest_by, IsSound, IsSecond, IsWords, AllSecond}
 use Rattle.machine_laws.proofs.Facts.{regime_for}
 use Rattle.machine_laws.proofs.Laws.{Laws}
 use Rattle.machine_laws.proofs.Stands.{on_append, marks_append, on_after, marks_nil, joined_is, via_marks}

@@ -29,7 +29,7 @@ use Rattle.walk_laws.proofs.Shifts.{of_fields, same_side}
 use Rattle.walk_laws.proofs.Stage1.{under, Turn1, table, leaf, fault, turn1}
 use Rattle.walk_laws.proofs.Landings.{walk_in_step}
 use Rattle.machine_spec.specs.Marks.{Mark, mark, marks}
-use Rattle.machine_laws.proofs.Trees.{IsOn}
+use Rattle.machine_laws.specs.Standing.{IsOn}
 use Rattle.machine_laws.proofs.Facts.{regime_for}
 use Rattle.machine_laws.proofs.Laws.{FirstLeaf}
 use Rattle.machine_laws.proofs.PlanOf.{root_table}

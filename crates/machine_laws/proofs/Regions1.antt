@@ -40,7 +40,8 @@ use Rattle.walk_laws.proofs.Stage1.{under}
 use Rattle.walk_laws.proofs.Tables1.{Opens, is_open, tables1_in_step}
 use Rattle.machine_spec.specs.Marks.{table, Mark, mark, marks, is_first, part_of, part1}
 use Rattle.tagged_tlb.specs.Rows.{holds}
-use Rattle.machine_laws.proofs.Trees.{IsOn, chain, Plan, fin, own, via, joined, flat, rest_by, IsSound, AllSecond}
+use Rattle.machine_laws.specs.Standing.{IsOn}
+use Rattle.machine_laws.proofs.Trees.{chain, Plan, fin, own, via, joined, flat, rest_by, IsSound, AllSecond}
 use Rattle.machine_laws.proofs.Facts.{regime_for}
 use Rattle.machine_laws.proofs.Laws.{FirstTable}
 use Rattle.machine_laws.proofs.Stands.{marks_append, joined_is, via_on, via_marks, second_marks, marks_nil}

@@ -34,7 +34,8 @@ use Rattle.walk_laws.proofs.Stage2.{down2, walk2_levels, class2, behind2, Steppe
 use Rattle.walk_laws.proofs.Tables2.{level_of_one, fit_level}
 use Rattle.machine_spec.specs.Marks.{Part, nothing, table, leaf_of_stage2, Mark, mark, marks, part_of, part2}
 use Rattle.tagged_tlb.specs.Rows.{holds}
-use Rattle.machine_laws.proofs.Trees.{IsOn, chain, IsWords}
+use Rattle.machine_laws.specs.Standing.{IsOn}
+use Rattle.machine_laws.proofs.Trees.{chain, IsWords}
 use Rattle.machine_laws.proofs.Laws.{ChainLeaf, ChainTable}
 use Rattle.machine_laws.proofs.Stands.{words_on, marks_nil}
 use Rattle.machine_laws.proofs.Sounds.{words_behind}

@@ -34,7 +34,8 @@ use Rattle.machine_spec.specs.Uses.{next_first, next_second, above_of, AllUsed, 
 use Rattle.machine_spec.specs.Kept.{IsNowBase}
 use Rattle.machine_spec.specs.Allowed.{IsNowOf}
 use Rattle.machine_spec.specs.Served.{Supplied, Halt, came, clash, Reply, pushed, serve}
-use Rattle.machine_laws.proofs.Trees.{IsOn, is_need1, needs_base, chain, Plan, fin, own, via, flat, rest_by, IsSound, IsSecond, AllSecond, IsWord}
+use Rattle.machine_laws.specs.Standing.{IsOn}
+use Rattle.machine_laws.proofs.Trees.{is_need1, needs_base, chain, Plan, fin, own, via, flat, rest_by, IsSound, IsSecond, AllSecond, IsWord}
 use Rattle.machine_laws.proofs.Fine.{Good, IsNow, LastOk, Kept1, FineOf}
 use Rattle.machine_laws.proofs.Stands.{on_append, marks_append, via_on, via_marks, mark_first, mark_base, second_marks, flat_fin}
 use Rattle.machine_laws.proofs.Uses.{use_first, use_second, above_first, above_second, above_leaf, first_none}

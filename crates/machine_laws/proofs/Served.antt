@@ -35,7 +35,8 @@ use Rattle.tagged_tlb.specs.Rows.{holds, matches1, is_older, inserted, by_making
 use Rattle.machine_spec.specs.Made.{key_of, last_first}
 use Rattle.machine_spec.specs.Served.{Supplied, supply, Halt, came, clash, Reply, pushed, halted, serve, taken, credited, begun1, combined, served}
 use Rattle.machine_spec.specs.Machine.{Core}
-use Rattle.machine_laws.proofs.Trees.{IsOn, chain, Plan, fin, flat, IsWord, AllSecond}
+use Rattle.machine_laws.specs.Standing.{IsOn}
+use Rattle.machine_laws.proofs.Trees.{chain, Plan, fin, flat, IsWord, AllSecond}
 use Rattle.machine_laws.proofs.Facts.{In, sided, regime_for, IsStored, MayServe, IsLeafRow1, IsTableRow1, IsRowBy, IsApart, AllApart, Facts}
 use Rattle.machine_laws.proofs.Laws.{Laws, Judged, IsCut}
 use Rattle.machine_laws.proofs.Lists.{In-filter, none_some}

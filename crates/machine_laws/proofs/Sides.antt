@@ -16,7 +16,8 @@ use Rattle.walk_spec.specs.Stage1.{asked2}
 use Rattle.walk_laws.proofs.Places.{word_at}
 use Rattle.walk_laws.proofs.Stage2.{Turn2, table, leaf, fault, turn2}
 use Rattle.machine_spec.specs.Marks.{mark, marks}
-use Rattle.machine_laws.proofs.Trees.{IsOn, chain}
+use Rattle.machine_laws.specs.Standing.{IsOn}
+use Rattle.machine_laws.proofs.Trees.{chain}
 use Rattle.machine_laws.proofs.Stands.{marks_nil}
 
 -- two chains under two regimes ask alike and reach one leaf

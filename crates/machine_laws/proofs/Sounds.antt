@@ -27,7 +27,8 @@ use Rattle.permissions.specs.Rights.{is_allowed2}
 use Rattle.machine_spec.specs.Marks.{Mark, mark, marks}
 use Rattle.machine_spec.specs.Uses.{LastIs}
 use Rattle.machine_spec.specs.Allowed.{is_of_word}
-use Rattle.machine_laws.proofs.Trees.{IsOn, is_need1, needs_base, chain, Plan, fin, own, via, joined, flat}
+use Rattle.machine_laws.specs.Standing.{IsOn}
+use Rattle.machine_laws.proofs.Trees.{is_need1, needs_base, chain, Plan, fin, own, via, joined, flat}
 use Rattle.machine_laws.proofs.Trees.{rest_by, IsSound, IsSecond, IsWords, AllSecond, IsWord}
 use Rattle.machine_laws.proofs.Facts.{regime_for}
 use Rattle.machine_laws.proofs.Stands.{marks_append, on_split, joined_is, via_on, via_marks, mark_base, words_second, second_marks, marks_nil, flat_fin}

@@ -8,7 +8,8 @@ use Rattle.walk_spec.specs.Needs.{Regime, Need, stage1_base, stage2_base, word, 
 use Rattle.walk_spec.specs.Steps.{End}
 use Rattle.walk_spec.specs.BothStages.{Landing}
 use Rattle.machine_spec.specs.Marks.{Mark, mark, marks, is_first}
-use Rattle.machine_laws.proofs.Trees.{IsOn, is_need1, needs_base, chain, Plan, via, joined, flat, rest_by, IsSecond, IsWords, AllSecond, fin, own}
+use Rattle.machine_laws.specs.Standing.{IsOn}
+use Rattle.machine_laws.proofs.Trees.{is_need1, needs_base, chain, Plan, via, joined, flat, rest_by, IsSecond, IsWords, AllSecond, fin, own}
 
 module _ {A : Type 0} (r : Regime) where
   pub on_append : (t u v : Ask Need Item A) (xs ys : List Item) → IsOn r t xs u → IsOn r u ys v → IsOn r t (xs ++ ys) v

@@ -13,12 +13,7 @@ use Rattle.walk_spec.specs.Stage1.{asked2}
 use Rattle.walk_spec.specs.BothStages.{Landing}
 use Rattle.machine_spec.specs.Marks.{Mark, is_first}
 use Rattle.machine_spec.specs.Allowed.{is_of_word}
-
--- the list stands on the tree, and this tree is left
-abbrev pub IsOn : {A : Type 0} → Regime → Ask Need Item A → List Item → Ask Need Item A → Type 0
-IsOn r t [] u = u ≡ t
-IsOn r (done a) (i ∷ items) u = ⊥
-IsOn r (ask n k) (i ∷ items) u = (fits r n i ≡ true) × IsOn r (k i) items u
+use Rattle.machine_laws.specs.Standing.{IsOn}
 
 -- a need of stage 1
 abbrev pub is_need1 : Need → Bool

@@ -16,6 +16,7 @@ pub use Rattle.tagged_tlb.specs.Sets
 pub use Rattle.tagged_tlb.specs.Stands
 pub use Rattle.machine_spec.specs.Served
 pub use Rattle.machine_spec.specs.Machine
+pub mod Standing
 pub mod Headline
 pub mod Promise
 pub mod NotAllowed

@@ -25,7 +25,7 @@ use Rattle.walk_laws.proofs.Shifts.{of_fields}
 use Rattle.translate.specs.Replayed.{stands_whole}
 use Rattle.machine_spec.specs.Marks.{Mark, marks, is_first, is_leaf, is_leaf1}
 use Rattle.machine_spec.specs.Made.{Maker, is_read_now, leaf_row, leaf_rows, last_first, rows_of, combined_rows, numbered, rows_made}
-use Rattle.machine_laws.proofs.Trees.{IsOn}
+use Rattle.machine_laws.specs.Standing.{IsOn}
 use Rattle.machine_laws.proofs.MarksOf.{fits_word_parts, fits_base1_parts, fits_base2_parts}
 use Rattle.served_walk.proofs.Ties.{ends_on, needs_on}
 use Rattle.made_rows.specs.declared.gather.Stand.{Stand}

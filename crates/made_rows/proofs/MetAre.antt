@@ -9,7 +9,7 @@ use Rattle.walk_spec.specs.Ask.{Ask, done, ask}
 use Rattle.walk_spec.specs.Needs.{Regime, Need, stage1_base, stage2_base, word, WordNeed, fits}
 use Rattle.stage2_walk.proofs.Starts.{left_below_of}
 use Rattle.machine_spec.specs.Marks.{Mark, mark, marks}
-use Rattle.machine_laws.proofs.Trees.{IsOn}
+use Rattle.machine_laws.specs.Standing.{IsOn}
 use Rattle.machine_laws.proofs.MarksOf.{fits_word_parts, fits_base1_parts, fits_base2_parts}
 use Rattle.served_walk.specs.Spots.{mark_of_word}
 use Rattle.tlbi_ops.specs.Covers.{is_stage1}

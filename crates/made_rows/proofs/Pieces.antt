@@ -31,7 +31,7 @@ use Rattle.walk_spec.specs.BothStages.{Landing, landed, piece, smaller, judged2,
 use Rattle.walk_spec.specs.BothStages.{stage1_behind, stage2_behind, is_refused1, is_refused_off, off_leaf}
 use Rattle.machine_spec.specs.Marks.{Mark, mark, marks, is_first}
 use Rattle.machine_spec.specs.Made.{last_first}
-use Rattle.machine_laws.proofs.Trees.{IsOn}
+use Rattle.machine_laws.specs.Standing.{IsOn}
 use Rattle.made_rows.specs.Pieces.{after1, after2, IsPiece}
 use Rattle.made_rows.proofs.Steady.{cond_reached, down_not}
 

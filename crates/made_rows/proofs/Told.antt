@@ -14,7 +14,7 @@ use Rattle.walk_spec.specs.Steps.{End, stops, reaches}
 use Rattle.walk_spec.specs.BothStages.{Landing, walk, outcome_of}
 use Rattle.walk_spec.specs.Fresh.{fed_outcome}
 use Rattle.machine_spec.specs.Served.{Place, came, served}
-use Rattle.machine_laws.proofs.Trees.{IsOn}
+use Rattle.machine_laws.specs.Standing.{IsOn}
 use Rattle.served_walk.proofs.Ties.{ends_on, needs_on}
 use Rattle.made_rows.specs.NewRows.{StandsTo}
 use Rattle.made_rows.proofs.Ends.{Ends, IsEnd, IsLanding, status_at, walk_ends}

@@ -43,6 +43,15 @@ fn index_in(ranges: &[(u64, u64)], pa: u64) -> Option<usize>
     None
 }
 
+/// Which word holds the eight bytes from a place on, and that it is there.
+fn index_at(ranges: &[(u64, u64)], pa: u64) -> Option<usize>
+    requires { AreHeld ranges.now }
+    ensures is { result ≡ index_from 0 ranges.now pa }
+    ensures within { IfSome result (λ k. 8 * k + 8 ≤ bytes_of ranges.now) }
+{
+    index_in(ranges, pa)
+}
+
 /// Which word stands at a place.
 fn index_of(ranges: &[(u64, u64)], pa: u64) -> Option<usize>
     requires { AreHeld ranges.now }
@@ -50,7 +59,7 @@ fn index_of(ranges: &[(u64, u64)], pa: u64) -> Option<usize>
     ensures within { IfSome result (λ k. 8 * k + 8 ≤ bytes_of ranges.now) }
 {
     if is_aligned(pa) {
-        index_in(ranges, pa)
+        index_at(ranges, pa)
     } else {
         None
     }
@@ -76,6 +85,16 @@ impl Phys {
     {
         let index = index_of(self.ranges.as_slice(), pa)?;
         Some(self.words.get(index))
+    }
+
+    /// What stands at a place in bytes: its word where the place is a multiple of 8, and else 0. None where the eight bytes from
+    /// it on aren't whole in one range.
+    #[tactic(auto, unfolding(crate::specs::Words::memory_of))]
+    pub fn seen(&self, pa: u64) -> Option<u64>
+        ensures { result ≡ memory_of self.now pa }
+    {
+        let index = index_at(self.ranges.as_slice(), pa)?;
+        Some(if is_aligned(pa) { self.words.get(index) } else { 0 })
     }
 
     /// Changes the word at a place in bytes, and answers whether there is one.

@@ -28,7 +28,7 @@ use Rattle.tagged_tlb.specs.Rows.{matches1, matching, deepest}
 use Rattle.machine_spec.specs.Made.{key_of}
 use Rattle.machine_spec.specs.Served.{Supplied, credited, Halt, came, clash, Reply, Place, supply, begun1, combined, served, serve}
 use Rattle.machine_spec.specs.Machine.{Visit, visited, visited_by}
-use Rattle.machine_laws.proofs.Trees.{IsOn}
+use Rattle.machine_laws.specs.Standing.{IsOn}
 use Rattle.translate.specs.Replayed.{EndsOn}
 use Rattle.served_walk.specs.ServeAt.{serve_at, reply_of, behind}
 use Rattle.served_walk.specs.ServedWord.{Second, WasServed}

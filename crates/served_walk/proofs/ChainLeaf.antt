@@ -22,7 +22,8 @@ use Rattle.walk_laws.proofs.Shifts.{of_fields}
 use Rattle.stage2_walk.specs.SoundSteps.{IsSoundLeaf}
 use Rattle.stage2_walk.proofs.Levels.{has_level}
 use Rattle.machine_spec.specs.Served.{halts, clash}
-use Rattle.machine_laws.proofs.Trees.{IsOn, chain}
+use Rattle.machine_laws.specs.Standing.{IsOn}
+use Rattle.machine_laws.proofs.Trees.{chain}
 use Rattle.served_walk.proofs.Chains.{chain_leaf}
 
 module _ (c : Config) (s : Side) (x : ℕ) where

@@ -28,7 +28,8 @@ use Rattle.walk_laws.proofs.Sound.{sound2}
 use Rattle.walk_laws.proofs.Shifts.{of_fields}
 use Rattle.tagged_tlb.specs.declared.row.Row.{Row}
 use Rattle.machine_spec.specs.Served.{Supplied, gives, halts, clash, chain_by}
-use Rattle.machine_laws.proofs.Trees.{IsOn, chain}
+use Rattle.machine_laws.specs.Standing.{IsOn}
+use Rattle.machine_laws.proofs.Trees.{chain}
 use Rattle.machine_laws.proofs.Sides.{Twin, TwinOn, twin_on, twin_chain}
 use Rattle.served_walk.specs.ServeAt.{fed, breaks, push_at, stop_at, goes_at, serve_at, behind}
 use Rattle.served_walk.proofs.Serving.{serve_front}

@@ -26,7 +26,8 @@ use Rattle.walk_spec.specs.Stage1.{Asked, asked2, fault1, walk1_from, is_readabl
 use Rattle.walk_spec.specs.BothStages.{Landing, asked, stage1, stage1_on, stage1_off, stage1_behind, stage2_behind, walk, is_refused1}
 use Rattle.walk_laws.proofs.Sound.{sound1, sound2}
 use Rattle.walk_laws.proofs.Shifts.{of_fields}
-use Rattle.machine_laws.proofs.Trees.{IsOn, chain}
+use Rattle.machine_laws.specs.Standing.{IsOn}
+use Rattle.machine_laws.proofs.Trees.{chain}
 
 abbrev pub AtMost : {N A : Type 0} → ℕ → Ask N Item A → Type 0
 AtMost n (done a) = Unit {0}

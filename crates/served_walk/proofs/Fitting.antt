@@ -30,7 +30,8 @@ use Rattle.tagged_tlb.specs.Rows.{matches, matching, deepest}
 use Rattle.machine_spec.specs.Served.{Supplied, gives, halts, chain_by, chain_of, fresh_of, Place, supply, supplied_by}
 use Rattle.tagged_tlb.specs.declared.row.Kind.TheVariants.{Leaf2 as OfLeaf2, Table2 as OfTable2}
 use Rattle.machine_spec.specs.Made.{key_of}
-use Rattle.machine_laws.proofs.Trees.{IsOn, chain}
+use Rattle.machine_laws.specs.Standing.{IsOn}
+use Rattle.machine_laws.proofs.Trees.{chain}
 use Rattle.machine_laws.proofs.Stands.{on_after}
 use Rattle.machine_laws.proofs.Serve.{fits_base1, fits_base2, fits_needed}
 use Rattle.served_walk.specs.ServeAt.{StopAt, fed, breaks, serve_at, goes_at}

@@ -24,7 +24,7 @@ use Rattle.walk_spec.specs.Stage2.{Asked2, fault2, step2, walk2, walk2_from, wal
 use Rattle.walk_spec.specs.Stage1.{asked2, read1, read1_by, is_readable, word_of}
 use Rattle.walk_spec.specs.BothStages.{Landing, asked, judged2, landed, stage2_behind}
 use Rattle.walk_laws.proofs.Places.{first_of_and, second_of_and}
-use Rattle.machine_laws.proofs.Trees.{IsOn}
+use Rattle.machine_laws.specs.Standing.{IsOn}
 use Rattle.machine_laws.proofs.MarksOf.{fits_word_parts}
 use Rattle.served_walk.specs.KeptWords.{AreOfStage2, EndsInStage1}
 use Rattle.served_walk.proofs.Depth.{AtMost, walk2_most}

@@ -34,7 +34,7 @@ use Rattle.translate.specs.Parts.{root1_of}
 use Rattle.translate.proofs.Starts.{table1_of}
 use Rattle.translate.specs.Standing.{is_top, EndsAtTop}
 use Rattle.translate.specs.Replayed.{NeedsMore}
-use Rattle.machine_laws.proofs.Trees.{IsOn}
+use Rattle.machine_laws.specs.Standing.{IsOn}
 use Rattle.walk_laws.proofs.Places.{first_of_and}
 use Rattle.walk_laws.proofs.Sound.{sound1}
 use Rattle.walk_laws.proofs.Shifts.{of_fields}

@@ -36,7 +36,7 @@ use Rattle.machine_spec.specs.Served.{served}
 use Rattle.machine_laws.specs.Leaving.{In}
 use Rattle.machine_laws.specs.MayServe.{MayServe}
 use Rattle.machine_laws.proofs.Found.{In-matching, In-deepest, matched}
-use Rattle.machine_laws.proofs.Trees.{IsOn}
+use Rattle.machine_laws.specs.Standing.{IsOn}
 use Rattle.served_walk.specs.declared.met.Met.{Met}
 use Rattle.served_walk.specs.declared.met.Service.{Service}
 use Rattle.served_walk.specs.declared.scene.Scene.{Scene}

@@ -18,7 +18,7 @@ use Rattle.walk_spec.specs.Stage1.{walk1_from}
 use Rattle.walk_spec.specs.BothStages.{Landing, asked}
 use Rattle.stage1_walk.specs.Gave.{by_entry, Walked1, answer_of}
 use Rattle.stage1_walk.proofs.OnEntries.{last_same}
-use Rattle.machine_laws.proofs.Trees.{IsOn}
+use Rattle.machine_laws.specs.Standing.{IsOn}
 use Rattle.machine_laws.proofs.Stands.{on_after}
 use Rattle.served_walk.specs.KeptWords.{EndsInStage1, BeginsWith}
 use Rattle.tagged_tlb.specs.declared.row.Kind.{Kind}

@@ -35,7 +35,8 @@ use Rattle.translate.specs.declared.replayed.Replay.TheVariants.{Ended, More, Ot
 use Rattle.translate.specs.Standing.{is_table as is_table_kind, is_top, EndsAtTop}
 use Rattle.translate.specs.Replayed.{stands_whole, EndsOn, NeedsMore, IsReplayed}
 use Rattle.machine_spec.specs.Marks.{Mark, mark, marks, is_first, is_table, part1, part_of}
-use Rattle.machine_laws.proofs.Trees.{IsOn, is_need1, needs_base, chain, Plan, fin, own, via, flat}
+use Rattle.machine_laws.specs.Standing.{IsOn}
+use Rattle.machine_laws.proofs.Trees.{is_need1, needs_base, chain, Plan, fin, own, via, flat}
 use Rattle.machine_laws.proofs.Facts.{IsLeafRow1, IsTableRow1, IsLeafRow2, IsTableRow2, regime_for}
 use Rattle.machine_laws.proofs.Stands.{on_ends, on_needs, marks_nil}
 use Rattle.machine_laws.proofs.MarksOf.{FitsWord, fits_word_parts}

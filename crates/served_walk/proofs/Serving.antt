@@ -7,7 +7,7 @@ use Rattle.walk_spec.specs.Steps.{End}
 use Rattle.walk_spec.specs.BothStages.{Landing}
 use Rattle.tagged_tlb.specs.declared.row.Row.{Row}
 use Rattle.machine_spec.specs.Served.{Supplied, gives, halts, serve, goes_on, Reply}
-use Rattle.machine_laws.proofs.Trees.{IsOn}
+use Rattle.machine_laws.specs.Standing.{IsOn}
 use Rattle.served_walk.specs.ServeAt.{StopAt, fed, breaks, ReplyAt, push_at, goes_at, serve_at, reply_of, behind, then_stop, then_at}
 
 -- SERVE IS AN INSTANCE

@@ -11,7 +11,7 @@ use Rattle.walk_spec.specs.Steps.{End}
 use Rattle.walk_spec.specs.BothStages.{Landing, walk, outcome_of}
 use Rattle.tagged_tlb.specs.declared.row.Row.{Row}
 use Rattle.machine_spec.specs.Served.{Supplied, came, pushed, halted, serve, taken, credited, begun1, combined}
-use Rattle.machine_laws.proofs.Trees.{IsOn}
+use Rattle.machine_laws.specs.Standing.{IsOn}
 use Rattle.translate.specs.Replayed.{EndsOn}
 use Rattle.served_walk.specs.ServeAt.{serve_at, reply_of, behind}
 use Rattle.served_walk.proofs.Serving.{serve_is, serve_front, serve_ends}

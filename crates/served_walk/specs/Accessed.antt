@@ -22,7 +22,7 @@ use Rattle.tagged_tlb.specs.declared.found.Slot.{Slot}
 use Rattle.tagged_tlb.specs.Rows.{matches1, matching, deepest}
 use Rattle.machine_spec.specs.Made.{key_of}
 use Rattle.machine_spec.specs.Served.{served}
-use Rattle.machine_laws.proofs.Trees.{IsOn}
+use Rattle.machine_laws.specs.Standing.{IsOn}
 use Rattle.served_walk.specs.declared.met.Met.{Met}
 use Rattle.served_walk.specs.declared.scene.Scene.{Scene}
 use Rattle.served_walk.specs.Meets.{MayMeet, place_with, service_row, AreServices, second_in}

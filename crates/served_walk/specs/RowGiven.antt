@@ -25,7 +25,7 @@ use Rattle.tagged_tlb.specs.declared.row.Kind.{Kind}
 use Rattle.tagged_tlb.specs.declared.row.Row.{Row}
 use Rattle.tagged_tlb.specs.declared.found.Slot.{Slot}
 use Rattle.machine_spec.specs.Served.{Place, supply}
-use Rattle.machine_laws.proofs.Trees.{IsOn}
+use Rattle.machine_laws.specs.Standing.{IsOn}
 use Rattle.served_walk.specs.declared.met.Met.{Met}
 use Rattle.served_walk.specs.declared.met.Service.{Service}
 use Rattle.served_walk.specs.declared.scene.Scene.{Scene}

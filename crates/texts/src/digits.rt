@@ -52,6 +52,9 @@ const DECIMAL: usize = 20;
 /// The most hexadecimal digits of a number.
 const HEX: usize = 16;
 
+/// The most zeros that are written in front of a number of eight or sixteen hexadecimal digits.
+const ZEROS: usize = 7;
+
 /// Writes a number of at most `most` decimal digits so that it ends before `end`, the last digits first. Answers where it
 /// starts.
 #[inline(always)]
@@ -160,16 +163,20 @@ pub fn hex_after(bytes: &mut [u8], end: usize, n: u64) -> usize
     end + count
 }
 
-/// Writes a head and a number in hexadecimal digits without leading zeros behind the first `end` bytes. The digits come
-/// first, so that the head takes the place of the zeros in front of them. Answers where the number ends.
+/// Writes a head and a number in hexadecimal digits without leading zeros behind the first `end` bytes. Where the head has
+/// room for the zeros that may stand in front of the digits, these come first, so that the head takes the zeros' place.
+/// Answers where the number ends.
 #[inline(always)]
 pub fn headed_after<const N: usize>(bytes: &mut [u8], end: usize, head: &[u8; N], n: u64) -> usize
-    requires head { 7 ≤ N }
     requires end { end + N + HEX ≤ length bytes.old }
     ensures size { length bytes.new ≡ length bytes.old }
     ensures text { take result bytes.new ≡ take end bytes.old ++ (head.now ++ digits 16 false n) }
     ensures ends { (end + N ≤ result) × (result ≤ end + N + HEX) }
 {
+    if N < ZEROS {
+        let end = array_after::<N>(bytes, end, head);
+        return hex_after(bytes, end, n);
+    }
     let count = hex_count(n);
     let after = end + N + count;
     hex_before(bytes, after, n, count);

@@ -233,10 +233,9 @@ impl<const ROOM: usize> Line<ROOM> {
         self.end = decimal_after(&mut self.bytes, self.end, n, 20);
     }
 
-    /// Puts a head of at least 7 bytes and a number in hexadecimal digits without leading zeros.
+    /// Puts a head and a number in hexadecimal digits without leading zeros.
     #[inline]
     pub fn headed<const N: usize>(&mut self, head: &[u8; N], n: u64)
-        requires head { 7 ≤ N }
         requires room { length self.old + N + 16 ≤ ROOM }
         ensures text { self.new ≡ self.old ++ (head.now ++ digits 16 false n) }
         ensures room { length self.new ≤ length self.old + N + 16 }
@@ -244,10 +243,9 @@ impl<const ROOM: usize> Line<ROOM> {
         self.end = headed_after::<N>(&mut self.bytes, self.end, head, n);
     }
 
-    /// Puts a head of at least 7 bytes, a number in hexadecimal digits without leading zeros, and a tail.
+    /// Puts a head, a number in hexadecimal digits without leading zeros, and a tail.
     #[inline(always)]
     pub fn number<const N: usize>(&mut self, head: &[u8; N], n: u64, tail: &Tail)
-        requires head { 7 ≤ N }
         requires room { length self.old + N + 40 ≤ ROOM }
         ensures text { self.new ≡ self.old ++ (head.now ++ (digits 16 false n ++ tail.now)) }
         ensures room { length self.new ≤ length self.old + N + 40 }
@@ -256,8 +254,8 @@ impl<const ROOM: usize> Line<ROOM> {
         self.end = tail_after(&mut self.bytes, end, tail);
     }
 
-    /// Puts a head, a number, a text between, a second number, and a tail. The head and the text between have at least 7
-    /// bytes, and both numbers are hexadecimal digits without leading zeros.
+    /// Puts a head, a number, a text between, a second number, and a tail. Both numbers are hexadecimal digits without
+    /// leading zeros.
     #[inline(always)]
     pub fn two_numbers<const N: usize, const M: usize>(
         &mut self,
@@ -267,7 +265,6 @@ impl<const ROOM: usize> Line<ROOM> {
         second: u64,
         tail: &Tail,
     )
-        requires heads { (7 ≤ N) × (7 ≤ M) }
         requires room { length self.old + N + M + 56 ≤ ROOM }
         ensures text { self.new ≡ self.old ++ (head.now ++ (digits 16 false first ++ (between.now ++ (digits 16 false second ++ tail.now)))) }
         ensures room { length self.new ≤ length self.old + N + M + 56 }

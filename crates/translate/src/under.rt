@@ -1,5 +1,7 @@
-ghost use Rattle.std.specs.Prelude.{◌≡◌};
+ghost use Rattle.std.specs.Prelude.{◌≡◌, true};
 ghost use Rattle.sysregs.specs.Registers.{InRange, config_of, set_of};
+ghost use Rattle.table_reads.specs.Numbers.{is_sized1, is_sized2};
+ghost use Rattle.walk_spec.specs.Fresh.{start_base1, start_base2};
 ghost use Rattle.translate.specs.Checked.{IsStart1, IsStart2};
 
 use crate::start::{Start, start1, start2};
@@ -65,6 +67,20 @@ impl InForce {
         ensures range { InRange result.now }
     {
         &self.config
+    }
+
+    /// The base of the start table of stage 1 for a side, in bytes, where its sizes are in range.
+    pub fn base1(&self, side: Side) -> u64
+        ensures { is_sized1 (config_of self.now) side ≡ true → result ≡ start_base1 self.now side }
+    {
+        self.start1(side).base
+    }
+
+    /// The base of the start table of stage 2, in bytes, where its sizes are in range.
+    pub fn base2(&self) -> u64
+        ensures { is_sized2 (config_of self.now) ≡ true → result ≡ start_base2 self.now }
+    {
+        self.start2().base
     }
 
     /// What they decide of stage 1 for a side.

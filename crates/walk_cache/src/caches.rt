@@ -3,6 +3,7 @@ ghost use Rattle.std.specs.Prelude.{◌≡◌, ◌<◌, ◌+◌, if◌then◌els
 ghost use Rattle.trace_lang.specs.Traces.{Header};
 ghost use Rattle.tagged_tlb.specs.declared.row.Row as declared_row;
 ghost use Rattle.tagged_tlb.specs.Rows.{matching, deepest};
+ghost use Rattle.tagged_tlb.specs.Shapes.{keeps_rows};
 ghost use Rattle.tagged_tlb.specs.Sets.{Cache, to_end, touched};
 ghost use Rattle.tagged_tlb.specs.Tied.{AreToldApart, AreSmall, is_sought};
 ghost use Rattle.tagged_tlb.specs.Found.{found_rows, seen_row, slot_row, AllSeen, AreWithin, IsWithin, MayBeWithin};
@@ -83,6 +84,13 @@ impl Caches {
         };
         let chooser = Chooser::opened(policy, u64::from(number));
         Ok(Caches { held, chooser })
+    }
+
+    /// Whether there is room for rows.
+    pub fn keep_rows(&self) -> bool
+        ensures { result ≡ keeps_rows self.now.size }
+    {
+        by_size!(&self.held; _kinds => true; else false)
     }
 
     /// The rows that an invalidation covers go. Caches without rows cost nothing.
