@@ -82,29 +82,34 @@ module _ (made : MadeFor) (trail : List Item) where
 
 -- WORDS OF A TRAIL
 
-known_base : (r : Regime) (i : Item) → i.what ≡ Base → (i.stage ≡ S1 → (i.value < 2 ^ 52) × (i.value % 8 ≡ 0) × (is_sized r S1 ≡ true))
+known_base : (r : Regime) (i : Item) → i.what ≡ Base → (i.stage ≡ S1 → (i.value < 2 ^ 52) × (i.value % 8 ≡ 0)) → is_sized r i.stage ≡ true
     → IsKnown r i
-known_base r i b h = record { word = λ w. (let q : Base ≡ Word = sym b ∙ w in absurd cc); base = λ _. h }
+known_base r i b h s = record { word = λ w. (let q : Base ≡ Word = sym b ∙ w in absurd cc); base = λ _. h; sized = λ _. s }
 
-known_base2 : (r : Regime) (i : Item) → i.what ≡ Base → i.stage ≡ S2 → IsKnown r i
-known_base2 r i b t = known_base r i b (λ s. (let q : S2 ≡ S1 = sym t ∙ s in absurd cc))
+known_base2 : (r : Regime) (i : Item) → i.what ≡ Base → i.stage ≡ S2 → is_sized r S2 ≡ true → IsKnown r i
+known_base2 r i b t s = known_base r i b (λ q. (let z : S2 ≡ S1 = sym t ∙ q in absurd cc)) (subst (λ st. is_sized r st ≡ true) (sym t) s)
 
 known_word : (r : Regime) (i : Item) → i.what ≡ Word
     → (left : ℕ) × (left ≤ most_left) × (left ≤ (sizes_of r i.stage).start) × (i.level ≡ level_of left) × (is_sized r i.stage ≡ true)
     → IsKnown r i
-known_word r i w h = record { word = λ _. h; base = λ b. (let q : Word ≡ Base = sym w ∙ b in absurd cc) }
+known_word r i w h = record {
+  word = λ _. h;
+  base = λ b. (let q : Word ≡ Base = sym w ∙ b in absurd cc);
+  sized = λ b. (let q : Word ≡ Base = sym w ∙ b in absurd cc);
+}
 
 steady_known : {A : Type 0} (P : A → ℕ → Type 0) (r : Regime) (va x g : ℕ) (t u : Ask Need Item A) (items : List Item) → AreSteady P r va x g t
     → IsOn r t items u → AreKnown r items
 steady_known P r va x g t u [] s h = tt
 steady_known P r va x g (done a) u (i ∷ items) s h = absurd h
 steady_known P r va x g (ask stage1_base k) u (i ∷ items) s h =
-    let sound = base1_sound r i (sym h.0) in (
-      known_base r i (fits_base1_parts r i h.0).0 (λ _. (sound.0, sound.1, s.0)),
+    let sound = base1_sound r i (sym h.0) in
+    let p = fits_base1_parts r i h.0 in (
+      known_base r i p.0 (λ _. (sound.0, sound.1)) (subst (λ st. is_sized r st ≡ true) (sym p.1) s.0),
       steady_known P r va x _ (k i) u items (s.1 i h.0) h.1,
     )
 steady_known P r va x g (ask (stage2_base y) k) u (i ∷ items) s h =
-    let p = fits_base2_parts r y i h.0 in (known_base2 r i p.0 p.1, steady_known P r va y g (k i) u items (s.1 i) h.1)
+    let p = fits_base2_parts r y i h.0 in (known_base2 r i p.0 p.1 s.1, steady_known P r va y g (k i) u items (s.2 i) h.1)
 steady_known P r va x g (ask (word w) k) u (i ∷ items) s h =
     let p = fits_word_parts r w i h.0 in (
       known_word r i p.what (

@@ -6,6 +6,7 @@ pub mod Ends
 pub mod Halts
 pub mod SmallRows
 pub mod Told
+pub mod Stood
 pub mod Passing
 pub mod PassingAll
 pub mod Combining

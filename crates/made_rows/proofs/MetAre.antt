@@ -90,7 +90,7 @@ module _ (r : Regime) (va : ℕ) where
       (goal1 g i (fits_base1_parts r i h.0).1) (met_are P x (goes_by_item r va i i.what) (k i) u items (s.1 i h.0) h.1)
   met_are P x g (ask (stage2_base y) k) u (i ∷ items) s h =
       one_met x y g g (mark r (stage2_base y) i) i items (marks r (k i) items) (s.0 ∙ opens x g i (base2_begins y i h.0)) (base2_is y y i h.0)
-      (goal2 g i (fits_base2_parts r y i h.0).1) (met_are P y g (k i) u items (s.1 i) h.1)
+      (goal2 g i (fits_base2_parts r y i h.0).1) (met_are P y g (k i) u items (s.2 i) h.1)
   met_are P x g (ask (word w) k) u (i ∷ items) s h =
       let p = fits_word_parts r w i h.0 in
       one_met x x g (goal_behind r va g w.stage i) (mark r (word w) i) i items (marks r (k i) items) (stays x g i (word_goes i p.what)) (word_is x i w s.0 h.0)

@@ -54,7 +54,7 @@ abbrev pub AreSteady : {A : Type 0} → (A → ℕ → Type 0) → (regime : Reg
 AreSteady P r va x g (done a) = P a g
 AreSteady P r va x g (ask stage1_base k) =
     (is_sized r S1 ≡ true) × ((i : Item) → fits r stage1_base i ≡ true → AreSteady P r va x (goes_by_item r va i i.what) (k i))
-AreSteady P r va x g (ask (stage2_base y) k) = (y ≡ g) × ((i : Item) → AreSteady P r va y g (k i))
+AreSteady P r va x g (ask (stage2_base y) k) = (y ≡ g) × (is_sized r S2 ≡ true) × ((i : Item) → AreSteady P r va y g (k i))
 AreSteady P r va x g (ask (word w) k) =
     IsSteady r va x w × ((i : Item) → fits r (word w) i ≡ true → AreSteady P r va x (goal_behind r va g w.stage i) (k i))
 
@@ -63,7 +63,7 @@ module _ (r : Regime) (va : ℕ) where
       → AreSteady P r va x g t → ((y h : ℕ) (a : A) → P a h → AreSteady Q r va y h (f a)) → AreSteady Q r va x g (after t f)
   steady_after P Q x g (done a) f s n = n x g a s
   steady_after P Q x g (ask stage1_base k) f s n = (s.0, λ i h. steady_after P Q x _ (k i) f (s.1 i h) n)
-  steady_after P Q x g (ask (stage2_base y) k) f s n = (s.0, λ i. steady_after P Q y g (k i) f (s.1 i) n)
+  steady_after P Q x g (ask (stage2_base y) k) f s n = (s.0, s.1, λ i. steady_after P Q y g (k i) f (s.2 i) n)
   steady_after P Q x g (ask (word w) k) f s n = (s.0, λ i h. steady_after P Q x _ (k i) f (s.1 i h) n)
 
   steady_if : {A : Type 0} (P : A → ℕ → Type 0) (x g : ℕ) (b : Bool) (t u : Ask Need Item A) → (b ≡ true → AreSteady P r va x g t)
@@ -196,6 +196,7 @@ module _ (q : Asked) (fields : IsOfFields q.regime) (side : q.regime.side ≡ si
       (ask (stage2_base x) (λ i. walk2_behind (asked2 R p x) i.value)) (λ _. refl)
       (λ h. (
         is,
+        accepted2 R.config x h,
         λ i.
             let s = sound2 R x fields h in
             steady_if R V (Keeps goal) x goal (is_too_large R.stage2 i.value) (done (stops (fault2 (asked2 R p x) AddressSize most_left)))

@@ -10,6 +10,8 @@ use Rattle.fault_codes.specs.declared.fault.Stage.TheVariants.{S1, S2}
 use Rattle.trails.specs.declared.item.Item.{Item}
 use Rattle.trails.specs.declared.item.What.TheVariants.{Base as ABase, Word as AWord}
 use Rattle.trails.specs.declared.outcome.Access.{Access}
+use Rattle.trails.specs.declared.outcome.Outcome.{Outcome}
+use Rattle.trails.specs.declared.outcome.Outcome.TheVariants.{Mapped}
 use Rattle.walk_spec.specs.Ask.{Stands, ends, needs, Fed, ended, lacks}
 use Rattle.walk_spec.specs.Needs.{Need, Regime, regime_of, sizes_of}
 use Rattle.walk_spec.specs.Steps.{End, stops, reaches}
@@ -66,11 +68,16 @@ abbrev pub one_from : (maker : Maker) (trail : List Item) (new : Option NewRow) 
 one_from k trail None = []
 one_from k trail (Some n) = row_from k trail n ∷ []
 
--- a word of a level that its stage has, and a base that stage 1 may read from
+-- the region of a row is no larger than the addresses without tags
+abbrev pub IsSmall : (new : NewRow) → Type 0
+IsSmall n = n.region.class ≤ 55
+
+-- a word of a level that its stage has, and a base of a stage whose sizes are in range, which stage 1 may read from
 pub record IsKnown (r : Regime) (i : Item) : Type 0 where
   pub word : i.what ≡ AWord → (left : ℕ) × (left ≤ most_left) × (left ≤ (sizes_of r i.stage).start) × (i.level ≡ level_of left)
       × (is_sized r i.stage ≡ true)
-  pub base : i.what ≡ ABase → i.stage ≡ S1 → (i.value < 2 ^ 52) × (i.value % 8 ≡ 0) × (is_sized r S1 ≡ true)
+  pub base : i.what ≡ ABase → i.stage ≡ S1 → (i.value < 2 ^ 52) × (i.value % 8 ≡ 0)
+  pub sized : i.what ≡ ABase → is_sized r i.stage ≡ true
 
 abbrev pub AreKnown : (regime : Regime) (items : List Item) → Type 0
 AreKnown r [] = Unit {0}
@@ -88,6 +95,11 @@ pub record TellsMark (r : Regime) (m : Mark) (stage : Stage) (w : Word) (address
 abbrev pub is_new_leaf : (maker : Maker) (last : Option Mark) → Bool
 is_new_leaf k None = false
 is_new_leaf k (Some m) = is_leaf1 m && is_read_now k m
+
+-- an outcome is a translation
+abbrev pub is_mapping : (outcome : Outcome) → Bool
+is_mapping (Mapped pa perms mem sh) = true
+is_mapping o = false
 
 -- a walk came to a translation
 abbrev pub is_mapped : (end : Fed Need (End Landing)) → Bool

@@ -1,6 +1,6 @@
 //! All rows that a step makes, in the order of its trail.
-ghost use Rattle.std.specs.Prelude.{◌≡◌, ℕ, ◌+◌, ◌/◌, ◌<◌, ◌≤◌, ◌^◌, List, Option, true, []};
-ghost use Rattle.std.specs.Prelude.{length, Some, None, if◌then◌else◌, vec_len, vec_capacity};
+ghost use Rattle.std.specs.Prelude.{◌≡◌, ℕ, ◌+◌, ◌/◌, ◌<◌, ◌≤◌, ◌^◌, List, Option, true, [], All};
+ghost use Rattle.std.specs.Prelude.{length, Some, None, IfSome, if◌then◌else◌, vec_len, vec_capacity};
 ghost use Rattle.fault_codes.specs.declared.fault.Stage.TheVariants.{S1, S2};
 ghost use Rattle.sysregs.specs.Registers.{config_of};
 ghost use Rattle.trails.specs.Lengths.{most_items};
@@ -15,7 +15,7 @@ ghost use Rattle.translate.specs.Replayed.{stands_whole};
 ghost use Rattle.machine_spec.specs.Marks.{Mark};
 ghost use Rattle.machine_spec.specs.Made.{leaf_rows};
 ghost use Rattle.made_rows.specs.Pieces.{IsPiece, smaller_of};
-ghost use Rattle.made_rows.specs.NewRows.{MadeFor, maker_for, regime_for, one_from, IsKnown, AreKnown, HasLeaf};
+ghost use Rattle.made_rows.specs.NewRows.{MadeFor, maker_for, regime_for, one_from, IsSmall, IsKnown, AreKnown, HasLeaf};
 ghost use Rattle.made_rows.specs.NewRows.{Passed, PassedAll, is_mapped, StandsTo, AreMade};
 
 use crate::making::{Making, NewRow};
@@ -40,7 +40,8 @@ pub struct Stand {
 
 /// A row that is made on a condition.
 fn only_if(condition: bool, row: NewRow) -> Option<NewRow>
-    ensures { result ≡ (if condition then Some row else None) }
+    ensures is { result ≡ (if condition then Some row else None) }
+    ensures small { IsSmall row → IfSome result IsSmall }
 {
     if condition { Some(row) } else { None }
 }
@@ -50,7 +51,8 @@ fn pass_base1(making: &Making, stand: &mut Stand, at: usize, item: &Item)
     requires place { at < 2 ^ 32 }
     requires stage { item.now.stage ≡ S1 }
     requires what { item.now.what ≡ ABase }
-    ensures { IsKnown (regime_for making.now) item.now → Passed making.now at item.now stand.old stand.new None }
+    ensures passed { IsKnown (regime_for making.now) item.now → Passed making.now at item.now stand.old stand.new None }
+    ensures leaf { stand.new.leaf ≡ None }
 {
     stand.goal = making.start_entry(item.value);
     stand.start = at + 1;
@@ -62,7 +64,8 @@ fn pass_base1(making: &Making, stand: &mut Stand, at: usize, item: &Item)
 fn pass_base2(stand: &mut Stand, at: usize, item: &Item)
     requires stage { item.now.stage ≡ S2 }
     requires what { item.now.what ≡ ABase }
-    ensures { (made : MadeFor) → Passed made at item.now stand.old stand.new None }
+    ensures passed { (made : MadeFor) → Passed made at item.now stand.old stand.new None }
+    ensures leaf { stand.new.leaf ≡ stand.old.leaf }
 {
     stand.ipa = stand.goal;
     stand.start = at;
@@ -74,7 +77,9 @@ fn pass_word1(making: &Making, stand: &mut Stand, at: usize, item: &Item) -> Opt
     requires place { at < 2 ^ 32 }
     requires stage { item.now.stage ≡ S1 }
     requires what { item.now.what ≡ AWord }
-    ensures { IsKnown (regime_for making.now) item.now → Passed making.now at item.now stand.old stand.new result }
+    ensures passed { IsKnown (regime_for making.now) item.now → Passed making.now at item.now stand.old stand.new result }
+    ensures small { IfSome result IsSmall }
+    ensures leaf { IfSome stand.new.leaf IsSmall }
 {
     stand.start = at + 1;
     stand.leaf = None;
@@ -103,7 +108,9 @@ fn pass_word2(making: &Making, stand: &mut Stand, at: usize, item: &Item) -> Opt
     requires place { at < 2 ^ 32 }
     requires stage { item.now.stage ≡ S2 }
     requires what { item.now.what ≡ AWord }
-    ensures { IsKnown (regime_for making.now) item.now → Passed making.now at item.now stand.old stand.new result }
+    ensures passed { IsKnown (regime_for making.now) item.now → Passed making.now at item.now stand.old stand.new result }
+    ensures small { IfSome result IsSmall }
+    ensures leaf { stand.new.leaf ≡ stand.old.leaf }
 {
     let is_now = making.is_now(item);
     if !is_now && stand.leaf.is_none() {
@@ -130,7 +137,9 @@ fn pass_word2(making: &Making, stand: &mut Stand, at: usize, item: &Item) -> Opt
 /// Passes an item of a trail. Answers its row.
 fn pass(making: &Making, stand: &mut Stand, at: usize, item: &Item) -> Option<NewRow>
     requires place { at < 2 ^ 32 }
-    ensures { IsKnown (regime_for making.now) item.now → Passed making.now at item.now stand.old stand.new result }
+    ensures passed { IsKnown (regime_for making.now) item.now → Passed making.now at item.now stand.old stand.new result }
+    ensures small { IfSome result IsSmall }
+    ensures leaf { IfSome stand.old.leaf IsSmall → IfSome stand.new.leaf IsSmall }
 {
     match (item.stage, item.what) {
         (Stage::S1, What::Base) => {
@@ -153,6 +162,8 @@ fn pass_all(making: &Making, trail: &[Item], rows: &mut Vec<NewRow>) -> Stand
     requires room { most_items ≤ vec_capacity rows.old }
     ensures passed { AreKnown (regime_for making.now) trail.now → PassedAll making.now trail.now rows.new.items result }
     ensures most { vec_len rows.new ≤ length trail.now }
+    ensures small { All IsSmall rows.new.items }
+    ensures leaf { IfSome result.leaf IsSmall }
     ensures capacity { vec_capacity rows.new ≡ vec_capacity rows.old }
 {
     let mut stand = Stand {
@@ -180,7 +191,8 @@ fn region_around(address: u64, class: u32) -> Region
 
 /// The smaller of two classes, of which the second may lack.
 fn smaller(class: u32, other: Option<u32>) -> u32
-    ensures { result ≡ (smaller_of class other) }
+    ensures is { result ≡ (smaller_of class other) }
+    ensures most { result ≤ class }
 {
     match other {
         Some(other) if other < class => other,
@@ -190,10 +202,11 @@ fn smaller(class: u32, other: Option<u32>) -> u32
 
 /// The row of a stage 1 leaf that was read now with the stage 2 of its output, behind a whole trail that ends in a translation.
 fn leaf_row(making: &Making, stand: &Stand, end: usize) -> Option<NewRow>
-    ensures { (o : Option Mark) → (k : Option ℕ) → (class : ℕ) → (trail : List declared_item.Item) → HasLeaf making.now o k stand.now
+    ensures row { (o : Option Mark) → (k : Option ℕ) → (class : ℕ) → (trail : List declared_item.Item) → HasLeaf making.now o k stand.now
         → IsPiece o k class →
         end ≡ length trail → one_from (maker_for making.now) trail result ≡ leaf_rows (maker_for making.now) class
         (untagged making.now.access.va) trail o }
+    ensures small { IfSome stand.now.leaf IsSmall → IfSome result IsSmall }
 {
     let leaf = stand.leaf?;
     let class = smaller(leaf.region.class, stand.class2);
@@ -205,6 +218,7 @@ fn leaf_row(making: &Making, stand: &Stand, end: usize) -> Option<NewRow>
 }
 
 /// An access that was walked: the items of its trail, and whether it came to a translation.
+#[derive(Drop)]
 pub struct Walked<'a> {
     pub access: &'a Access,
     pub trail: &'a [Item],
@@ -219,6 +233,7 @@ pub fn rows_made(force: &InForce, walked: &Walked, step: u32, rows: &mut Vec<New
     requires room { most_items < vec_capacity rows.old }
     ensures made { (end : Fed Need (End Landing)) → StandsTo (stands_whole (config_of force.now) walked.now.access.now walked.now.trail.now) end →
         walked.now.is_mapped ≡ is_mapped end → AreMade force.now step walked.now.access.now walked.now.trail.now end rows.new.items }
+    ensures small { All IsSmall rows.new.items }
     ensures most { vec_len rows.new ≤ length walked.now.trail.now + 1 }
     ensures capacity { vec_capacity rows.new ≡ vec_capacity rows.old }
 {

@@ -49,25 +49,25 @@ module _ (r : Regime) (sup : Need → Supplied) where
   -- the items stand on the walk, up to where the service stopped; nothing is left over
   abbrev pub OnStop : {A : Type 0} → Ask Need Item A → List Item → StopAt A → Type 0
   OnStop t items (fed a left) = IsOn r t items (done a) × (left ≡ [])
-  OnStop {A} t items (breaks h) = (n : Need) × (k : Item → Ask Need Item A) × IsOn r t items (ask n k)
+  OnStop {A} t items (breaks h) = (n : Need) × (k : Item → Ask Need Item A) × IsOn r t items (ask n k) × (sup n ≡ halts h)
 
   module _ {A : Type 0} where
     more_on : (n : Need) (k : Item → Ask Need Item A) (i : Item) → fits r n i ≡ true → (items : List Item) (s : StopAt A) → OnStop (k i) items s
         → OnStop (ask n k) (i ∷ items) s
     more_on n k i f items (fed a left) h = ((f, h.0), h.1)
-    more_on n k i f items (breaks q) h = (h.0, h.1, (f, h.2))
+    more_on n k i f items (breaks q) h = (h.0, h.1, (f, h.2), h.3)
 
-    goes_on_stop : (n : Need) (k : Item → Ask Need Item A) (s : Supplied) → FitsHere (ask n k) s
+    goes_on_stop : (n : Need) (k : Item → Ask Need Item A) (s : Supplied) → sup n ≡ s → FitsHere (ask n k) s
         → ((i : Item) (rest : List Item) (u : Ask Need Item A) → IsOn r (k i) rest u → let y = serve_at sup rest (k i) in OnStop (k i) y.items y.stop) →
         let y = goes_at s (λ i rest. serve_at sup rest (k i)) in OnStop (ask n k) y.items y.stop
-    goes_on_stop n k (gives i rest rows) h rec = more_on n k i h.1.0 (serve_at sup rest (k i)).items (serve_at sup rest (k i)).stop (rec i rest h.0 h.1.1)
-    goes_on_stop n k (halts q) h rec = (n, k, refl)
+    goes_on_stop n k (gives i rest rows) e h rec = more_on n k i h.1.0 (serve_at sup rest (k i)).items (serve_at sup rest (k i)).stop (rec i rest h.0 h.1.1)
+    goes_on_stop n k (halts q) e h rec = (n, k, refl, e)
 
     -- what is served stands on the walk
     pub serve_on : (t u : Ask Need Item A) (queue : List Item) → IsOn r t queue u → IsFit t → let y = serve_at sup queue t in OnStop t y.items y.stop
     serve_on (done a) u [] h f = (refl, refl)
     serve_on (done a) u (i ∷ queue) h f = absurd h
-    serve_on (ask n k) u [] h f = goes_on_stop n k (sup n) f.0 (λ i rest v g. serve_on (k i) v rest g (f.1 i))
+    serve_on (ask n k) u [] h f = goes_on_stop n k (sup n) refl f.0 (λ i rest v g. serve_on (k i) v rest g (f.1 i))
     serve_on (ask n k) u (i ∷ queue) h f = more_on n k i h.0 (serve_at sup queue (k i)).items (serve_at sup queue (k i)).stop
         (serve_on (k i) u queue h.1 (f.1 i))
 
