@@ -12,4 +12,8 @@ pub use Rattle.tagged_tlb.specs.Rows
 pub use Rattle.tagged_tlb.specs.Sets
 pub use Rattle.machine_spec.specs.Served
 pub use Rattle.machine_spec.specs.Machine
+pub use Rattle.walk_cache.specs.ByKind
+pub use Rattle.made_rows.specs.NewRows
 pub mod Cores
+pub mod Filled
+pub mod Judged

@@ -1,7 +1,8 @@
 -- What rows and memory serve an access stands on its walk, up to the end to which the service came.
-use Rattle.std.proofs.Common.{◌≡◌, ℕ, ◌≤◌, Bool, true, false, not, cond, List, [], ◌∷◌, take, refl, sym, ap, ◌∙◌, subst, inl, inr}
+use Rattle.std.proofs.Common.{◌≡◌, ℕ, ◌≤◌, Bool, true, false, not, cond, List, [], ◌∷◌, length, take, refl, sym, ap, ◌∙◌, subst, inl, inr}
 use Rattle.std.specs.Prelude.{◌&&◌, ◌⊎◌, All, Option, Some, None}
 use Rattle.std.proofs.lemmas.Bool.{and_parts}
+use Rattle.std.proofs.lemmas.List.Elements.{All-nil, All-cons}
 use Rattle.geometry.specs.Tables.{level_of}
 use Rattle.sysregs.specs.declared.regs.Config.{Config}
 use Rattle.sysregs.specs.declared.regs.Regs.{Regs}
@@ -36,7 +37,7 @@ use Rattle.machine_laws.proofs.Found.{In-matching, In-deepest, Match, matched, m
 use Rattle.served_walk.specs.CanServe.{AreServable, ServesAs}
 use Rattle.served_walk.specs.ServeAt.{StopAt, fed, breaks, ReplyAt, serve_at, halt_of}
 use Rattle.served_walk.proofs.Serving.{serve_is}
-use Rattle.served_walk.proofs.Ties.{needs_on, taken_ends, ended_is}
+use Rattle.served_walk.proofs.Ties.{needs_on, front_ended, taken_ends, ended_is}
 use Rattle.served_walk.proofs.Chains.{chain_leaf, chain_table}
 use Rattle.served_walk.proofs.Fitting.{OnStop, ChainsFit, ChainsStand, chains_fit, served_on, rg}
 use Rattle.made_rows.specs.Sized.{is_sized}
@@ -169,13 +170,11 @@ module _ (p : Place) (a : Access) where
           let g : ServesAs r Leaf1 = subst (ServesAs r) d.kind_is (can.serves r i) in
           let e : (len : ℕ) × (o : Outcome) × EndsOn c a r.trail len o = subst (λ u. (len : ℕ) × (o : Outcome) × EndsOn u a r.trail len o) d.config
               (g a (may Leaf1 r d)).0 in
-          let z = taken_ends c a r.trail e.0 e.1 e.2 in
-          ended_stood (take e.0 r.trail) z.0 (taken r.trail W) z.3 z.1
+          ended_stood (take e.0 r.trail) e.2.0 (taken r.trail W) (front_ended c a r.trail e.0 e.1 e.2) (taken_ends c a r.trail e.0 e.1 e.2)
 
       table_by : (r : Row) → ((len : ℕ) × (o : Outcome) × EndsOn c a r.trail len o) ⊎ NeedsMore c a r.trail → Stood (serve sup r.trail W)
       table_by r (inl e) =
-          let z = taken_ends c a r.trail e.0 e.1 e.2 in
-          ended_stood (take e.0 r.trail) z.0 (serve sup r.trail W) z.3 (ended_is c a sup r.trail e.0 e.1 e.2)
+          ended_stood (take e.0 r.trail) e.2.0 (serve sup r.trail W) (front_ended c a r.trail e.0 e.1 e.2) (ended_is c a sup r.trail e.0 e.1 e.2)
       table_by r (inr m) =
           let z = needs_on R W r.trail m.0.0 m.0.1 in
           serve_stood r.trail (ask m.0.0 z.0) z.1
@@ -222,8 +221,8 @@ abbrev pub BaseIsSized : Regime → Item → Type 0
 BaseIsSized r i = i.what ≡ ABase → is_sized r i.stage ≡ true
 
 known_sized : (r : Regime) (items : List Item) → AreKnown r items → All (BaseIsSized r) items
-known_sized r [] k = tt
-known_sized r (i ∷ items) k = (k.0.sized, known_sized r items k.1)
+known_sized r [] k = All-nil (BaseIsSized r)
+known_sized r (i ∷ items) k = All-cons (BaseIsSized r) i items k.0.sized (known_sized r items k.1)
 
 -- the sizes of a stage are in range where its base was met
 pub bases_sized : (made : MadeFor) (trail : List Item) (end : Fed Need (End Landing))

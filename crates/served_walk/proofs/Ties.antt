@@ -61,25 +61,27 @@ take_front : (front rest : List Item) → take (length front) (front ++ rest) �
 take_front [] rest = refl
 take_front (i ∷ front) rest = ap (λ l. i ∷ l) (take_front front rest)
 
--- what replay answers as ended is what is taken of the trail, which is a front of it on which the walk has ended
-pub taken_ends : (c : Config) (a : Access) (trail : List Item) (len : ℕ) (o : Outcome) → EndsOn c a trail len o
-    → (e : End Landing) × (taken trail (walk c true a) ≡ record { items = take len trail; halt = came (ended e); by = [] }) × (o ≡ outcome_of e)
-    × IsOn (regime_of c (side_of a.va)) (walk c true a) (take len trail) (done e)
+-- the walk has ended on a front of a trail
+pub front_ended : (c : Config) (a : Access) (trail : List Item) (len : ℕ) (o : Outcome) (d : EndsOn c a trail len o)
+    → IsOn (regime_of c (side_of a.va)) (walk c true a) (take len trail) (done d.0)
+front_ended c a trail len o d =
+    let r : Regime = regime_of c (side_of a.va) in
+    let f : take len trail ≡ d.1 = ap (λ n. take n trail) d.4 ∙ ap (λ l. take (length d.1) l) d.3 ∙ take_front d.1 d.2 in
+    subst (λ l. IsOn r (walk c true a) l (done d.0)) (sym f) (ends_on r (walk c true a) d.1 d.0 d.5)
+
+-- what replay answers as ended is what is taken of the trail
+pub taken_ends : (c : Config) (a : Access) (trail : List Item) (len : ℕ) (o : Outcome) (d : EndsOn c a trail len o)
+    → taken trail (walk c true a) ≡ record { items = take len trail; halt = came (ended d.0); by = [] }
 taken_ends c a trail len o d =
     let r : Regime = regime_of c (side_of a.va) in
     let f : take len trail ≡ d.1 = ap (λ n. take n trail) d.4 ∙ ap (λ l. take (length d.1) l) d.3 ∙ take_front d.1 d.2 in
-    let on : IsOn r (walk c true a) d.1 (done d.0) = ends_on r (walk c true a) d.1 d.0 d.5 in
     let t : taken trail (walk c true a) ≡ record { items = d.1; halt = came (ended d.0); by = [] } = ap (λ l. taken l (walk c true a)) d.3
-    ∙ taken_front r (walk c true a) d.0 d.1 d.2 on in (
-      d.0,
-      t ∙ ap (λ l. record { items = l; halt = came (ended d.0); by = [] }) (sym f),
-      d.6,
-      subst (λ l. IsOn r (walk c true a) l (done d.0)) (sym f) on,
-    )
+    ∙ taken_front r (walk c true a) d.0 d.1 d.2 (ends_on r (walk c true a) d.1 d.0 d.5) in
+    t ∙ ap (λ l. record { items = l; halt = came (ended d.0); by = [] }) (sym f)
 
 pub taken_is : (c : Config) (a : Access) (trail : List Item) (len : ℕ) (o : Outcome) → EndsOn c a trail len o
     → (e : End Landing) × (taken trail (walk c true a) ≡ record { items = take len trail; halt = came (ended e); by = [] }) × (o ≡ outcome_of e)
-taken_is c a trail len o d = (let t = taken_ends c a trail len o d in (t.0, t.1, t.2))
+taken_is c a trail len o d = (d.0, taken_ends c a trail len o d, d.6)
 
 -- the same of a walk that is served from the trail on: the items behind its end are left over
 pub ended_is : (c : Config) (a : Access) (sup : Need → Supplied) (trail : List Item) (len : ℕ) (o : Outcome) → (d : EndsOn c a trail len o)

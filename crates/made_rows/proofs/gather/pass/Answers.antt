@@ -1,4 +1,4 @@
 use Rattle.made_rows.proofs.gather.pass.Goals as goal
 
-pub returns-in-S2-Base : goal.returns-in-S2-Base
-returns-in-S2-Base c = λ _. c.pass_base2.ensures c.args.making.now
+pub returns-in-S2-Base-clause-passed : goal.returns-in-S2-Base-clause-passed
+returns-in-S2-Base-clause-passed c = λ _. c.pass_base2.ensures.passed c.args.making.now

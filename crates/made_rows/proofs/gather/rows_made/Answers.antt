@@ -41,7 +41,7 @@ returns-in-Some-clause-made c =
     (λ m. HasLeaf m (fold after1 None (met_in m trail)) (fold after2 None (met_in m trail)) c.pass_all-stand.result →
     IsPiece (fold after1 None (met_in m trail)) (fold after2 None (met_in m trail)) class → one_from (maker_for m) trail c.leaf_row.result
     ≡ leaf_rows (maker_for m) class (untagged m.access.va) trail (fold after1 None (met_in m trail))) c.of-making.ensures
-    (λ l q. c.leaf_row.ensures _ _ class trail l q refl) p.leaf piece) in
+    (λ l q. c.leaf_row.ensures.row _ _ class trail l q refl) p.leaf piece) in
     subst (AreMade regs c.args.step a trail end) (ap (λ o. rows ++ listed o) c.in-Some.is ∙ sym c.push_reserved.ensures.items)
     (all_made regs c.args.step a trail end h rows (listed c.leaf_row.result) p.rows_are one)
 
@@ -61,6 +61,6 @@ returns-in_default-clause-made c =
     (λ m. HasLeaf m (fold after1 None (met_in m trail)) (fold after2 None (met_in m trail)) c.pass_all-stand.result →
     IsPiece (fold after1 None (met_in m trail)) (fold after2 None (met_in m trail)) class → one_from (maker_for m) trail c.leaf_row.result
     ≡ leaf_rows (maker_for m) class (untagged m.access.va) trail (fold after1 None (met_in m trail))) c.of-making.ensures
-    (λ l q. c.leaf_row.ensures _ _ class trail l q refl) p.leaf piece) in
+    (λ l q. c.leaf_row.ensures.row _ _ class trail l q refl) p.leaf piece) in
     subst (AreMade regs c.args.step a trail end) (ap (λ o. rows ++ listed o) c.in_default.is ∙ append-nil rows)
     (all_made regs c.args.step a trail end h rows (listed c.leaf_row.result) p.rows_are one)
