@@ -1,3 +1,5 @@
 pub mod Banks
-pub mod Levels
 pub mod Fresh
+pub mod Filling
+pub mod Noted
+pub mod Visits

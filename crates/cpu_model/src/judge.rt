@@ -4,7 +4,9 @@ ghost use Rattle.std.specs.List.{list_any};
 ghost use Rattle.sysregs.specs.Registers.{config_of};
 ghost use Rattle.walk_spec.specs.Needs.{regime_of};
 ghost use Rattle.phys_mem.specs.Words.{memory_of};
-ghost use Rattle.machine_spec.specs.Allowed.{is_earlier, is_changed, has_word};
+ghost use Rattle.machine_spec.specs.Kept.{base_by};
+ghost use Rattle.machine_spec.specs.Allowed.{is_earlier, is_changed, has_word, is_conflict};
+ghost use Rattle.made_rows.specs.NewRows.{is_mapping};
 
 ghost use Rattle.made_rows.specs.Sized.{is_sized};
 ghost use Rattle.cpu_model.specs.Judged.{HasSizes, HaveSizes};
@@ -12,7 +14,7 @@ ghost use Rattle.cpu_model.specs.Judged.{HasSizes, HaveSizes};
 use fault_codes::Stage;
 use phys_mem::Phys;
 use sysregs::Side;
-use trails::{Item, What};
+use trails::{Item, Outcome, What};
 use translate::InForce;
 
 /// Whether an item was read in an earlier step.
@@ -62,4 +64,18 @@ pub fn is_stale(force: &InForce, side: Side, phys: &Phys, items: &[Item]) -> boo
         }
     }
     false
+}
+
+/// Whether an outcome is a translation.
+pub fn is_mapping(outcome: &Outcome) -> bool
+    ensures { result ≡ is_mapping outcome.now }
+{
+    matches!(outcome, Outcome::Mapped { .. })
+}
+
+/// Whether an outcome is a conflict.
+pub fn is_conflict(outcome: &Outcome) -> bool
+    ensures { result ≡ is_conflict outcome.now }
+{
+    matches!(outcome, Outcome::Conflict)
 }

@@ -2,5 +2,7 @@
 #![tactic(auto)]
 
 mod cpu;
+mod fill;
+mod judge;
 
 pub use cpu::{Cpu, MOST_QUEUED};

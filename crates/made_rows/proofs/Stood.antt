@@ -16,11 +16,12 @@ use Rattle.trails.specs.Lengths.{most_items, most_items2}
 use Rattle.walk_spec.specs.declared.leaf.Leaf2.{Leaf2}
 use Rattle.walk_spec.specs.Ask.{Ask, done, ask, on, bad, ends, needs, Fed, ended, lacks}
 use Rattle.walk_spec.specs.Needs.{Regime, Need, stage1_base, stage2_base, word, WordNeed, fits}
-use Rattle.walk_spec.specs.Steps.{End, reaches}
+use Rattle.walk_spec.specs.Steps.{End, stops, reaches}
 use Rattle.walk_spec.specs.Stage1.{stands2, untagged}
 use Rattle.walk_spec.specs.Stage2.{is_refused2}
 use Rattle.walk_spec.specs.BothStages.{Landing, is_refused1, walk}
-use Rattle.walk_spec.specs.Fresh.{given}
+use Rattle.walk_spec.specs.Fresh.{given, fed_outcome}
+use Rattle.machine_spec.specs.Allowed.{is_conflict}
 use Rattle.translate.specs.Replayed.{stands_whole, EndsOn, NeedsMore}
 use Rattle.tagged_tlb.specs.declared.row.Kind.{Kind}
 use Rattle.tagged_tlb.specs.declared.row.Kind.TheVariants.{Leaf1, Table1, Leaf2 as OfLeaf2, Table2 as OfTable2}
@@ -59,6 +60,14 @@ module _ {A : Type 0} (r : Regime) where
   on_needs (ask m j) [] n k h = (let q : m ≡ n = cc in ap needs q)
   on_needs (ask m j) (i ∷ items) n k h = ap (λ b. cond b (on (fits r) (j i) items) bad) h.0 ∙ on_needs (j i) items n k h.1
 
+-- the access doesn't come out as a conflict
+abbrev pub IsAlone : Fed Need (End Landing) → Type 0
+IsAlone end = is_conflict (fed_outcome end) ≡ false
+
+ended_alone : (e : End Landing) → IsAlone (ended e)
+ended_alone (stops f) = refl
+ended_alone (reaches l) = refl
+
 -- WANT OF AN ITEM
 
 module _ (n : Need) (end : Fed Need (End Landing)) where
@@ -83,6 +92,24 @@ module _ (n : Need) (end : Fed Need (End Landing)) where
     lacks_chain_of (r ∷ []) t h = lacks_chain r r.trail h
     lacks_chain_of (r ∷ s ∷ more) t h = absurd cc
 
+-- what is given is no want
+module _ (end : Fed Need (End Landing)) (i : Item) (items : List Item) (by : List Row) where
+  abbrev Never : Supplied → Type 0
+  Never s = s ≡ halts (came end) → ⊥
+
+  never_chain : (r : Row) (trail : List Item) → Never (chain_by r (gives i items by) trail)
+  never_chain r [] h = absurd cc
+  never_chain r (j ∷ trail) h = absurd cc
+
+  never_begun : (t : Option Row) → Never (begun2 (gives i items by) t)
+  never_begun None h = absurd cc
+  never_begun (Some r) h = never_chain r r.trail h
+
+  never_chain_of : (leaves : List Row) (t : Option Row) → Never (chain_of (gives i items by) leaves t)
+  never_chain_of [] t h = never_begun t h
+  never_chain_of (r ∷ []) t h = never_chain r r.trail h
+  never_chain_of (r ∷ s ∷ more) t h = absurd cc
+
 module _ (p : Place) (a : Access) where
   abbrev c : Config
   c = config_of p.regs
@@ -106,15 +133,23 @@ module _ (p : Place) (a : Access) where
       (matching (matches OfLeaf2 (key_of p.regs) x) p.rows) (deepest (matches OfTable2 (key_of p.regs) x) p.rows)
   lacks_is (word w) end = lacks_now (word w) end
 
+  -- memory alone lacks anything, and that is a word
+  alone_is : (n : Need) (end : Fed Need (End Landing)) → sup n ≡ halts (came end) → IsAlone end
+  alone_is stage1_base end h = absurd cc
+  alone_is (stage2_base x) end h =
+      absurd (never_chain_of end _ [] [] (matching (matches OfLeaf2 (key_of p.regs) x) p.rows)
+      (deepest (matches OfTable2 (key_of p.regs) x) p.rows) h)
+  alone_is (word w) end h = subst IsAlone (sym (lacks_is (word w) end h)) refl
+
   abbrev Stands : List Item → Fed Need (End Landing) → Type 0
-  Stands items end = StandsTo (stands_whole c a items) end
+  Stands items end = StandsTo (stands_whole c a items) end × IsAlone end
 
   stop_stands : (items : List Item) (s : StopAt (End Landing)) (end : Fed Need (End Landing)) → OnStop R sup W items s → halt_of s ≡ came end
       → Stands items end
-  stop_stands items (fed e left) end h q = (let z : ended e ≡ end = cc in subst (Stands items) z (on_ends R W items e h.0))
+  stop_stands items (fed e left) end h q = (let z : ended e ≡ end = cc in subst (Stands items) z (on_ends R W items e h.0, ended_alone e))
   stop_stands items (breaks halt) end h q =
       let z : end ≡ lacks h.0 = lacks_is h.0 end (h.3 ∙ ap halts q) in
-      subst (Stands items) (sym z) (on_needs R W items h.0 h.1 h.2)
+      (subst (StandsTo (stands_whole c a items)) (sym z) (on_needs R W items h.0 h.1 h.2), alone_is h.0 end (h.3 ∙ ap halts q))
 
   -- WHAT IS SERVED
 
@@ -154,7 +189,7 @@ module _ (p : Place) (a : Access) where
     ended_stood : (items : List Item) (e : End Landing) (y : Reply) → IsOn R W items (done e)
         → y ≡ record { items = items; halt = came (ended e); by = [] } → Stood y
     ended_stood items e y o h =
-        subst Stood (sym h) (λ end q. (let z : ended e ≡ end = cc in subst (Stands items) z (on_ends R W items e o)))
+        subst Stood (sym h) (λ end q. (let z : ended e ≡ end = cc in subst (Stands items) z (on_ends R W items e o, ended_alone e)))
 
     module _ (on1 : c.m ≡ true) (ok : is_refused1 c a ≡ false) where
       may : (kind : Kind) (r : Row) → Match kind (key_of p.regs) (untagged a.va) r → MayServe r a
@@ -212,7 +247,8 @@ module _ (p : Place) (a : Access) where
         combined_stood d.0 (not_false (is_refused1 c a) d.1) _ refl
     served_by false e = serve_stood [] W refl
 
-    pub served_stands : (end : Fed Need (End Landing)) → (served p a).halt ≡ came end → StandsTo (stands_whole c a (served p a).items) end
+    pub served_stands : (end : Fed Need (End Landing)) → (served p a).halt ≡ came end
+        → StandsTo (stands_whole c a (served p a).items) end × IsAlone end
     served_stands = served_by (c.m && not (is_refused1 c a)) refl
 
 -- BASES
