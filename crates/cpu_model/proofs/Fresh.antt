@@ -1,5 +1,5 @@
 -- An access without rows.
-use Rattle.std.proofs.Common.{◌≡◌, ℕ, List, true, false, not, refl, sym, ap, ◌∙◌, arith, Some, None, subst}
+use Rattle.std.proofs.Common.{◌≡◌, ℕ, List, false, refl, sym, ap, ◌∙◌, arith, Some, None, subst}
 use Rattle.bitwords.specs.Causes.{Rose}
 use Rattle.sysregs.specs.declared.regs.Regs.{Regs}
 use Rattle.sysregs.specs.Registers.{asid_of, vmid_of}

@@ -1,11 +1,10 @@
 -- The rows that served, by the sets in which they stand.
-use Rattle.std.proofs.Common.{◌≡◌, ℕ, ◌<◌, ◌≤◌, List, [], ◌∷◌, length, map, get_or, refl, sym, ap, ◌∙◌, subst, inl, inr, arith}
-use Rattle.std.specs.Prelude.{◌⊎◌, true, false, nat_lt}
+use Rattle.std.proofs.Common.{◌≡◌, ◌≤◌, List, [], ◌∷◌, length, map, get_or, sym, ap, ◌∙◌, subst, inl, inr, arith}
+use Rattle.std.specs.Prelude.{false}
 use Rattle.std.proofs.lemmas.Bool.{cases_lt}
 use Rattle.std.proofs.lemmas.List.{get_or_past}
 use Rattle.fault_codes.specs.declared.fault.Stage.TheVariants.{S1}
 use Rattle.trace_lang.specs.declared.header.Size.{Size}
-use Rattle.tlbi_ops.specs.declared.inval.Tag.{Tag}
 use Rattle.tagged_tlb.specs.declared.row.Kind.{Kind}
 use Rattle.tagged_tlb.specs.declared.row.Kind.TheVariants.{Leaf1, Table1, Leaf2, Table2}
 use Rattle.tagged_tlb.specs.declared.row.Row.{Row}

@@ -1,12 +1,10 @@
 -- What an access leaves, by how its service halted.
-use Rattle.std.proofs.Common.{◌≡◌, ℕ, ◌+◌, ◌-◌, true, false, List, ◌++◌, refl, sym, ap, ◌∙◌, subst, arith, Option, Some, None}
-use Rattle.std.specs.List.{list_any}
+use Rattle.std.proofs.Common.{◌≡◌, ℕ, ◌+◌, ◌-◌, true, false, List, refl, sym, ap, ◌∙◌, subst, arith, Option, Some, None}
 use Rattle.trails.specs.declared.item.Item.{Item}
 use Rattle.trails.specs.declared.outcome.Access.{Access}
 use Rattle.trails.specs.declared.outcome.Outcome.{Outcome}
-use Rattle.trails.specs.declared.outcome.Outcome.TheVariants.{Mapped, Faulted, Absent, Conflict}
-use Rattle.trails.specs.declared.step.Answer.{Answer}
-use Rattle.trails.specs.Printed.{printed, HasText, HasTextInRun}
+use Rattle.trails.specs.declared.outcome.Outcome.TheVariants.{Conflict}
+use Rattle.trails.specs.Printed.{HasTextInRun}
 use Rattle.walk_spec.specs.Ask.{Fed, ended, lacks}
 use Rattle.walk_spec.specs.Needs.{Need, stage1_base, stage2_base, word}
 use Rattle.walk_spec.specs.Steps.{End, stops, reaches}

@@ -203,7 +203,13 @@ impl Cpu {
             moment,
         };
         let mut met = Met::none();
-        answer.outcome = served_access(&scene, access, &mut met, &mut answer.first, &mut answer.second);
+        answer.outcome = served_access(
+            &scene,
+            access,
+            &mut met,
+            &mut answer.first,
+            &mut answer.second,
+        );
         answer.asid = asid(self.force.regs());
         answer.vmid = vmid(self.force.regs());
         let trail = answer.first.items();

@@ -43,7 +43,11 @@ fn key_for(force: &InForce, kind: Kind) -> Key
 fn before(items: &[Item], end: usize) -> &[Item]
     ensures { result.now ≡ take end items.now }
 {
-    if end < items.len() { &items[..end] } else { items }
+    if end < items.len() {
+        &items[..end]
+    } else {
+        items
+    }
 }
 
 /// The items from a place on.

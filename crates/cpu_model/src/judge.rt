@@ -7,7 +7,6 @@ ghost use Rattle.phys_mem.specs.Words.{memory_of};
 ghost use Rattle.machine_spec.specs.Kept.{base_by};
 ghost use Rattle.machine_spec.specs.Allowed.{is_earlier, is_changed, has_word, is_conflict};
 ghost use Rattle.made_rows.specs.NewRows.{is_mapping};
-
 ghost use Rattle.made_rows.specs.Sized.{is_sized};
 ghost use Rattle.cpu_model.specs.Judged.{HasSizes, HaveSizes};
 

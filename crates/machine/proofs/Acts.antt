@@ -9,10 +9,6 @@ use Rattle.sysregs.specs.declared.regs.Reg.{Reg}
 use Rattle.sysregs.specs.declared.regs.Op.{Op}
 use Rattle.tlbi_ops.specs.declared.inval.Inval.{Inval}
 use Rattle.tlbi_ops.specs.Operands.{inval_of, reaches_core}
-use Rattle.trails.specs.declared.outcome.Outcome.{Outcome}
-use Rattle.trails.specs.declared.outcome.Outcome.TheVariants.{Mapped, Faulted, Absent, Conflict}
-use Rattle.trails.specs.Printed.{HasText}
-use Rattle.walk_spec.specs.Walked.{HasLine}
 use Rattle.trails.specs.declared.outcome.Access.{Access}
 use Rattle.trails.specs.declared.event.Barrier.{Barrier}
 use Rattle.trails.specs.declared.event.Origin.{Origin}
@@ -35,19 +31,27 @@ pub seat_at : (h : Header) (cores : List Core) (xs : List SeatState) (j : ℕ) (
 seat_at h cores xs j x lt are = subst (IsSeatOf h j (get_or cores j no_core)) (sym (get_or_default xs j x no_seat lt)) (are.each j lt)
 
 -- one seat is what a change makes of its core, which leaves each other core
-pub one_at : (h : Header) (cores : List Core) (f : ℕ → Core → Core) (xs : List SeatState) (j : ℕ) (x new : SeatState) → j < length xs
+pub one_here : (h : Header) (cores : List Core) (f : ℕ → Core → Core) (xs : List SeatState) (j : ℕ) (x new : SeatState) → j < length xs
     → AreSeatsOf h cores xs
-    → ((v : Core) → IsSeatOf h j v (get_or xs j x) → IsSeatOf h j (f j v) new) → ((c : ℕ) (v : Core) → (j ≡ c → ⊥) → f c v ≡ v)
+    → (IsSeatOf h j (get_or cores j no_core) (get_or xs j x) → IsSeatOf h j (f j (get_or cores j no_core)) new)
+    → ((c : ℕ) (v : Core) → (j ≡ c → ⊥) → f c v ≡ v)
     → (c : ℕ) → c < length (set xs j new) → IsSeatOf h c (f c (get_or cores c no_core)) (get_or (set xs j new) c no_seat)
-one_at h cores f xs j x new lt are own other c in_set =
+one_here h cores f xs j x new lt are own other c in_set =
     let within : c < length xs = subst (λ n. c < n) (length-set xs j new) in_set in
     elim (cases_eq j c) as (λ _. IsSeatOf h c (f c (get_or cores c no_core)) (get_or (set xs j new) c no_seat)) [
       | inl e ↦ subst (λ n. IsSeatOf h n (f n (get_or cores n no_core)) (get_or (set xs j new) n no_seat)) e
           (subst (IsSeatOf h j (f j (get_or cores j no_core))) (sym (get_or-set_same xs j new no_seat lt))
-          (own (get_or cores j no_core) (seat_at h cores xs j x lt are)))
+          (own (seat_at h cores xs j x lt are)))
       | inr ne ↦ subst (λ (v : Core). IsSeatOf h c v (get_or (set xs j new) c no_seat)) (sym (other c (get_or cores c no_core) ne))
           (subst (IsSeatOf h c (get_or cores c no_core)) (sym (get_or-set_other xs j c new no_seat (λ e. ne (sym e)))) (are.each c within))
     ]
+
+-- the same of a change that holds of any core
+pub one_at : (h : Header) (cores : List Core) (f : ℕ → Core → Core) (xs : List SeatState) (j : ℕ) (x new : SeatState) → j < length xs
+    → AreSeatsOf h cores xs
+    → ((v : Core) → IsSeatOf h j v (get_or xs j x) → IsSeatOf h j (f j v) new) → ((c : ℕ) (v : Core) → (j ≡ c → ⊥) → f c v ≡ v)
+    → (c : ℕ) → c < length (set xs j new) → IsSeatOf h c (f c (get_or cores c no_core)) (get_or (set xs j new) c no_seat)
+one_at h cores f xs j x new lt are own other c in_set = one_here h cores f xs j x new lt are (own (get_or cores j no_core)) other c in_set
 
 -- REGISTERS
 
@@ -172,10 +176,3 @@ quiet_answer h w (Dsb core kind) is = refl
 quiet_answer h w (Deliver core) is = refl
 quiet_answer h w (AccessOf core access) is = absurd (none-some (core, access) (sym is))
 quiet_answer h w (Prefetch core access) is = absurd (none-some (core, access) (sym is))
-
--- an outcome that has a line has a text
-pub line_text : (o : Outcome) → HasLine o → HasText o
-line_text (Mapped pa perms mem sh) h = tt
-line_text (Faulted f) h = h
-line_text (Absent s level pa s1ptw) h = tt
-line_text Conflict h = tt

@@ -1,7 +1,7 @@
 -- A core with its inbox, tied to a core of the definitions before and behind what it does.
 use Rattle.std.proofs.Common.{◌≡◌, ◌⊎◌, inl, inr, ℕ, ◌+◌, ◌<◌, ◌≤◌, Bool, true, false, cond, List, []}
-use Rattle.std.proofs.Common.{◌∷◌, length, get_or, set, take, refl, sym, ap, ◌∙◌, subst, arith}
-use Rattle.std.specs.Prelude.{fold, filter, if◌then◌else◌}
+use Rattle.std.proofs.Common.{◌∷◌, ◌++◌, length, get_or, set, take, refl, sym, ap, ◌∙◌, subst, arith}
+use Rattle.std.specs.Prelude.{fold, filter, if◌then◌else◌, nat_lt}
 use Rattle.std.proofs.Math.Nat.{eq-or-lt_of_le}
 use Rattle.std.proofs.lemmas.List.{get_or-set_same, get_or-set_other, get_or_default, take_more}
 use Rattle.std.proofs.lemmas.List.Elements.{filter-append}
@@ -11,9 +11,10 @@ use Rattle.table_reads.specs.Memory.{Memory}
 use Rattle.machine_spec.specs.Header.{Header}
 use Rattle.machine_spec.specs.Moments.{Bank}
 use Rattle.tagged_tlb.specs.Sets.{Cache}
-use Rattle.machine_spec.specs.Machine.{Core, killed, visit_of}
-use Rattle.cpu_model.specs.Cores.{CoreState, HasOtherRows, Suits, AreCaches, visit_at}
-use Rattle.machine.specs.Seats.{SeatState, no_seat, IsSeatOf, world_with}
+use Rattle.machine_spec.specs.Machine.{Core, killed, visit_of, mailed, posted, delivered, most_held}
+use Rattle.cpu_model.specs.Cores.{CoreState, HasOtherRows, AreCaches, visit_at}
+use Rattle.cpu_model.proofs.Filling.{alike_on}
+use Rattle.machine.specs.Seats.{SeatState, no_seat, IsSeatOf, world_with, with_room}
 
 -- a core whose rows and inbox change
 pub other_rows : (h : Header) (c : ℕ) (v : Core) (l : Cache) (later : List Inval) (old new : CoreState) (before after : List Inval) → HasOtherRows old new
@@ -21,7 +22,6 @@ pub other_rows : (h : Header) (c : ℕ) (v : Core) (l : Cache) (later : List Inv
     → IsSeatOf h c (record v { inbox = later; cache = l }) (record { core = new; inbox = after })
 other_rows h c v l later old new before after rest rows e s = record {
   number = rest.number ∙ s.number;
-  suits = (s.suits.0 ∙ sym rest.size, s.suits.1 ∙ sym rest.policy);
   bank = rest.bank ∙ s.bank;
   inbox = e;
   caches = subst (λ (n : ℕ). AreCaches h n l new) (sym rest.number) rows;
@@ -45,14 +45,13 @@ visit_is h c v seat k m cores s =
 abbrev pub Took : (invals : List Inval) (old new : CoreState) → Type 0
 Took invals old new =
     HasOtherRows old new
-    × ((h : Header) → (l : Cache) → Suits h old → AreCaches h old.number l old → AreCaches h old.number (fold killed l invals) new)
+    × ((h : Header) → (l : Cache) → AreCaches h old.number l old → AreCaches h old.number (fold killed l invals) new)
 
 pub other_after : (a b c : CoreState) → HasOtherRows a b → HasOtherRows b c → HasOtherRows a c
 other_after a b c x y = record {
   number = y.number ∙ x.number;
-  size = y.size ∙ x.size;
-  policy = y.policy ∙ x.policy;
   bank = y.bank ∙ x.bank;
+  caches = alike_on a.caches b.caches c.caches x.caches y.caches;
 }
 
 killed_one : (l : Cache) (i : Inval) (f : Inval → Bool) (b : Bool) → f i ≡ b → cond b (killed l i) l ≡ fold killed l (filter f (i ∷ []))
@@ -62,18 +61,17 @@ killed_one l i f false e = rw e refl
 -- one more, where a test says so
 pub took_more : (f : Inval → Bool) (xs : List Inval) (k : ℕ) (d : Inval) (first old new : CoreState) → k < length xs
     → Took (filter f (take k xs)) first old → HasOtherRows old new
-    → ((h : Header) → (l : Cache) → Suits h old → AreCaches h old.number l old
+    → ((h : Header) → (l : Cache) → AreCaches h old.number l old
     → AreCaches h old.number (if f (get_or xs k d) then killed l (get_or xs k d) else l) new)
     → Took (filter f (take (k + 1) xs)) first new
 took_more f xs k d first old new lt before rest rows = (
   other_after first old new before.0 rest,
-  λ h l suits held.
+  λ h l held.
       let i : Inval = get_or xs k d in
       let x : Cache = fold killed l (filter f (take k xs)) in
       let n = before.0.number in
       let now : AreCaches h old.number (if f i then killed x i else x) new =
-      rows h x (suits.0 ∙ sym before.0.size, suits.1 ∙ sym before.0.policy)
-      (subst (λ (c : ℕ). AreCaches h c x old) (sym n) (before.1 h l suits held)) in
+      rows h x (subst (λ (c : ℕ). AreCaches h c x old) (sym n) (before.1 h l held)) in
       let same : cond (f i) (killed x i) x ≡ fold killed l (filter f (take (k + 1) xs)) =
       killed_one x i f (f i) refl ∙ sym (fold-append killed l (filter f (take k xs)) (filter f (i ∷ [])))
       ∙ ap (fold killed l) (sym (filter-append f (take k xs) (i ∷ [])))
@@ -103,3 +101,16 @@ module _ (f : ℕ → Core → Core) (first xs : List SeatState) (k : ℕ) (x ne
 
   pub rest_stays : (d : ℕ) → k + 1 ≤ d → get_or (set xs k new) d no_seat ≡ get_or first d no_seat
   rest_stays d l = get_or-set_other xs k d new no_seat (λ e. omega (arith, l, e)) ∙ rest d (omega (arith, l))
+
+-- AN INVALIDATION COMES IN
+
+mailed_by_room : (v : Core) (i : Inval) (room : Bool) → posted (cond room v (delivered v)) i ≡ cond room (posted v i) (posted (delivered v) i)
+mailed_by_room v i true = refl
+mailed_by_room v i false = refl
+
+-- behind a core with room
+pub post_is : (h : Header) (c : ℕ) (v : Core) (i : Inval) (old : SeatState) (inbox : List Inval) → inbox ≡ old.inbox ++ i ∷ []
+    → IsSeatOf h c (with_room v) old → IsSeatOf h c (mailed v i) (record old { inbox = inbox })
+post_is h c v i old inbox is s =
+    subst (λ (u : Core). IsSeatOf h c u (record old { inbox = inbox })) (mailed_by_room v i (nat_lt (length v.inbox) most_held))
+    record { number = s.number; bank = s.bank; inbox = is ∙ ap (λ l. l ++ i ∷ []) s.inbox; caches = s.caches }

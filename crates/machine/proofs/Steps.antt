@@ -24,7 +24,9 @@ use Rattle.machine_laws.specs.Headline.{AreOfCores, RunsAreAllowed}
 use Rattle.machine_laws.proofs.Events.{each_at, each_length}
 use Rattle.machine_laws.proofs.Logs.{get-last}
 use Rattle.machine_laws.proofs.Theorem.{world_on, run_on}
-use Rattle.machine.specs.Seats.{SeatState, no_seat, IsSeatOf, AreSeatsOf, world_with, AreMoved}
+use Rattle.machine.specs.Seats.{SeatState, no_seat, IsSeatOf, AreSeatsOf, world_with, AreMoved, CanAnswer}
+use Rattle.served_walk.specs.CanServe.{AreServable, RowsCanServe}
+use Rattle.made_rows.specs.Small.{RowsAreSmall}
 use Rattle.machine.specs.Events.{IsDoable}
 use Rattle.trails.specs.Printed.{HasTextInRun}
 use Rattle.machine.specs.Runs.{MachineState, IsMachineOf, IsRun, log_at}
@@ -97,10 +99,10 @@ pub record Did (t : Parts) (p : Held) (seats : List SeatState) (k : ℕ) (e : Ev
   pub lt : k < length t.events
   pub at : e ≡ get_or t.events k e
   pub memory : memory_of next ≡ stored (memory_of p) e
-  pub answer : (h : Header) → (cores : List Core) → AreSeatsOf h cores seats → a ≡ answer_to h (world_with k (memory_of p) cores) e
+  pub answer : (h : Header) → (cores : List Core) → AreSeatsOf h cores seats → CanAnswer k cores → a ≡ answer_to h (world_with k (memory_of p) cores) e
   pub len : length after ≡ length seats
-  pub cores : (h : Header) → (cores : List Core) → AreSeatsOf h cores seats → AreMoved h (world_with k (memory_of p) cores) e after
-  pub text : HasTextInRun a
+  pub cores : (h : Header) → (cores : List Core) → AreSeatsOf h cores seats → CanAnswer k cores → AreMoved h (world_with k (memory_of p) cores) e after
+  pub text : (h : Header) → (cores : List Core) → AreSeatsOf h cores seats → CanAnswer k cores → HasTextInRun a
 
 -- a machine in the middle of a trace
 abbrev pub state_of : (t : Parts) (log : List Step) (p : Held) (seats : List SeatState) → MachineState
@@ -124,8 +126,14 @@ moved_all h w e seats after are n moved_seats =
           subst (λ (v : Core). IsSeatOf h c v (get_or after c no_seat)) (sym (each_at change w.cores c no_core (omega (arith, lt, n, m)))) (moved_seats c lt);
     }
 
-module _ (laws : RunsAreAllowed) (t : Parts) (p : Held) (seats : List SeatState) (log : List Step) (limits : IsTrace t)
-    (run : IsRun (state_of t log p seats))
+-- what holds over every run: its steps are allowed, and the rows of its cores can serve and are small
+pub record Laws : Type 0 where
+  pub allowed : RunsAreAllowed
+  pub serve : RowsCanServe
+  pub small : RowsAreSmall
+
+module _ (laws : Laws) (t : Parts) (p : Held) (seats : List SeatState) (log : List Step) (limits : IsTrace t)
+    (count : length seats ≡ t.header.cores) (run : IsRun (state_of t log p seats))
     (e : Event) (a : Option Answer) (next : Held) (after : List SeatState) (did : Did t p seats (length log) e a next after) where
   abbrev h : Header
   h = t.header
@@ -145,8 +153,17 @@ module _ (laws : RunsAreAllowed) (t : Parts) (p : Held) (seats : List SeatState)
       ap (λ (k : ℕ). world_with k (memory_of p) w.cores) (sym run.machine.step) ∙ ap (λ (m : Memory). world_with w.step m w.cores)
       (sym run.machine.memory)
 
+  -- the rows of its cores can serve
+  can : CanAnswer (length log) w.cores
+  can c lt =
+      let front_of : AreOfCores h front = All-take (λ x. core_of x < h.cores) (length log) t.events (all_of_cores t limits) in
+      let within : c < h.cores = (let n = run.machine.seats.count in omega (arith, lt, n, count)) in record {
+        small = laws.small h front front_of c within;
+        servable = subst (λ k. AreServable k (get_or w.cores c no_core).cache.rows) run.machine.step (laws.serve h front front_of c within);
+      }
+
   is_step : done ≡ step_of h w e
-  is_step = ap (λ (x : Option Answer). record { event = e; answer = x }) (did.answer h w.cores run.machine.seats) ∙ ap (λ x. step_of h x e) world_is
+  is_step = ap (λ (x : Option Answer). record { event = e; answer = x }) (did.answer h w.cores run.machine.seats can) ∙ ap (λ x. step_of h x e) world_is
 
   more : take (length log + 1) t.events ≡ front ++ e ∷ []
   more = take_more t.events (length log) e did.lt ∙ ap (λ x. front ++ x ∷ []) (sym did.at)
@@ -158,7 +175,7 @@ module _ (laws : RunsAreAllowed) (t : Parts) (p : Held) (seats : List SeatState)
   one = length-append log (done ∷ [])
 
   moved_on : AreMoved h w e after
-  moved_on = subst (λ (x : World). AreMoved h x e after) world_is (did.cores h w.cores run.machine.seats)
+  moved_on = subst (λ (x : World). AreMoved h x e after) world_is (did.cores h w.cores run.machine.seats can)
 
   machine_next : IsMachineOf (state_of t (log ++ done ∷ []) next after) (after_event h w e)
   machine_next = record {
@@ -176,26 +193,26 @@ module _ (laws : RunsAreAllowed) (t : Parts) (p : Held) (seats : List SeatState)
       subst (λ l. slice_get l (length log) ≡ Some done) run_next (get-last log done) in
       let before : take (length log) (run_of h (front ++ e ∷ [])) ≡ log =
       subst (λ l. take (length log) l ≡ log) run_next (take_at log (done ∷ []) (length log) refl) in
-      subst (λ l. IsAllowed h l done) before (laws h (front ++ e ∷ []) of_cores (length log) done at)
+      subst (λ l. IsAllowed h l done) before (laws.allowed h (front ++ e ∷ []) of_cores (length log) done at)
 
   kept : IsRun (state_of t (log ++ done ∷ []) next after)
   kept = record {
     within = (let l = did.lt in rw one (omega (arith, l)));
     log_is = rw (one, more) run_next;
     machine = rw (one, more) (subst (IsMachineOf (state_of t (log ++ done ∷ []) next after)) (sym (world_on h front e)) machine_next);
-    texts = All-push (λ (s : Step). HasTextInRun s.answer) log done run.texts did.text;
+    texts = All-push (λ (s : Step). HasTextInRun s.answer) log done run.texts (did.text h w.cores run.machine.seats can);
   }
 
   pub goes : Goes t log next after (record { event = e; answer = a })
   goes = record { event = slice_get-get_or t.events (length log) e did.lt ∙ ap Some (sym did.at); allowed = allowed; kept = kept }
 
 -- the same where the body names the parts by other, equal terms
-pub goes_from : RunsAreAllowed → (t : Parts) (p : Held) (seats : List SeatState) (log : List Step) → IsTrace t → IsRun (state_of t log p seats)
+pub goes_from : Laws → (t : Parts) (p : Held) (seats : List SeatState) (log : List Step) → IsTrace t → length seats ≡ t.header.cores → IsRun (state_of t log p seats)
     → (e : Event) (a : Option Answer) (next : Held) (after : List SeatState)
     → (k : ℕ) (t2 : Parts) (p2 : Held) (seats2 : List SeatState) → k ≡ length log → t2 ≡ t → p2 ≡ p → seats2 ≡ seats
     → Did t2 p2 seats2 k e a next after → Goes t log next after (record { event = e; answer = a })
-goes_from laws t p seats log limits run e a next after k t2 p2 seats2 ek et ep es did =
-    goes laws t p seats log limits run e a next after
+goes_from laws t p seats log limits count run e a next after k t2 p2 seats2 ek et ep es did =
+    goes laws t p seats log limits count run e a next after
     (subst (λ x. Did t p x (length log) e a next after) es
     (subst (λ x. Did t x seats2 (length log) e a next after) ep
     (subst (λ x. Did x p2 seats2 (length log) e a next after) et

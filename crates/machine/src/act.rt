@@ -9,7 +9,7 @@ ghost use Rattle.machine_spec.specs.Moments.{stored};
 ghost use Rattle.machine_spec.specs.Invalidations.{is_at_el1};
 ghost use Rattle.machine_spec.specs.Machine.{Core, mailed_by, finished, answer_to};
 ghost use Rattle.trace_lang.specs.Traces.{core_of};
-ghost use Rattle.machine.specs.Seats.{no_seat, IsSeatOf, AreSeatsOf, world_with, AreMoved};
+ghost use Rattle.machine.specs.Seats.{no_seat, IsSeatOf, AreSeatsOf, world_with, AreMoved, CanAnswer};
 ghost use Rattle.trails.specs.Printed.{HasTextInRun};
 ghost use Rattle.machine.specs.Events.{asked_of, IsDoable};
 
@@ -114,10 +114,10 @@ fn answer(
 )
     requires { core < length seats.old }
     ensures answer { (h : Header) → (cores : List Core) → (e : TheEvent) → asked_of e ≡ Some (core, access.now) → AreSeatsOf h cores seats.old →
-        Some answer.new ≡ answer_to h (world_with moment (memory_of phys.now) cores) e }
+        CanAnswer moment cores → Some answer.new ≡ answer_to h (world_with moment (memory_of phys.now) cores) e }
     ensures cores { (h : Header) → (cores : List Core) → (e : TheEvent) → asked_of e ≡ Some (core, access.now) → AreSeatsOf h cores seats.old →
-        AreMoved h (world_with moment (memory_of phys.now) cores) e seats.new }
-    ensures text { HasTextInRun (Some answer.new) }
+        CanAnswer moment cores → AreMoved h (world_with moment (memory_of phys.now) cores) e seats.new }
+    ensures text { (h : Header) → (cores : List Core) → AreSeatsOf h cores seats.old → CanAnswer moment cores → HasTextInRun (Some answer.new) }
 {
     seats[core as usize].access(phys, moment, access, answer);
 }
@@ -165,12 +165,12 @@ pub fn act_and_answer(
     requires doable { IsDoable (memory_of phys.old) event.now }
     ensures memory { memory_of phys.new ≡ stored (memory_of phys.old) event.now }
     ensures ranges { phys.new.ranges ≡ phys.old.ranges }
-    ensures answer { (h : Header) → (cores : List Core) → AreSeatsOf h cores seats.old →
+    ensures answer { (h : Header) → (cores : List Core) → AreSeatsOf h cores seats.old → CanAnswer moment cores →
         slot.new.answer ≡ answer_to h (world_with moment (memory_of phys.old) cores) event.now }
-    ensures cores { (h : Header) → (cores : List Core) → AreSeatsOf h cores seats.old →
+    ensures cores { (h : Header) → (cores : List Core) → AreSeatsOf h cores seats.old → CanAnswer moment cores →
         AreMoved h (world_with moment (memory_of phys.old) cores) event.now seats.new }
     ensures event { slot.new.event ≡ event.now }
-    ensures text { HasTextInRun slot.new.answer }
+    ensures text { (h : Header) → (cores : List Core) → AreSeatsOf h cores seats.old → CanAnswer moment cores → HasTextInRun slot.new.answer }
 {
     slot.event = *event;
     match asked(event) {

@@ -1,7 +1,6 @@
 //! The machine in the middle of a trace, with its log.
 ghost use Rattle.std.specs.Prelude.{◌≡◌, ◌<◌, ◌+◌, [], ◌∷◌, ◌++◌, length, take, slice_get, Some, IfOk};
 ghost use Rattle.trails.specs.declared.step.Step.{Step as TheStep};
-ghost use Rattle.trace_lang.specs.declared.header.Size.TheVariants.{NoRows};
 ghost use Rattle.trace_lang.specs.Traces.{IsTrace};
 ghost use Rattle.machine_spec.specs.Allowed.{IsAllowed};
 ghost use Rattle.machine_spec.specs.Machine.{run_of, world_after};
@@ -36,7 +35,6 @@ impl Model for Machine {
 impl Machine {
     /// The machine before the first event of a trace. All memory of the run is taken here.
     pub fn opened(alloc: Global, trace: Trace) -> Result<Machine, NoMemory>
-        requires { trace.header.size ≡ NoRows }
         ensures limits { IsTrace trace }
         ensures trace { IfOk result (λ m. m.trace ≡ trace) }
         ensures log { IfOk result (λ m. m.log ≡ []) }

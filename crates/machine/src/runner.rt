@@ -4,7 +4,6 @@ ghost use Rattle.std.specs.Prelude.{slice_get, Some, None, IfOk};
 ghost use Rattle.phys_mem.specs.Words.{memory_of};
 ghost use Rattle.phys_mem.specs.Memory.{zeros};
 ghost use Rattle.phys_mem.specs.Ranges.{refusal_in};
-ghost use Rattle.trace_lang.specs.declared.header.Size.TheVariants.{NoRows};
 ghost use Rattle.trace_lang.specs.Traces.{RangesFitBehind, IsTrace};
 ghost use Rattle.machine_spec.specs.Allowed.{IsAllowed};
 ghost use Rattle.machine_spec.specs.Header.{Header};
@@ -17,7 +16,9 @@ use crate::act::act_and_answer;
 use crate::seat::Seat;
 use bitwords::NoMemory;
 use machine_laws::runs_are_allowed;
+use made_rows::rows_are_small;
 use phys_mem::{Phys, PhysError};
+use served_walk::rows_can_serve;
 use std::alloc::Global;
 use std::marker::Model;
 use trace_lang::{Policy, Size, Trace};
@@ -72,7 +73,6 @@ fn memory(alloc: Global, ranges: &[(u64, u64)]) -> Result<Phys, NoMemory>
 
 /// So many cores at first.
 fn seats_of(alloc: Global, cores: u8, size: Size, policy: Policy) -> Result<Vec<Seat>, NoMemory>
-    requires { size ≡ NoRows }
     ensures count { IfOk result (λ v. length v.items ≡ cores) }
     ensures each { IfOk result (λ v. (h : Header) → h.size ≡ size → h.policy ≡ policy → AreSeatsOf h (replicate cores no_core) v.items) }
 {
@@ -89,7 +89,6 @@ fn seats_of(alloc: Global, cores: u8, size: Size, policy: Policy) -> Result<Vec<
 impl Runner {
     /// The machine before the first event of a trace. All memory of the run is taken here.
     pub fn opened(alloc: Global, trace: Trace) -> Result<Runner, NoMemory>
-        requires { trace.header.size ≡ NoRows }
         ensures limits { IsTrace trace }
         ensures trace { IfOk result (λ m. m.trace ≡ trace) }
         ensures log { IfOk result (λ m. m.log ≡ []) }
@@ -124,6 +123,8 @@ impl Runner {
         ensures texts { HaveTexts self.new.log }
     {
         runs_are_allowed();
+        rows_can_serve();
+        rows_are_small();
         let k = self.done;
         let event = self.trace.events()[k];
         self.done += 1;

@@ -1,18 +1,16 @@
 //! A core with its inbox.
-ghost use Rattle.std.specs.Prelude.{◌≡◌, ℕ, List, fold, filter, if◌then◌else◌, IfOk, None, true};
+ghost use Rattle.std.specs.Prelude.{◌≡◌, ◌<◌, ℕ, List, length, fold, filter, if◌then◌else◌, IfOk, None, Some};
 ghost use Rattle.sysregs.specs.Refused.{refused_field};
 ghost use Rattle.trails.specs.declared.event.Event.TheVariants.{Dsb};
-ghost use Rattle.trails.specs.Printed.{printed};
-ghost use Rattle.walk_spec.specs.Walked.{HasLine};
+ghost use Rattle.trails.specs.Printed.{HasTextInRun};
 ghost use Rattle.phys_mem.specs.Words.{memory_of};
-ghost use Rattle.trace_lang.specs.declared.header.Size.TheVariants.{NoRows};
 ghost use Rattle.machine_spec.specs.Header.{Header};
 ghost use Rattle.machine_spec.specs.Moments.{settled, drained, queued};
 ghost use Rattle.machine_spec.specs.Invalidations.{is_wide, completes};
 ghost use Rattle.tagged_tlb.specs.Sets.{Cache};
 ghost use Rattle.machine_spec.specs.Machine.{Core, no_core, with_bank, killed, delivered, mailed, finished, visit_of, visited, accessed};
-ghost use Rattle.cpu_model.specs.Cores.{HasOtherRows, Suits, AreCaches};
-ghost use Rattle.machine.specs.Seats.{IsSeatOf, world_with};
+ghost use Rattle.cpu_model.specs.Cores.{HasOtherRows, AreCaches, CanServe};
+ghost use Rattle.machine.specs.Seats.{IsSeatOf, world_with, with_room};
 
 use bitwords::NoMemory;
 use cpu_model::Cpu;
@@ -66,7 +64,7 @@ fn completes(core: u8, kind: Barrier, inval: &Inval) -> bool
 /// An invalidation takes effect, where a DSB of a core completes it.
 fn take_completed(cpu: &mut Cpu, inval: &Inval, core: u8, kind: Barrier)
     ensures rest { HasOtherRows cpu.old cpu.new }
-    ensures rows { (h : Header) → (l : Cache) → Suits h cpu.old → AreCaches h cpu.old.number l cpu.old →
+    ensures rows { (h : Header) → (l : Cache) → AreCaches h cpu.old.number l cpu.old →
         AreCaches h cpu.old.number (if completes (Dsb core kind) inval.now then killed l inval.now else l) cpu.new }
 {
     if completes(core, kind, inval) {
@@ -77,7 +75,7 @@ fn take_completed(cpu: &mut Cpu, inval: &Inval, core: u8, kind: Barrier)
 /// The invalidations that a DSB completes take effect, oldest first.
 fn take_all(cpu: &mut Cpu, inbox: &[Inval], core: u8, kind: Barrier)
     ensures rest { HasOtherRows cpu.old cpu.new }
-    ensures rows { (h : Header) → (l : Cache) → Suits h cpu.old → AreCaches h cpu.old.number l cpu.old →
+    ensures rows { (h : Header) → (l : Cache) → AreCaches h cpu.old.number l cpu.old →
         AreCaches h cpu.old.number (fold killed l (filter (completes (Dsb core kind)) inbox.now)) cpu.new }
 {
     for inval in inbox {
@@ -86,9 +84,8 @@ fn take_all(cpu: &mut Cpu, inbox: &[Inval], core: u8, kind: Barrier)
 }
 
 impl Seat {
-    /// A core of a number whose registers are all 0, and which no invalidation has reached.
+    /// A core of a number whose registers are all 0, whose caches are empty, and which no invalidation has reached.
     pub fn opened(alloc: Global, number: u8, size: Size, policy: Policy) -> Result<Seat, NoMemory>
-        requires { size ≡ NoRows }
         ensures { IfOk result (λ s. (h : Header) → h.size ≡ size → h.policy ≡ policy → IsSeatOf h number no_core s) }
     {
         let Ok(inbox) = Vec::with_capacity(alloc, MOST_HELD) else {
@@ -137,14 +134,22 @@ impl Seat {
         }
     }
 
-    /// An invalidation comes in. Where the inbox is full, its oldest takes effect first.
-    pub fn post(&mut self, inval: Inval)
-        ensures { (h : Header) → (c : ℕ) → (v : Core) → IsSeatOf h c v self.old → IsSeatOf h c (mailed v inval) self.new }
+    /// Where the inbox is full, its oldest invalidation takes effect.
+    fn make_room(&mut self)
+        ensures seat { (h : Header) → (c : ℕ) → (v : Core) → IsSeatOf h c v self.old → IsSeatOf h c (with_room v) self.new }
+        ensures room { length self.new.inbox < 64 }
     {
         if self.inbox.len() == MOST_HELD {
             let oldest = self.inbox.remove(0);
             self.cpu.take(&oldest);
         }
+    }
+
+    /// An invalidation comes in. Where the inbox is full, its oldest takes effect first.
+    pub fn post(&mut self, inval: Inval)
+        ensures { (h : Header) → (c : ℕ) → (v : Core) → IsSeatOf h c v self.old → IsSeatOf h c (mailed v inval) self.new }
+    {
+        self.make_room();
         self.inbox.push_reserved(inval);
     }
 
@@ -158,11 +163,11 @@ impl Seat {
 
     /// Writes the answer of an access at a moment, which is the number of the step, where an earlier one stood.
     pub fn access(&mut self, phys: &Phys, moment: u32, access: &Access, answer: &mut Answer)
-        ensures answer { (h : Header) → (cores : List Core) → (c : ℕ) → (v : Core) → IsSeatOf h c v self.old →
+        ensures answer { (h : Header) → (cores : List Core) → (c : ℕ) → (v : Core) → IsSeatOf h c v self.old → CanServe moment v.cache.rows →
             answer.new ≡ (visited (visit_of h (world_with moment (memory_of phys.now) cores) c v) access.now).answer }
-        ensures core { (h : Header) → (cores : List Core) → (c : ℕ) → (v : Core) → IsSeatOf h c v self.old →
+        ensures core { (h : Header) → (cores : List Core) → (c : ℕ) → (v : Core) → IsSeatOf h c v self.old → CanServe moment v.cache.rows →
             IsSeatOf h c (accessed h (world_with moment (memory_of phys.now) cores) c v access.now) self.new }
-        ensures line { HasLine (printed true answer.new.outcome) }
+        ensures text { (h : Header) → (c : ℕ) → (v : Core) → IsSeatOf h c v self.old → CanServe moment v.cache.rows → HasTextInRun (Some answer.new) }
     {
         self.cpu.access(phys, moment, access, answer);
     }

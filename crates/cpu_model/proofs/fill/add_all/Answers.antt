@@ -1,4 +1,4 @@
-use Rattle.std.proofs.Common.{◌≡◌, ◌≤◌, ◌+◌, length, take, cond, ◌++◌, [], ◌∷◌, ap, sym, ◌∙◌, subst, arith}
+use Rattle.std.proofs.Common.{◌+◌, take, cond, ◌++◌, [], ◌∷◌, sym, subst, arith}
 use Rattle.std.proofs.lemmas.List.{take_all}
 use Rattle.cpu_model.specs.Filled.{rows_of_step, Fills}
 use Rattle.cpu_model.proofs.Filling.{held_more, one_turn, one_most, alike_on}

@@ -16,6 +16,6 @@ loop-inval-preserved c =
     c.loop-inval-test.true l.invariant c.take_completed.ensures.rest c.take_completed.ensures.rows
 
 pub returns-clause-rows : goal.returns-clause-rows
-returns-clause-rows c h l suits held =
+returns-clause-rows c h l held =
     subst (λ (xs : List Inval). AreCaches h c.args.cpu.now.number (fold killed l (filter (completes (Dsb c.args.core c.args.kind)) xs)) c.loop-inval.cpu)
-    (take_all c.loop-inval.inval-index c.args.inbox.now c.loop-inval-test.false) (c.loop-inval.invariant.1 h l suits held)
+    (take_all c.loop-inval.inval-index c.args.inbox.now c.loop-inval-test.false) (c.loop-inval.invariant.1 h l held)

@@ -1,4 +1,4 @@
-use Rattle.std.proofs.Common.{◌≡◌, List, true, ap, sym, ◌∙◌, subst}
+use Rattle.std.proofs.Common.{◌≡◌, true, ap, sym, ◌∙◌, subst}
 use Rattle.tagged_tlb.specs.Shapes.{keeps_rows}
 use Rattle.tagged_tlb.specs.Sets.{touched}
 use Rattle.walk_cache.specs.Services.{AreServices}

@@ -14,7 +14,7 @@ returns c =
     let stays = λ (i : Inval). not (completes (Dsb c.args.core c.args.kind) i) in
     let e = filter_same _ stays _ (λ x b f' k. search rules) _ _ c.retain.ensures.filtered in
     rw (← c.self.view_is) (λ h n v s.
-    let taken = c.take_all.ensures.rows h v.cache s.suits s.caches in
+    let taken = c.take_all.ensures.rows h v.cache s.caches in
     other_rows h n v (fold killed v.cache (filter (completes (Dsb c.args.core c.args.kind)) v.inbox)) (filter stays v.inbox) c.self.inside.cpu
     c.take_all.new.cpu c.self.inside.inbox.items _ c.take_all.ensures.rest
     (subst (λ (l : List Inval).
