@@ -5,14 +5,13 @@ use Rattle.std.proofs.lemmas.Bool.{and_parts}
 use Rattle.std.proofs.lemmas.List.Elements.{All-nil, All-cons}
 use Rattle.geometry.specs.Tables.{level_of}
 use Rattle.sysregs.specs.declared.regs.Config.{Config}
-use Rattle.sysregs.specs.declared.regs.Regs.{Regs}
 use Rattle.sysregs.specs.Registers.{config_of}
 use Rattle.sysregs.specs.Sides.{side_of}
 use Rattle.trails.specs.declared.item.Item.{Item}
 use Rattle.trails.specs.declared.item.What.TheVariants.{Base as ABase}
 use Rattle.trails.specs.declared.outcome.Access.{Access}
 use Rattle.trails.specs.declared.outcome.Outcome.{Outcome}
-use Rattle.trails.specs.Lengths.{most_items, most_items2}
+use Rattle.trails.specs.Lengths.{most_items2}
 use Rattle.walk_spec.specs.declared.leaf.Leaf2.{Leaf2}
 use Rattle.walk_spec.specs.Ask.{Ask, done, ask, on, bad, ends, needs, Fed, ended, lacks}
 use Rattle.walk_spec.specs.Needs.{Regime, Need, stage1_base, stage2_base, word, WordNeed, fits}
@@ -26,23 +25,22 @@ use Rattle.translate.specs.Replayed.{stands_whole, EndsOn, NeedsMore}
 use Rattle.tagged_tlb.specs.declared.row.Kind.{Kind}
 use Rattle.tagged_tlb.specs.declared.row.Kind.TheVariants.{Leaf1, Table1, Leaf2 as OfLeaf2, Table2 as OfTable2}
 use Rattle.tagged_tlb.specs.declared.row.Row.{Row}
-use Rattle.tagged_tlb.specs.declared.row.Key.{Key}
 use Rattle.tagged_tlb.specs.Rows.{matches, matches1, matching, deepest}
 use Rattle.machine_spec.specs.Made.{key_of}
-use Rattle.machine_spec.specs.Served.{Place, Reply, Halt, came, clash, Supplied, gives, halts, supplied_by, chain_by, begun2, chain_of}
-use Rattle.machine_spec.specs.Served.{supply, fresh_of, served, serve, taken, credited, begun1, combined}
+use Rattle.machine_spec.specs.Served.{Place, Reply, came, Supplied, gives, halts, supplied_by, chain_by, begun2, chain_of}
+use Rattle.machine_spec.specs.Served.{supply, fresh_of, served, serve, taken, begun1, combined}
 use Rattle.machine_laws.specs.Leaving.{In}
 use Rattle.machine_laws.specs.MayServe.{MayServe}
 use Rattle.machine_laws.specs.Standing.{IsOn}
 use Rattle.machine_laws.proofs.Found.{In-matching, In-deepest, Match, matched, matched1}
 use Rattle.served_walk.specs.CanServe.{AreServable, ServesAs}
-use Rattle.served_walk.specs.ServeAt.{StopAt, fed, breaks, ReplyAt, serve_at, halt_of}
+use Rattle.served_walk.specs.ServeAt.{StopAt, fed, breaks, serve_at, halt_of}
 use Rattle.served_walk.proofs.Serving.{serve_is}
 use Rattle.served_walk.proofs.Ties.{needs_on, front_ended, taken_ends, ended_is}
 use Rattle.served_walk.proofs.Chains.{chain_leaf, chain_table}
 use Rattle.served_walk.proofs.Fitting.{OnStop, ChainsFit, ChainsStand, chains_fit, served_on, rg}
 use Rattle.made_rows.specs.Sized.{is_sized}
-use Rattle.made_rows.specs.NewRows.{StandsTo, IsKnown, AreKnown, regime_for, MadeFor}
+use Rattle.made_rows.specs.NewRows.{StandsTo, AreKnown, regime_for, MadeFor}
 use Rattle.made_rows.proofs.Combining.{trail_known}
 
 -- FROM TREES TO STANDING
@@ -165,7 +163,7 @@ module _ (p : Place) (a : Access) where
           let d = matched OfLeaf2 (key_of p.regs) x r i.1 in
           let g : ServesAs r OfLeaf2 = subst (ServesAs r) d.kind_is (can.serves r i.0) in
           let s = subst (λ z. is_refused2 z x ≡ false → ((l : Leaf2) × (stands2 z (side_of a.va) false x r.trail ≡ ends (reaches l) []))
-              × (length r.trail ≤ most_items2)) d.config (g (side_of a.va) x d.held) ok in
+          × (length r.trail ≤ most_items2)) d.config (g (side_of a.va) x d.held) ok in
           let o = chain_leaf c (side_of a.va) s1ptw x sup r.trail s.0.0 s.0.1 in
           (done (reaches s.0.0), o.1);
       below = λ r e.
@@ -173,7 +171,7 @@ module _ (p : Place) (a : Access) where
           let d = matched OfTable2 (key_of p.regs) x r i.1 in
           let g : ServesAs r OfTable2 = subst (ServesAs r) d.kind_is (can.serves r i.0) in
           let s = subst (λ z. is_refused2 z x ≡ false → ((w : WordNeed) × (stands2 z (side_of a.va) false x r.trail ≡ needs (word w)))
-              × (length r.trail ≤ most_items2)) d.config (g (side_of a.va) x d.held) ok in
+          × (length r.trail ≤ most_items2)) d.config (g (side_of a.va) x d.held) ok in
           let o = chain_table c (side_of a.va) s1ptw x sup r.trail record { level = level_of s.0.0.left; base = s.0.0.table } (s.0.0, s.0.1, refl) in
           (_, o.1);
     }
@@ -204,7 +202,7 @@ module _ (p : Place) (a : Access) where
           let d = (matched1 Leaf1 (key_of p.regs) (untagged a.va) r t).0 in
           let g : ServesAs r Leaf1 = subst (ServesAs r) d.kind_is (can.serves r i) in
           let e : (len : ℕ) × (o : Outcome) × EndsOn c a r.trail len o = subst (λ u. (len : ℕ) × (o : Outcome) × EndsOn u a r.trail len o) d.config
-              (g a (may Leaf1 r d)).0 in
+          (g a (may Leaf1 r d)).0 in
           ended_stood (take e.0 r.trail) e.2.0 (taken r.trail W) (front_ended c a r.trail e.0 e.1 e.2) (taken_ends c a r.trail e.0 e.1 e.2)
 
       table_by : (r : Row) → ((len : ℕ) × (o : Outcome) × EndsOn c a r.trail len o) ⊎ NeedsMore c a r.trail → Stood (serve sup r.trail W)

@@ -18,8 +18,8 @@ loop-at-preserved c =
             subst (λ r. vec_len r ≤ c.loop-at.at + 1) (sym w.rows-is) (omega (arith, w.push_reserved.ensures.len, c.loop-at.invariant.1)),
             ap vec_capacity w.rows-is ∙ w.push_reserved.ensures.capacity ∙ c.loop-at.invariant.2,
             subst (λ r. All IsSmall r.items) (sym w.rows-is) (subst (All IsSmall) (sym w.push_reserved.ensures.items)
-            (All-push IsSmall c.loop-at.rows.items w.in-Some.row c.loop-at.invariant.3
-            (subst (λ o. IfSome o IsSmall) w.in-Some.is c.pass.ensures.small))),
+                (All-push IsSmall c.loop-at.rows.items w.in-Some.row c.loop-at.invariant.3
+                (subst (λ o. IfSome o IsSmall) w.in-Some.is c.pass.ensures.small))),
             c.pass.ensures.leaf c.loop-at.invariant.4,
           )
       | in_default w ↦
