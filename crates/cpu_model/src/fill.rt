@@ -10,8 +10,8 @@ ghost use Rattle.cpu_model.specs.Filled.{rows_of_step, Fills};
 use fault_codes::Stage;
 use made_rows::NewRow;
 use sysregs::fields::{asid, vmid};
-use tagged_tlb::{Key, Kind, Made, Row};
-use trails::{Item, Trail};
+use tagged_tlb::{Key, Kind, LentRow, Made};
+use trails::Item;
 use translate::InForce;
 use walk_cache::Caches;
 
@@ -61,26 +61,14 @@ fn behind(items: &[Item], start: usize) -> &[Item]
     }
 }
 
-/// A trail of these items.
-fn trail_of(items: &[Item]) -> Trail
-    requires { length items.now ≤ most_items }
-    ensures { result ≡ items.now }
-{
-    let mut trail = Trail::none();
-    for &item in items {
-        trail.push(item);
-    }
-    trail
-}
-
 /// The row of a step with its number among them.
-fn row_of(source: &Source, new: &NewRow, order: u32) -> Row
+fn row_of<'a>(source: &Source<'a>, new: &NewRow, order: u32) -> LentRow<'a>
     requires { length source.now.trail.now ≤ most_items }
     ensures { result ≡ record (row_from record { regs = source.now.force.now; step = source.now.step } source.now.trail.now new.now)
         { made = made_in source.now.step order } }
 {
-    Row {
-        trail: trail_of(behind(before(source.trail, new.end), new.start)),
+    LentRow {
+        trail: behind(before(source.trail, new.end), new.start),
         tag: new.tag,
         key: key_for(source.force, new.kind),
         region: new.region,
@@ -110,7 +98,8 @@ pub fn add_all(caches: &mut Caches, source: &Source, rows: &[NewRow]) -> u32
 {
     let mut evicted = 0;
     for (order, new) in rows.iter().enumerate() {
-        evicted += count(caches.add(row_of(source, new, order as u32)));
+        let row = row_of(source, new, order as u32);
+        evicted += count(caches.add(&row));
     }
     evicted
 }

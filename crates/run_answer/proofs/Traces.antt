@@ -8,7 +8,6 @@ use Rattle.dump_file.specs.Filled.{IsFilled}
 use Rattle.dump_file.specs.Opening.{IsOfSize}
 use Rattle.trace_lang.specs.declared.refusals.TraceRefusal.{TraceRefusal}
 use Rattle.trace_lang.specs.Traces.{Parts}
-use Rattle.trace_lang.specs.Limits.{IsBuilt}
 use Rattle.trace_lang.specs.Lines.{trace_of}
 use Rattle.run_answer.specs.Run.{IsTraceOf, IsWhole, FailsBy}
 use Rattle.statuses.specs.Stops.{AsTrace, reason, IsRefusedBy}
@@ -29,10 +28,10 @@ all_of : (bytes all : List ℕ) (room : ℕ) → length all < room → bytes ≡
 all_of bytes all room h e = e ∙ take_all room all (omega arith)
 
 module _ (size room : ℕ) (bytes : List ℕ) (s : size < room) where
-  pub is_trace : (h : Holding) (t : Parts) → IsOfSize h size → IsWhole h room bytes → trace_of bytes ≡ Ok t → IsBuilt t.header → IsTraceOf h t
-  is_trace Untold t o w e b = b
-  is_trace Absent t o w e b = o
-  is_trace (Bytes all) t o w e b = ap trace_of (sym (all_of bytes all room (subst (λ z. z < room) o s) w)) ∙ e
+  pub is_trace : (h : Holding) (t : Parts) → IsOfSize h size → IsWhole h room bytes → trace_of bytes ≡ Ok t → IsTraceOf h t
+  is_trace Untold t o w e = tt
+  is_trace Absent t o w e = o
+  is_trace (Bytes all) t o w e = ap trace_of (sym (all_of bytes all room (subst (λ z. z < room) o s) w)) ∙ e
 
   pub is_refused : (h : Holding) (why : TraceRefusal) → IsOfSize h size → IsWhole h room bytes → trace_of bytes ≡ Err why
       → IsRefusedBy h AsTrace (Trace why)

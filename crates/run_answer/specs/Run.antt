@@ -3,7 +3,6 @@ use Rattle.std.specs.Prelude.{ℕ, ◌≡◌, ◌≤◌, ◌^◌, List, [], leng
 use Rattle.bitwords.specs.Causes.{Rose}
 use Rattle.dump_file.specs.Held.{Holding, Untold, Absent, Bytes}
 use Rattle.trace_lang.specs.Traces.{Parts, IsTrace}
-use Rattle.trace_lang.specs.Limits.{IsBuilt}
 use Rattle.trace_lang.specs.Lines.{trace_of}
 use Rattle.machine_spec.specs.Machine.{run_of}
 use Rattle.machine_laws.specs.Promise.{KeepsPromise}
@@ -14,7 +13,7 @@ use Rattle.statuses.specs.declared.status.Status.TheVariants.{ReadFault, NoMemor
 
 -- the trace that a file is; of one that isn't told, some trace
 abbrev pub IsTraceOf : (held : Holding) (trace : Parts) → Type 0
-IsTraceOf Untold t = IsBuilt t.header
+IsTraceOf Untold t = Unit {0}
 IsTraceOf Absent t = ⊥
 IsTraceOf (Bytes bytes) t = trace_of bytes ≡ Ok t
 

@@ -3,7 +3,6 @@ ghost use Rattle.std.specs.Prelude.{◌≡◌, ◌≤◌, ◌<◌, ◌+◌, ℕ,
 ghost use Rattle.bitwords.specs.Causes.{HasCause};
 ghost use Rattle.dump_file.specs.Held.{InTurns, GaveWhole, reading_of};
 ghost use Rattle.dump_file.specs.Opening.{IsOfSize};
-ghost use Rattle.trace_lang.specs.Limits.{IsBuilt};
 ghost use Rattle.trace_lang.specs.declared.parsing.TheConstants.{MOST_BYTES};
 ghost use Rattle.explain_text.specs.Written.{Wrote};
 ghost use Rattle.trace_lang.specs.Lines.{trace_of};
@@ -95,7 +94,6 @@ fn trace_in<F: Files>(alloc: Global, name: &str, size: u64, files: &mut F) -> Re
     requires { IsOfSize (F.holds files.old name.now) size }
     ensures same { F.holds files.new ≡ F.holds files.old }
     ensures trace { IfOk result (IsTraceOf (F.holds files.old name.now)) }
-    ensures built { IfOk result (λ t. IsBuilt t.header) }
     ensures came { IfOk result (λ t. GaveWhole (F.reads name.now) files.new (λ bytes. trace_of bytes ≡ Ok t)) }
     ensures refused { IfErr result (IsOfWhatCame Form.AsTrace (F.reads name.now) files.new) }
     ensures error { IfErr result (Stops (reading_of F.holds F.faults F.missing files.old files.new) record { form = Form.AsTrace; name = name.now }) }
@@ -117,7 +115,6 @@ fn trace_in<F: Files>(alloc: Global, name: &str, size: u64, files: &mut F) -> Re
 pub fn trace<F: Files>(alloc: Global, name: &str, files: &mut F) -> Result<Trace, Status>
     ensures same { F.holds files.new ≡ F.holds files.old }
     ensures trace { IfOk result (IsTraceOf (F.holds files.old name.now)) }
-    ensures built { IfOk result (λ t. IsBuilt t.header) }
     ensures came { IfOk result (λ t. GaveWhole (F.reads name.now) files.new (λ bytes. trace_of bytes ≡ Ok t)) }
     ensures refused { IfErr result (IsOfWhatCame Form.AsTrace (F.reads name.now) files.new) }
     ensures error { IfErr result (Stops (reading_of F.holds F.faults F.missing files.old files.new) record { form = Form.AsTrace; name = name.now }) }
@@ -133,7 +130,6 @@ pub fn trace<F: Files>(alloc: Global, name: &str, files: &mut F) -> Result<Trace
 
 /// The machine before the first event of a trace.
 pub fn ready(alloc: Global, trace: Trace) -> Result<Runner, NoMemory>
-    requires { IsBuilt trace.header }
     ensures report { IfOk result (λ m. IsReport trace (run_text m)) }
     ensures printable { IfOk result (λ m. IsReady m) }
 {

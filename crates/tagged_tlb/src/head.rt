@@ -3,7 +3,7 @@ ghost use Rattle.std.specs.Prelude.{◌≡◌};
 ghost use Rattle.sysregs.specs.Equality.{same_fields};
 ghost use Rattle.tagged_tlb.specs.Slots.{head_with, key_of_head, is_keyed, is_hit};
 
-use crate::row::{Key, Kind, Made, Row, Sought};
+use crate::row::{Key, Kind, LentRow, Made, Sought};
 use fault_codes::Stage;
 use sysregs::{Config, same_config};
 use tlbi_ops::Tag;
@@ -22,7 +22,7 @@ pub struct Head {
 }
 
 /// The head of a row whose trail lies in a slot.
-pub(crate) fn head_of(row: &Row, slot: usize) -> Head
+pub(crate) fn head_of(row: &LentRow, slot: usize) -> Head
     ensures { result ≡ head_with row.now slot }
 {
     Head {
@@ -45,7 +45,7 @@ fn same_fields(a: &Config, b: &Config) -> bool
 }
 
 /// Whether the row of a head would serve the same as another.
-pub(crate) fn has_key(row: &Row, head: &Head) -> bool
+pub(crate) fn has_key(row: &LentRow, head: &Head) -> bool
     ensures { result ≡ key_of_head row.now head.now }
 {
     row.kind == head.kind

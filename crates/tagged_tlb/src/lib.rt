@@ -11,5 +11,5 @@ mod tlb;
 
 pub use chooser::Chooser;
 pub use found::{Found, Seen, Slot};
-pub use row::{Key, Kind, Made, Row, Sought};
+pub use row::{Key, Kind, LentRow, Made, Row, Sought};
 pub use tlb::Tlb;

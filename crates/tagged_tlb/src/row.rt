@@ -1,7 +1,8 @@
 use fault_codes::Stage;
+use std::marker::Model;
 use sysregs::Config;
 use tlbi_ops::Tag;
-use trails::Trail;
+use trails::{Item, Trail};
 use walk_spec::Region;
 
 /// What a row keeps: a leaf of stage 1 combined with the stage 2 of its output, a table of stage 1, a leaf of stage 2, or a
@@ -40,6 +41,38 @@ pub struct Row {
     pub made: Made,
     pub kind: Kind,
     pub global: bool,
+}
+
+/// A row whose trail is lent: what comes into a cache, which copies the items.
+#[derive(Drop)]
+pub struct LentRow<'a> {
+    pub trail: &'a [Item],
+    pub tag: Tag,
+    pub key: Key,
+    pub region: Region,
+    pub made: Made,
+    pub kind: Kind,
+    pub global: bool,
+}
+
+impl<'a> Model for LentRow<'a> {
+    ghost use Rattle.std.specs.Prelude.{◌≤◌, length};
+    ghost use Rattle.trails.specs.Lengths.{most_items};
+    ghost use Rattle.tagged_tlb.specs.declared.row.Row.{Row};
+
+    ghost Value = { Row };
+
+    ghost view = { λ r. record {
+      trail = r.trail.now;
+      tag = r.tag;
+      key = r.key;
+      region = r.region;
+      made = r.made;
+      kind = r.kind;
+      global = r.global;
+    } };
+
+    ghost invariant = { λ r. length r.trail.now ≤ most_items };
 }
 
 /// What a search looks for: the rows of a stage that serve an address in bytes under a key. A row of stage 1 serves by its ASID

@@ -3,6 +3,7 @@ ghost use Rattle.std.specs.Prelude.{◌≡◌, ℕ, ◌+◌, ◌<◌, ◌≤◌,
 ghost use Rattle.std.specs.Prelude.{get_or, filter, IfOk, false, true, vec_len, vec_capacity};
 ghost use Rattle.std.specs.List.{remove, list_any};
 ghost use Rattle.tagged_tlb.specs.declared.row.Row as declared_row;
+ghost use Rattle.trails.specs.Lengths.{most_items};
 ghost use Rattle.tlbi_ops.specs.Covers.{covers};
 ghost use Rattle.tagged_tlb.specs.Sets.{victim, same_key};
 ghost use Rattle.tagged_tlb.specs.Tied.{IsAt};
@@ -13,7 +14,7 @@ ghost use Rattle.tagged_tlb.specs.Stands.{is_made};
 use crate::chooser::Chooser;
 use crate::found::{Found, first_way, look, way_of};
 use crate::head::{Head, has_key, head_of};
-use crate::row::{Made, Row, Sought};
+use crate::row::{LentRow, Made, Sought};
 use std::alloc::{AllocError, Global};
 use std::marker::Model;
 use tlbi_ops::{Inval, covers};
@@ -43,7 +44,7 @@ impl<const WAYS: usize> Model for Set<WAYS> {
 }
 
 /// Whether one of the rows would serve the same as another.
-fn some_has_key(heads: &[Head], row: &Row) -> bool
+fn some_has_key(heads: &[Head], row: &LentRow) -> bool
     ensures { result ≡ list_any (key_of_head row.now) heads.now }
 {
     for head in heads {
@@ -65,6 +66,27 @@ fn give_back(heads: &[Head], free: &mut Vec<usize>, inval: &Inval)
             free.push_reserved(head.slot);
         }
     }
+}
+
+/// Writes items where an earlier trail stood.
+fn copy_items(items: &[Item], trail: &mut Trail)
+    requires { length items.now ≤ most_items }
+    ensures { trail.new ≡ items.now }
+{
+    trail.cut(0);
+    for &item in items {
+        trail.push(item);
+    }
+}
+
+/// A trail of these items.
+fn trail_of(items: &[Item]) -> Trail
+    requires { length items.now ≤ most_items }
+    ensures { result ≡ items.now }
+{
+    let mut trail = Trail::none();
+    copy_items(items, &mut trail);
+    trail
 }
 
 impl<const WAYS: usize> Set<WAYS> {
@@ -91,7 +113,7 @@ impl<const WAYS: usize> Set<WAYS> {
     }
 
     /// Whether a row would serve the same as another.
-    pub fn has(&self, row: &Row) -> bool
+    pub fn has(&self, row: &LentRow) -> bool
         ensures { result ≡ list_any (same_key row.now) self.now }
     {
         some_has_key(self.heads.as_slice(), row)
@@ -147,38 +169,38 @@ impl<const WAYS: usize> Set<WAYS> {
     }
 
     /// A row goes last, in the place of another, whose slot it takes.
-    fn replace(&mut self, at: usize, row: Row)
+    fn replace(&mut self, at: usize, row: &LentRow)
         requires { at < length self.old }
-        ensures { self.new ≡ remove self.old at ++ row ∷ [] }
+        ensures { self.new ≡ remove self.old at ++ row.now ∷ [] }
     {
         let old = self.heads.remove(at);
-        self.heads.push_reserved(head_of(&row, old.slot));
-        self.trails[old.slot] = row.trail;
+        self.heads.push_reserved(head_of(row, old.slot));
+        copy_items(row.trail, &mut self.trails[old.slot]);
     }
 
     /// A row goes last, into a slot that was in use before or into a new one.
-    fn append(&mut self, row: Row)
+    fn append(&mut self, row: &LentRow)
         requires { length self.old < WAYS }
-        ensures { self.new ≡ self.old ++ row ∷ [] }
+        ensures { self.new ≡ self.old ++ row.now ∷ [] }
     {
         let spare = self.free.len();
         if spare == 0 {
-            self.heads.push_reserved(head_of(&row, self.trails.len()));
-            self.trails.push_reserved(row.trail);
+            self.heads.push_reserved(head_of(row, self.trails.len()));
+            self.trails.push_reserved(trail_of(row.trail));
         } else {
             let slot = self.free.remove(spare - 1);
-            self.heads.push_reserved(head_of(&row, slot));
-            self.trails[slot] = row.trail;
+            self.heads.push_reserved(head_of(row, slot));
+            copy_items(row.trail, &mut self.trails[slot]);
         }
     }
 
     /// A row goes last; a full set loses one first, and says so.
-    pub fn fill(&mut self, row: Row, by: &mut Chooser) -> bool
+    pub fn fill(&mut self, row: &LentRow, by: &mut Chooser) -> bool
         requires { 0 < WAYS }
-        ensures room { length self.old < WAYS → (self.new ≡ self.old ++ row ∷ []) × (result ≡ false) × (by.new ≡ by.old) }
+        ensures room { length self.old < WAYS → (self.new ≡ self.old ++ row.now ∷ []) × (result ≡ false) × (by.new ≡ by.old) }
         ensures full { WAYS ≤ length self.old → (core n : ℕ) → IsAt core n by.old →
-            (self.new ≡ remove self.old (victim by.old.policy core n WAYS) ++ row ∷ []) × (result ≡ true) × IsAt core (n + 1) by.new }
-        ensures filled { IsFilled self.old row self.new }
+            (self.new ≡ remove self.old (victim by.old.policy core n WAYS) ++ row.now ∷ []) × (result ≡ true) × IsAt core (n + 1) by.new }
+        ensures filled { IsFilled self.old row.now self.new }
         ensures policy { by.new.policy ≡ by.old.policy }
     {
         let full = self.len() == WAYS;

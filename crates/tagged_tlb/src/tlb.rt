@@ -16,7 +16,7 @@ ghost use Rattle.tagged_tlb.specs.Classes.{AreMarked, AreEmpty};
 
 use crate::chooser::Chooser;
 use crate::found::{Found, Seen, Slot};
-use crate::row::{Made, Row, Sought};
+use crate::row::{LentRow, Made, Sought};
 use crate::set::Set;
 use crate::stages::{Stages, may_take, with_stage};
 use std::alloc::{AllocError, Global};
@@ -181,25 +181,23 @@ impl<const SETS: usize, const WAYS: usize> Tlb<SETS, WAYS> {
     }
 
     /// A row of a class below 64 is added where none would serve the same. Says whether a full set lost one.
-    pub fn add(&mut self, row: Row, by: &mut Chooser) -> bool
+    pub fn add(&mut self, row: &LentRow, by: &mut Chooser) -> bool
         requires sets { 0 < SETS }
         requires ways { 0 < WAYS }
-        requires class { row.region.class < 64 }
+        requires class { row.now.region.class < 64 }
         ensures added { (header : Header) → (core : ℕ) → (l : Cache) → header.policy ≡ by.old.policy →
-            shape_of header.size row.kind ≡ shape SETS WAYS → IsAt core l.evictions by.old → IsTied row.kind SETS l.rows self.old →
-            IsAdded row.kind SETS core l (added header core l row) result by.new self.new }
+            shape_of header.size row.now.kind ≡ shape SETS WAYS → IsAt core l.evictions by.old → IsTied row.now.kind SETS l.rows self.old →
+            IsAdded row.now.kind SETS core l (added header core l row.now) result by.new self.new }
         ensures policy { by.new.policy ≡ by.old.policy }
     {
         let at = (row.region.start % SETS as u64) as usize;
-        let class = row.region.class;
-        let stage = row.tag.stage;
         let set = &mut self.sets[at];
-        if set.has(&row) {
+        if set.has(row) {
             return false;
         }
         let lost = set.fill(row, by);
-        self.classes |= 1 << class;
-        self.stages = with_stage(self.stages, stage);
+        self.classes |= 1 << row.region.class;
+        self.stages = with_stage(self.stages, row.tag.stage);
         lost
     }
 

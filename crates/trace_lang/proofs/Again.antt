@@ -1,6 +1,6 @@
 -- The canonical text of a trace is read as that trace.
 use Rattle.std.proofs.Common.{◌≡◌, ℕ, ◌+◌, ◌*◌, ◌<◌, ◌≤◌, ◌^◌, true, false, not, ◌&&◌, List, [], ◌∷◌, ◌++◌, length}
-use Rattle.std.proofs.Common.{flat_map, Result, Ok, Err, refl, sym, ◌∙◌, ap, arith, subst, codes, append_assoc, append-nil, length-append}
+use Rattle.std.proofs.Common.{flat_map, Result, Ok, Err, refl, sym, ◌∙◌, ap, arith, codes, append_assoc, append-nil, length-append}
 use Rattle.std.specs.Prelude.{decimal, nat_lt, nat_le, bytes_eq, take, All}
 use Rattle.std.specs.List.{slice_split, list_any}
 use Rattle.std.proofs.lemmas.Bool.{and_from, cond-false, not_from_false, lt-leb, le-leb, le-ltb}
@@ -13,8 +13,10 @@ use Rattle.trace_lang.specs.declared.refusals.Phase.TheVariants.{Ranges, Policy 
 use Rattle.trace_lang.specs.declared.refusals.LineRefusal.{LineRefusal}
 use Rattle.trace_lang.specs.declared.refusals.LineRefusal.TheVariants.{TooMany}
 use Rattle.trace_lang.specs.declared.refusals.TraceRefusal.TheVariants as refusal
-use Rattle.trace_lang.specs.declared.header.Size.TheVariants.{NoRows}
-use Rattle.trace_lang.specs.declared.header.Policy.TheVariants.{Fifo}
+use Rattle.trace_lang.specs.declared.header.Size.{Size}
+use Rattle.trace_lang.specs.declared.header.Size.TheVariants.{NoRows, Small, Medium, Large}
+use Rattle.trace_lang.specs.declared.header.Policy.{Policy}
+use Rattle.trace_lang.specs.declared.header.Policy.TheVariants.{Lru, Fifo, Random}
 use Rattle.phys_mem.specs.Memory.{is_aligned}
 use Rattle.phys_mem.specs.Ranges.{is_range, share_byte, bytes_of}
 use Rattle.trace_lang.specs.Traces.{Header, Parts, parts_of, IsTrace, RangeFits, RangesFitBehind, most_cores, most_ranges, most_events, most_memory}
@@ -22,8 +24,8 @@ use Rattle.texts.specs.Results.{◌>>=◌}
 use Rattle.trace_lang.specs.Words.{is_end, in_range, number_or, no_word_at}
 use Rattle.trace_lang.specs.Events.{event_of}
 use Rattle.trace_lang.specs.Lines.{State, no_lines, with_event, is_base, is_size, words_met, range_met, body_met, lines_met, then_ended, most_text, trace_of}
-use Rattle.trace_lang.specs.Limits.{IsBuilt, HasNoPrefetch, HasWords}
-use Rattle.trace_lang.specs.Canonical.{line_of, range_words, event_words, text_of}
+use Rattle.trace_lang.specs.Limits.{HasStart, HasWords}
+use Rattle.trace_lang.specs.Canonical.{line_of, range_words, size_text, policy_words, event_words, text_of}
 use Rattle.trace_lang.proofs.Spaced.{AreWords, line_room, next_line}
 use Rattle.trace_lang.proofs.Numerals.{hex_word, decimal_word}
 use Rattle.trace_lang.proofs.Reread.{go, within, hex_at, decimal_at, IsBack, event_back, event_are_words, few_words, begins}
@@ -164,11 +166,11 @@ event_lines h done (e ∷ events) m l b = (
 abbrev cores_words : (cores : ℕ) → List (List ℕ)
 cores_words c = codes "cores" ∷ decimal c ∷ []
 
-abbrev caches_words : List (List ℕ)
-caches_words = codes "caches" ∷ codes "none" ∷ []
+abbrev caches_words : (size : Size) → List (List ℕ)
+caches_words z = codes "caches" ∷ size_text z ∷ []
 
-abbrev policy_line : List (List ℕ)
-policy_line = codes "policy" ∷ codes "fifo" ∷ []
+abbrev policy_line : (policy : Policy) → List (List ℕ)
+policy_line p = codes "policy" ∷ policy_words p
 
 abbrev end_words : List (List ℕ)
 end_words = codes "end" ∷ []
@@ -180,11 +182,41 @@ cores_back c l m =
     ∙ go (in_range 2 (nat_le 1 c && nat_le c most_cores) c) c whole
     (within 2 (nat_le 1 c && nat_le c most_cores) c (and_from (nat_le 1 c) (nat_le c most_cores) (le-leb 1 c l) (le-leb c most_cores m)))
 
-caches_back : (c : ℕ) (rs : List (ℕ × ℕ)) → words_met (in_ranges c rs) caches_words ≡ Ok (state_in PolicyDue (header c rs) [])
-caches_back c rs = refl
+abbrev sized : (cores : ℕ) (ranges : List (ℕ × ℕ)) (size : Size) → Header
+sized c rs z = record (header c rs) { size = z }
 
-policy_back : (h : Header) → h.policy ≡ Fifo → words_met (state_in PolicyDue h []) policy_line ≡ Ok (in_events (record h { policy = Fifo }) [])
-policy_back h e = refl
+abbrev headed : (cores : ℕ) (ranges : List (ℕ × ℕ)) (size : Size) (policy : Policy) → Header
+headed c rs z p = record (sized c rs z) { policy = p }
+
+caches_back : (c : ℕ) (rs : List (ℕ × ℕ)) (z : Size) → words_met (in_ranges c rs) (caches_words z) ≡ Ok (state_in PolicyDue (sized c rs z) [])
+caches_back c rs NoRows = refl
+caches_back c rs Small = refl
+caches_back c rs Medium = refl
+caches_back c rs Large = refl
+
+caches_are : (z : Size) → AreWords (caches_words z)
+caches_are NoRows = (refl, (refl, tt))
+caches_are Small = (refl, (refl, tt))
+caches_are Medium = (refl, (refl, tt))
+caches_are Large = (refl, (refl, tt))
+
+policy_back : (c : ℕ) (rs : List (ℕ × ℕ)) (z : Size) (p : Policy) → HasStart p
+    → words_met (state_in PolicyDue (sized c rs z) []) (policy_line p) ≡ Ok (in_events (headed c rs z p) [])
+policy_back c rs z Lru l = refl
+policy_back c rs z Fifo l = refl
+policy_back c rs z (Random start) l =
+    let whole : ℕ → Result Policy LineRefusal = λ n. no_word_at (policy_line (Random start)) 4 >>= (λ _. Ok (Random n)) in
+    ap (λ r. r >>= (λ p. Ok (in_events (headed c rs z p) []))) (go (number_or 3 (number_of (hex_text start))) start whole (hex_at 3 start l))
+
+policy_are : (p : Policy) → HasStart p → AreWords (policy_line p)
+policy_are Lru l = (refl, (refl, tt))
+policy_are Fifo l = (refl, (refl, tt))
+policy_are (Random start) l = (refl, (refl, (hex_word start l, tt)))
+
+policy_few : (p : Policy) → length (policy_line p) ≤ 6
+policy_few Lru = omega arith
+policy_few Fifo = omega arith
+policy_few (Random start) = omega arith
 
 end_back : (h : Header) (es : List Event) → words_met (in_events h es) end_words ≡ Ok (state_in Ended h es)
 end_back h es = refl
@@ -193,33 +225,31 @@ end_back h es = refl
 abbrev events_text : (events : List Event) → List ℕ
 events_text es = lines_of event_words es ++ codes "end\n"
 
-abbrev caches_text : (events : List Event) → List ℕ
-caches_text es = line_of caches_words ++ (line_of policy_line ++ events_text es)
+abbrev caches_text : (size : Size) (policy : Policy) (events : List Event) → List ℕ
+caches_text z p es = line_of (caches_words z) ++ (line_of (policy_line p) ++ events_text es)
 
-abbrev whole_text : (cores : ℕ) (ranges : List (ℕ × ℕ)) (events : List Event) → List ℕ
-whole_text c rs es = line_of (cores_words c) ++ (lines_of range_words rs ++ caches_text es)
+abbrev whole_text : (cores : ℕ) (ranges : List (ℕ × ℕ)) (size : Size) (policy : Policy) (events : List Event) → List ℕ
+whole_text c rs z p es = line_of (cores_words c) ++ (lines_of range_words rs ++ caches_text z p es)
 
 regroup : (a r b p t : List ℕ) → (a ++ (r ++ (b ++ p))) ++ t ≡ a ++ (r ++ (b ++ (p ++ t)))
 regroup a r b p t = append_assoc a (r ++ (b ++ p)) t ∙ ap (λ l. a ++ l) (append_assoc r (b ++ p) t ∙ ap (λ l. r ++ l) (append_assoc b p t))
 
-abbrev built : (cores : ℕ) (ranges : List (ℕ × ℕ)) (events : List Event) → Parts
-built c rs es = parts_of c rs NoRows Fifo es
-
-text_is : (c : ℕ) (rs : List (ℕ × ℕ)) (es : List Event) → text_of (built c rs es) ≡ whole_text c rs es
-text_is c rs es = regroup (line_of (cores_words c)) (lines_of range_words rs) (line_of caches_words) (line_of policy_line) (events_text es)
+text_is : (c : ℕ) (rs : List (ℕ × ℕ)) (z : Size) (p : Policy) (es : List Event) → text_of (parts_of c rs z p es) ≡ whole_text c rs z p es
+text_is c rs z p es = regroup (line_of (cores_words c)) (lines_of range_words rs) (line_of (caches_words z)) (line_of (policy_line p)) (events_text es)
 
 -- the lines of the header
-header_back : (c : ℕ) (rs : List (ℕ × ℕ)) (es : List Event) → 1 ≤ c → c ≤ most_cores → AreLines range_words (in_ranges c) [] rs →
-    lines_met no_lines 1 (slice_split is_end (whole_text c rs es)) ≡ lines_met (in_events (header c rs) []) (((2 + length rs) + 1) + 1)
+header_back : (c : ℕ) (rs : List (ℕ × ℕ)) (z : Size) (p : Policy) (es : List Event) → 1 ≤ c → c ≤ most_cores → HasStart p
+    → AreLines range_words (in_ranges c) [] rs →
+    lines_met no_lines 1 (slice_split is_end (whole_text c rs z p es)) ≡ lines_met (in_events (headed c rs z p) []) (((2 + length rs) + 1) + 1)
     (slice_split is_end (events_text es))
-header_back c rs es l m r =
-    next_line no_lines (in_ranges c []) 1 (cores_words c) (lines_of range_words rs ++ caches_text es) (refl, (decimal_word c m, tt)) (omega arith)
+header_back c rs z p es l m q r =
+    next_line no_lines (in_ranges c []) 1 (cores_words c) (lines_of range_words rs ++ caches_text z p es) (refl, (decimal_word c m, tt)) (omega arith)
     (cores_back c l m)
-    ∙ next_lines range_words (in_ranges c) [] rs 2 (caches_text es) r
-    ∙ next_line (in_ranges c rs) (state_in PolicyDue (header c rs) []) (2 + length rs) caches_words (line_of policy_line ++ events_text es) (refl, (refl, tt))
-    (omega arith) (caches_back c rs)
-    ∙ next_line (state_in PolicyDue (header c rs) []) (in_events (header c rs) []) ((2 + length rs) + 1) policy_line (events_text es) (refl, (refl, tt))
-    (omega arith) (policy_back (header c rs) refl)
+    ∙ next_lines range_words (in_ranges c) [] rs 2 (caches_text z p es) r
+    ∙ next_line (in_ranges c rs) (state_in PolicyDue (sized c rs z) []) (2 + length rs) (caches_words z) (line_of (policy_line p) ++ events_text es)
+    (caches_are z) (omega arith) (caches_back c rs z)
+    ∙ next_line (state_in PolicyDue (sized c rs z) []) (in_events (headed c rs z p) []) ((2 + length rs) + 1) (policy_line p) (events_text es)
+    (policy_are p q) (policy_few p) (policy_back c rs z p q)
 
 -- the lines of the events, and the end
 events_back : (h : Header) (es : List Event) (n : ℕ) → AreLines event_words (in_events h) [] es →
@@ -228,45 +258,40 @@ events_back h es n r =
     next_lines event_words (in_events h) [] es n (codes "end\n") r
     ∙ next_line (in_events h es) (state_in Ended h es) (n + length es) end_words [] (refl, tt) (omega arith) (end_back h es)
 
-text_room : (c : ℕ) (rs : List (ℕ × ℕ)) (es : List Event) → c ≤ most_cores → length rs ≤ most_ranges → length es ≤ most_events →
-    AreLines range_words (in_ranges c) [] rs →
-    AreLines event_words (in_events (header c rs)) [] es → length (whole_text c rs es) ≤ most_text
-text_room c rs es m few many r e =
-    let a = length-append (line_of (cores_words c)) (lines_of range_words rs ++ caches_text es) in
-    let b = length-append (lines_of range_words rs) (caches_text es) in
+text_room : (c : ℕ) (rs : List (ℕ × ℕ)) (z : Size) (p : Policy) (es : List Event) → c ≤ most_cores → length rs ≤ most_ranges
+    → length es ≤ most_events → HasStart p → AreLines range_words (in_ranges c) [] rs →
+    AreLines event_words (in_events (headed c rs z p)) [] es → length (whole_text c rs z p es) ≤ most_text
+text_room c rs z p es m few many q r e =
+    let a = length-append (line_of (cores_words c)) (lines_of range_words rs ++ caches_text z p es) in
+    let b = length-append (lines_of range_words rs) (caches_text z p es) in
+    let k = length-append (line_of (caches_words z)) (line_of (policy_line p) ++ events_text es) in
+    let n = length-append (line_of (policy_line p)) (events_text es) in
     let d = length-append (lines_of event_words es) (codes "end\n") in
     let f = line_room (cores_words c) (refl, (decimal_word c m, tt)) (omega arith) in
+    let u = line_room (caches_words z) (caches_are z) (omega arith) in
+    let v = line_room (policy_line p) (policy_are p q) (policy_few p) in
     let g = lines_room range_words (in_ranges c) [] rs r in
-    let i = lines_room event_words (in_events (header c rs)) [] es e in
-    omega (arith, a, b, d, f, g, i, few, many)
-
-built_back : (c : ℕ) (rs : List (ℕ × ℕ)) (es : List Event) → IsTrace (built c rs es) → All (IsBack (header c rs)) es →
-    trace_of (text_of (built c rs es)) ≡ Ok (built c rs es)
-built_back c rs es t b =
-    let few = t.count in
-    let many = t.events in
-    let r = range_lines c [] rs (omega (arith, few)) t.ranges in
-    let e = event_lines (header c rs) [] es t.cores (omega (arith, many)) b in
-    ap trace_of (text_is c rs es)
-    ∙ cond-false (nat_lt most_text (length (whole_text c rs es))) (Err (refusal.TooLarge (length (whole_text c rs es))))
-    (then_ended (lines_met no_lines 1 (slice_split is_end (whole_text c rs es))))
-    (le-ltb most_text (length (whole_text c rs es)) (text_room c rs es t.cores t.count t.events r e))
-    ∙ ap then_ended (header_back c rs es t.some_cores t.cores r ∙ events_back (header c rs) es (((2 + length rs) + 1) + 1) e)
+    let i = lines_room event_words (in_events (headed c rs z p)) [] es e in
+    omega (arith, a, b, k, n, d, f, u, v, g, i, few, many)
 
 -- the events of a trace
-all_back : (t : Parts) → IsTrace t → HasNoPrefetch t → All HasWords t.events → All (IsBack t.header) t.events
-all_back t h p w = λ k d l. record { fits = h.each k d l; words = w k d l; known = p k d l }
-
--- a trace is that of its cores, ranges and events
-is_built : (t : Parts) → IsBuilt t.header → t ≡ built t.header.cores t.header.ranges t.events
-is_built t b =
-    ap (λ z. parts_of t.header.cores t.header.ranges z t.header.policy t.events) b.size
-    ∙ ap (λ p. parts_of t.header.cores t.header.ranges NoRows p t.events) b.policy
+all_back : (t : Parts) → IsTrace t → All HasWords t.events → All (IsBack t.header) t.events
+all_back t h w = λ k d l. record { fits = h.each k d l; words = w k d l }
 
 -- what is printed is read
-pub text_back : (t : Parts) → IsTrace t → IsBuilt t.header → HasNoPrefetch t → All HasWords t.events → trace_of (text_of t) ≡ Ok t
-text_back t h b p w =
-    let e = is_built t b in
-    let whole : IsTrace (built t.header.cores t.header.ranges t.events) = subst IsTrace e h in
-    subst (λ u. trace_of (text_of u) ≡ Ok u) (sym e)
-    (built_back t.header.cores t.header.ranges t.events whole (all_back (built t.header.cores t.header.ranges t.events) whole p w))
+pub text_back : (t : Parts) → IsTrace t → HasStart t.header.policy → All HasWords t.events → trace_of (text_of t) ≡ Ok t
+text_back t h q w =
+    let c = t.header.cores in
+    let rs = t.header.ranges in
+    let z = t.header.size in
+    let p = t.header.policy in
+    let es = t.events in
+    let few = h.count in
+    let many = h.events in
+    let r = range_lines c [] rs (omega (arith, few)) h.ranges in
+    let e = event_lines (headed c rs z p) [] es h.cores (omega (arith, many)) (all_back t h w) in
+    ap trace_of (text_is c rs z p es)
+    ∙ cond-false (nat_lt most_text (length (whole_text c rs z p es))) (Err (refusal.TooLarge (length (whole_text c rs z p es))))
+    (then_ended (lines_met no_lines 1 (slice_split is_end (whole_text c rs z p es))))
+    (le-ltb most_text (length (whole_text c rs z p es)) (text_room c rs z p es h.cores h.count h.events q r e))
+    ∙ ap then_ended (header_back c rs z p es h.some_cores h.cores q r ∙ events_back (headed c rs z p) es (((2 + length rs) + 1) + 1) e)

@@ -10,6 +10,7 @@ use Rattle.sysregs.specs.declared.regs.Field.{Field}
 use Rattle.sysregs.specs.declared.regs.Reg.{Reg}
 use Rattle.sysregs.specs.Refused.{msr_refused_field}
 use Rattle.trails.specs.declared.event.Event.{Event}
+use Rattle.trails.specs.declared.outcome.Access.{Access}
 use Rattle.trails.specs.declared.event.Event.TheVariants.{Msr, Tlbi}
 use Rattle.trace_lang.specs.declared.refusals.Phase.{Phase}
 use Rattle.trace_lang.specs.declared.refusals.Phase.TheVariants.{Cores, Ranges, Policy as PolicyDue, Events, Ended}
@@ -24,10 +25,10 @@ use Rattle.trace_lang.specs.Traces.{Header, Parts, IsTrace, RangeFits, RangesFit
 use Rattle.trace_lang.specs.Traces.{may_issue, most_cores, most_ranges, most_events, most_memory}
 use Rattle.texts.specs.Results.{◌>>=◌}
 use Rattle.trace_lang.specs.Words.{in_range, number_at, name_at, no_word_at, named, words_of, is_text}
-use Rattle.trace_lang.specs.Events.{Verb, store, msr, settle, isb, tlbi, dsb, deliver, access, event_of, event_by, core_at, place_at}
-use Rattle.trace_lang.specs.Events.{operand_at, pan_at, supported_by, verbs, reg_names, op_names, origins, barriers}
+use Rattle.trace_lang.specs.Events.{Verb, store, msr, settle, isb, tlbi, dsb, deliver, access, prefetch, event_of, event_by, core_at, place_at}
+use Rattle.trace_lang.specs.Events.{operand_at, access_at, pan_at, supported_by, verbs, reg_names, op_names, origins, barriers}
 use Rattle.trace_lang.specs.Lines.{State, no_lines, with_header, with_event, cores_met, is_base, is_size, range_met, caches_met, policy_met, ranges_met}
-use Rattle.trace_lang.specs.Lines.{body_met, met, words_met, line_met, without_return, lines_met, refused_in, most_line, sizes, policies}
+use Rattle.trace_lang.specs.Lines.{body_met, met, words_met, line_met, without_return, lines_met, refused_in, most_line, sizes, policies, policy_by}
 use Rattle.trace_lang.specs.Limits.{KeepsLimits, KeepsLimitsIn}
 
 -- WHAT HOLDS OF EACH VALUE
@@ -83,6 +84,14 @@ pub supported : (P : Event → Type 0) (reg : Reg) (field : Option Field) (e : E
 supported P reg None e h = h refl
 supported P reg (Some f) e h = tt
 
+-- an access is read with PAN clear
+abbrev IsClear : Access → Type 0
+IsClear a = a.pan ≡ false
+
+access_clear : (ws : List (List ℕ)) → IfOk (access_at ws) IsClear
+access_clear ws =
+    then_any IsClear (name_at el_of ws 3) _ (λ el. then_any IsClear (name_at kind_of ws 4) _ (λ kind. then_any IsClear (number_at ws 5) _ (λ va. refl)))
+
 event_by_fits : (h : Header) (ws : List (List ℕ)) (c : ℕ) (verb : Verb) → c < h.cores → IfOk (event_by h ws c verb) (EventFits h)
 event_by_fits h ws c store l =
     then_with (PlaceFits h) (EventFits h) (place_at h ws) _ (place_fits h ws) (λ p q.
@@ -99,9 +108,9 @@ event_by_fits h ws c tlbi l =
     either (EventFits h) (may_issue from o.0) (Ok (Tlbi c from o.0 o.1 n)) (Err NotAtEl1) (λ m. (l, (m, q))) (λ _. tt))))
 event_by_fits h ws c dsb l = then_any (EventFits h) (name_at (named barriers) ws 3) _ (λ k. then_any (EventFits h) (no_word_at ws 4) _ (λ _. (l, tt)))
 event_by_fits h ws c deliver l = then_any (EventFits h) (no_word_at ws 3) _ (λ _. (l, tt))
-event_by_fits h ws c access l =
-    then_any (EventFits h) (name_at el_of ws 3) _ (λ el. then_any (EventFits h) (name_at kind_of ws 4) _ (λ kind.
-    then_any (EventFits h) (number_at ws 5) _ (λ va. then_any (EventFits h) (pan_at ws) _ (λ pan. (l, tt)))))
+event_by_fits h ws c access l = then_any (EventFits h) (access_at ws) _ (λ a. then_any (EventFits h) (pan_at ws) _ (λ pan. (l, tt)))
+event_by_fits h ws c prefetch l =
+    then_with IsClear (EventFits h) (access_at ws) _ (access_clear ws) (λ a q. then_any (EventFits h) (no_word_at ws 6) _ (λ _. (l, q)))
 
 event_fits : (h : Header) (ws : List (List ℕ)) → IfOk (event_of h ws) (EventFits h)
 event_fits h ws =
@@ -200,8 +209,8 @@ caches_keeps s ws t e =
 
 policy_keeps : (s : State) (ws : List (List ℕ)) → IsTrace s.trace → s.trace.events ≡ [] → IfOk (policy_met s ws) KeepsLimits
 policy_keeps s ws t e =
-    then_any KeepsLimits (name_at (named policies) ws 2) _ (λ p.
-    then_any KeepsLimits (no_word_at ws 3) (λ _. Ok (with_header s Events (record s.trace.header { policy = p }))) (λ _.
+    then_any KeepsLimits (name_at (named policies) ws 2) _ (λ word.
+    then_any KeepsLimits (policy_by ws word) (λ p. Ok (with_header s Events (record s.trace.header { policy = p }))) (λ p.
     without_events (record s.trace.header { policy = p }) s.trace.events e record {
       some_cores = t.some_cores;
       cores = t.cores;

@@ -1,8 +1,8 @@
 -- The words of an event are read as that event.
-use Rattle.std.proofs.Common.{◌≡◌, ℕ, ◌<◌, ◌≤◌, ◌^◌, Bool, true, false, ◌&&◌, cond, List, [], ◌∷◌}
+use Rattle.std.proofs.Common.{subst, ◌≡◌, ℕ, ◌<◌, ◌≤◌, ◌^◌, Bool, true, false, ◌&&◌, cond, List, [], ◌∷◌}
 use Rattle.std.proofs.Common.{length, Some, None, Result, Ok, Err, refl, sym, ◌∙◌, ap, arith, codes}
 use Rattle.std.specs.Prelude.{decimal, nat_lt, bytes_eq, take}
-use Rattle.std.proofs.lemmas.Bool.{true≢false, and_from, cond-true, cond-false, lt-ltb}
+use Rattle.std.proofs.lemmas.Bool.{and_from, cond-true, cond-false, lt-ltb}
 use Rattle.sysregs.specs.declared.regs.Reg.{Reg}
 use Rattle.sysregs.specs.declared.regs.Reg.TheVariants.{SctlrEl1}
 use Rattle.sysregs.specs.declared.regs.Op.{Op}
@@ -30,9 +30,9 @@ use Rattle.phys_mem.specs.Memory.{is_aligned}
 use Rattle.trace_lang.specs.Traces.{Header, EventFits, core_of, is_within, may_issue}
 use Rattle.texts.specs.Results.{◌>>=◌}
 use Rattle.trace_lang.specs.Words.{word_or, number_or, in_range, number_at, name_at, no_word_at, named}
-use Rattle.trace_lang.specs.Events.{Verb, store, msr, settle, isb, tlbi, dsb, deliver, access, event_of, event_by, core_at, place_at}
-use Rattle.trace_lang.specs.Events.{operand_at, pan_at, supported_by, allowed_from, reg_names, op_names, origins, barriers}
-use Rattle.trace_lang.specs.Limits.{is_prefetch, HasWords}
+use Rattle.trace_lang.specs.Events.{Verb, store, msr, settle, isb, tlbi, dsb, deliver, access, prefetch, event_of, event_by, core_at, place_at}
+use Rattle.trace_lang.specs.Events.{operand_at, access_at, pan_at, supported_by, allowed_from, reg_names, op_names, origins, barriers}
+use Rattle.trace_lang.specs.Limits.{HasWords}
 use Rattle.trace_lang.specs.Canonical.{op_word, origin_text, barrier_text, event_words}
 use Rattle.trace_lang.proofs.Spaced.{is_word, AreWords}
 use Rattle.trace_lang.proofs.Numerals.{hex_back, hex_word, decimal_back, decimal_word}
@@ -135,7 +135,6 @@ pan_back false v c el kind va = refl
 pub record IsBack (h : Header) (e : Event) : Type 0 where
   pub fits : EventFits h e
   pub words : HasWords e
-  pub known : is_prefetch e ≡ false
 
 -- the words behind the core's number
 by_back : (h : Header) (e : Event) (verb : Verb) → event_by h (event_words e) (core_of e) verb ≡ Ok e → (v : List ℕ) (ws : List (List ℕ)) →
@@ -179,17 +178,29 @@ dsb_back h c kind =
     let ws = event_words (Dsb c kind) in
     go (word_or 3 (named barriers (barrier_text kind))) kind (λ k. no_word_at ws 4 >>= (λ _. Ok (Dsb c k))) (ap (word_or 3) (barrier_back kind))
 
+access_at_back : (v c : List ℕ) (more : List (List ℕ)) (a : Access) → a.va < 2 ^ 64 →
+    access_at (v ∷ c ∷ el_text a.el ∷ kind_text a.kind ∷ hex_text a.va ∷ more) ≡ Ok (record a { pan = false })
+access_at_back v c more a l =
+    let ws = v ∷ c ∷ el_text a.el ∷ kind_text a.kind ∷ hex_text a.va ∷ more in
+    let whole : (el : El) (kind : Kind) (va : ℕ) → Result Access LineRefusal = λ el kind va. Ok record { va = va; el = el; kind = kind; pan = false } in
+    go (word_or 3 (el_of (el_text a.el))) a.el (λ el. name_at kind_of ws 4 >>= (λ kind. number_at ws 5 >>= whole el kind)) (ap (word_or 3) (el_back a.el))
+    ∙ go (word_or 4 (kind_of (kind_text a.kind))) a.kind (λ kind. number_at ws 5 >>= whole a.el kind) (ap (word_or 4) (kind_back a.kind))
+    ∙ go (number_or 5 (number_of (hex_text a.va))) a.va (whole a.el a.kind) (hex_at 5 a.va l)
+
 access_back : (h : Header) (c : ℕ) (a : Access) → a.va < 2 ^ 64 → event_by h (event_words (AccessOf c a)) c access ≡ Ok (AccessOf c a)
 access_back h c a l =
     let ws = event_words (AccessOf c a) in
-    let whole : (el : El) (kind : Kind) (va : ℕ) (pan : Bool) → Result Event LineRefusal =
-    λ el kind va pan. Ok (AccessOf c record { va = va; el = el; kind = kind; pan = pan }) in
-    go (word_or 3 (el_of (el_text a.el))) a.el (λ el. name_at kind_of ws 4 >>= (λ kind. number_at ws 5 >>= (λ va. pan_at ws >>= whole el kind va)))
-    (ap (word_or 3) (el_back a.el))
-    ∙ go (word_or 4 (kind_of (kind_text a.kind))) a.kind (λ kind. number_at ws 5 >>= (λ va. pan_at ws >>= whole a.el kind va))
-    (ap (word_or 4) (kind_back a.kind))
-    ∙ go (number_or 5 (number_of (hex_text a.va))) a.va (λ va. pan_at ws >>= whole a.el a.kind va) (hex_at 5 a.va l)
-    ∙ go (pan_at ws) a.pan (whole a.el a.kind a.va) (pan_back a.pan (codes "access") (decimal c) (el_text a.el) (kind_text a.kind) (hex_text a.va))
+    go (access_at ws) (record a { pan = false }) (λ x. pan_at ws >>= (λ pan. Ok (AccessOf c (record x { pan = pan }))))
+    (access_at_back (codes "access") (decimal c) (cond a.pan (codes "pan" ∷ []) []) a l)
+    ∙ go (pan_at ws) a.pan (λ pan. Ok (AccessOf c (record a { pan = pan })))
+    (pan_back a.pan (codes "access") (decimal c) (el_text a.el) (kind_text a.kind) (hex_text a.va))
+
+prefetch_back : (h : Header) (c : ℕ) (a : Access) → a.va < 2 ^ 64 → a.pan ≡ false → event_by h (event_words (Prefetch c a)) c prefetch ≡ Ok (Prefetch c a)
+prefetch_back h c a l p =
+    let ws : Bool → List (List ℕ) = λ pan. codes "prefetch" ∷ decimal c ∷ el_text a.el ∷ kind_text a.kind ∷ hex_text a.va ∷ cond pan (codes "pan" ∷ []) [] in
+    subst (λ pan. event_by h (ws pan) c prefetch ≡ Ok (Prefetch c (record a { pan = pan }))) (sym p)
+    (go (access_at (ws false)) (record a { pan = false }) (λ x. no_word_at (ws false) 6 >>= (λ _. Ok (Prefetch c x)))
+    (access_at_back (codes "prefetch") (decimal c) [] a l))
 
 pub event_back : (h : Header) (e : Event) → h.cores ≤ 8 → IsBack h e → event_of h (event_words e) ≡ Ok e
 event_back h (Store c p v) m b = by_back h (Store c p v) store (store_back h c p v b.words.0 b.words.1 b.fits.1.0 b.fits.1.1) _ _ refl b.fits.0 m
@@ -201,7 +212,7 @@ event_back h (Tlbi c from op shared n) m b =
 event_back h (Dsb c kind) m b = by_back h (Dsb c kind) dsb (dsb_back h c kind) _ _ refl b.fits.0 m
 event_back h (Deliver c) m b = by_back h (Deliver c) deliver refl _ _ refl b.fits.0 m
 event_back h (AccessOf c a) m b = by_back h (AccessOf c a) access (access_back h c a b.words) _ _ refl b.fits.0 m
-event_back h (Prefetch c a) m b = absurd (true≢false b.known)
+event_back h (Prefetch c a) m b = by_back h (Prefetch c a) prefetch (prefetch_back h c a b.words b.fits.1) _ _ refl b.fits.0 m
 
 operand_words : (b : Bool) (n : ℕ) → n < 2 ^ 64 → AreWords (cond b (hex_text n ∷ []) [])
 operand_words true n l = (hex_word n l, tt)

@@ -9,8 +9,9 @@ use Rattle.sysregs.specs.Names.{reg_text}
 use Rattle.sysregs.specs.Ops.{op_text, all_ops, form_of, has_operand}
 use Rattle.sysregs.specs.Refused.{msr_refused_field}
 use Rattle.permissions.specs.AccessNames.{el_of, kind_of}
+use Rattle.trails.specs.declared.outcome.Access.{Access}
 use Rattle.trails.specs.declared.event.Event.{Event}
-use Rattle.trails.specs.declared.event.Event.TheVariants.{Store, Msr, Settle, Isb, Tlbi, Dsb, Deliver, Access}
+use Rattle.trails.specs.declared.event.Event.TheVariants.{Store, Msr, Settle, Isb, Tlbi, Dsb, Deliver, Access as AccessOf, Prefetch}
 use Rattle.trails.specs.declared.event.Barrier.{Barrier}
 use Rattle.trails.specs.declared.event.Barrier.TheVariants.{Nsh, Ish, Sy}
 use Rattle.trails.specs.declared.event.Origin.{Origin}
@@ -32,11 +33,12 @@ pub data Verb : Type 0 where
   dsb : Verb
   deliver : Verb
   access : Verb
+  prefetch : Verb
 
 abbrev pub verbs : List (List ℕ × Verb)
 verbs =
     (codes "store", store) ∷ (codes "msr", msr) ∷ (codes "settle", settle) ∷ (codes "isb", isb) ∷ (codes "tlbi", tlbi)
-    ∷ (codes "dsb", dsb) ∷ (codes "deliver", deliver) ∷ (codes "access", access) ∷ []
+    ∷ (codes "dsb", dsb) ∷ (codes "deliver", deliver) ∷ (codes "access", access) ∷ (codes "prefetch", prefetch) ∷ []
 
 abbrev pub reg_names : List (List ℕ × Reg)
 reg_names =
@@ -74,6 +76,12 @@ abbrev pub operand_at : (op : Op) (words : List (List ℕ)) → Result ℕ LineR
 operand_at op ws =
     if has_operand (form_of op).scope then number_at ws 5 >>= (λ n. no_word_at ws 6 >>= (λ _. Ok n)) else no_word_at ws 5 >>= (λ _. Ok 0)
 
+-- an access that is made with PAN clear
+abbrev pub access_at : (words : List (List ℕ)) → Result Access LineRefusal
+access_at ws =
+    name_at el_of ws 3 >>= (λ el. name_at kind_of ws 4 >>= (λ kind. number_at ws 5 >>= (λ va.
+    Ok record { va = va; el = el; kind = kind; pan = false })))
+
 -- the word `pan`, which may stand behind an access
 abbrev pub pan_at : (words : List (List ℕ)) → Result Bool LineRefusal
 pan_at ws = if nat_lt (length ws) 6 then Ok false else name_at (named ((codes "pan", true) ∷ [])) ws 6 >>= (λ p. no_word_at ws 7 >>= (λ _. Ok p))
@@ -90,9 +98,8 @@ event_by h ws c tlbi =
     operand_at o.0 ws >>= (λ n. allowed_from from o.0 (Tlbi c from o.0 o.1 n))))
 event_by h ws c dsb = name_at (named barriers) ws 3 >>= (λ k. no_word_at ws 4 >>= (λ _. Ok (Dsb c k)))
 event_by h ws c deliver = no_word_at ws 3 >>= (λ _. Ok (Deliver c))
-event_by h ws c access =
-    name_at el_of ws 3 >>= (λ el. name_at kind_of ws 4 >>= (λ kind. number_at ws 5 >>= (λ va. pan_at ws >>= (λ pan.
-    Ok (Access c record { va = va; el = el; kind = kind; pan = pan })))))
+event_by h ws c access = access_at ws >>= (λ a. pan_at ws >>= (λ pan. Ok (AccessOf c (record a { pan = pan }))))
+event_by h ws c prefetch = access_at ws >>= (λ a. no_word_at ws 6 >>= (λ _. Ok (Prefetch c a)))
 
 -- the event of a line
 abbrev pub event_of : (header : Header) (words : List (List ℕ)) → Result Event LineRefusal

@@ -1,27 +1,18 @@
 -- What holds of a trace while its lines are read, and of one that its text gives back (this project's own rules).
-use Rattle.std.specs.Prelude.{◌≡◌, ◌<◌, ◌^◌, Bool, true, false, [], All}
+use Rattle.std.specs.Prelude.{◌≡◌, ◌<◌, ◌^◌, []}
 use Rattle.trails.specs.declared.event.Event.{Event}
 use Rattle.trails.specs.declared.event.Event.TheVariants.{Store, Msr, Tlbi, Access, Prefetch}
 use Rattle.trace_lang.specs.declared.refusals.Phase.{Phase}
 use Rattle.trace_lang.specs.declared.refusals.Phase.TheVariants.{Cores, Ranges, Policy as PolicyDue, Events, Ended}
-use Rattle.trace_lang.specs.declared.header.Size.TheVariants.{NoRows}
-use Rattle.trace_lang.specs.declared.header.Policy.TheVariants.{Fifo}
-use Rattle.trace_lang.specs.Traces.{Header, Parts, IsTrace}
+use Rattle.trace_lang.specs.declared.header.Policy.{Policy}
+use Rattle.trace_lang.specs.declared.header.Policy.TheVariants.{Random}
+use Rattle.trace_lang.specs.Traces.{Parts, IsTrace}
 use Rattle.trace_lang.specs.Lines.{State}
 
--- the sizes of caches and the policies that a text may name today: none, and fifo
-pub record IsBuilt (h : Header) : Type 0 where
-  pub size : h.size ≡ NoRows
-  pub policy : h.policy ≡ Fifo
-
--- whether an event is a prefetch, which no text may name today
-abbrev pub is_prefetch : (event : Event) → Bool
-is_prefetch (Prefetch core access) = true
-is_prefetch _ = false
-
--- no event of a trace is one
-abbrev pub HasNoPrefetch : (t : Parts) → Type 0
-HasNoPrefetch t = All (λ e. is_prefetch e ≡ false) t.events
+-- the draws of a policy begin with a word of 64 bits
+abbrev pub HasStart : (policy : Policy) → Type 0
+HasStart (Random start) = start < 2 ^ 64
+HasStart _ = Unit {0}
 
 -- the addresses, values and operands of an event are words of 64 bits
 abbrev pub HasWords : (event : Event) → Type 0

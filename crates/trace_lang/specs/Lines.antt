@@ -4,9 +4,9 @@ use Rattle.std.specs.Prelude.{bytes_eq, codes, if◌then◌else◌, Result, Ok, 
 use Rattle.std.specs.List.{list_all, list_any, slice_split}
 use Rattle.trails.specs.declared.event.Event.{Event}
 use Rattle.trace_lang.specs.declared.header.Size.{Size}
-use Rattle.trace_lang.specs.declared.header.Size.TheVariants.{NoRows}
+use Rattle.trace_lang.specs.declared.header.Size.TheVariants.{NoRows, Small, Medium, Large}
 use Rattle.trace_lang.specs.declared.header.Policy.{Policy}
-use Rattle.trace_lang.specs.declared.header.Policy.TheVariants.{Fifo}
+use Rattle.trace_lang.specs.declared.header.Policy.TheVariants.{Lru, Fifo, Random}
 use Rattle.trace_lang.specs.declared.refusals.Phase.{Phase}
 use Rattle.trace_lang.specs.declared.refusals.Phase.TheVariants.{Cores, Ranges, Policy as PolicyDue, Events, Ended}
 use Rattle.trace_lang.specs.declared.refusals.LineRefusal.{LineRefusal}
@@ -55,19 +55,31 @@ range_met s ws =
     number_at ws 3 >>= (λ n. in_range 3 (is_size h.ranges b n) n >>= (λ n. no_word_at ws 4 >>= (λ _.
     in_range 2 (not (list_any (share_byte (b, n)) h.ranges)) b >>= (λ _. Ok (with_header s Ranges (record h { ranges = h.ranges ++ (b, n) ∷ [] }))))))))
 
--- the sizes of the caches that may be named
+-- the words for the sizes of the caches
 abbrev pub sizes : List (List ℕ × Size)
-sizes = (codes "none", NoRows) ∷ []
+sizes = (codes "none", NoRows) ∷ (codes "small", Small) ∷ (codes "medium", Medium) ∷ (codes "large", Large) ∷ []
 
 abbrev pub caches_met : (state : State) (words : List (List ℕ)) → Result State LineRefusal
 caches_met s ws = name_at (named sizes) ws 2 >>= (λ z. no_word_at ws 3 >>= (λ _. Ok (with_header s PolicyDue (record s.trace.header { size = z }))))
 
--- the policies that may be named
-abbrev pub policies : List (List ℕ × Policy)
-policies = (codes "fifo", Fifo) ∷ []
+-- the words for a policy
+pub data PolicyWord : Type 0 where
+  lru : PolicyWord
+  fifo : PolicyWord
+  random : PolicyWord
+
+abbrev pub policies : List (List ℕ × PolicyWord)
+policies = (codes "lru", lru) ∷ (codes "fifo", fifo) ∷ (codes "random", random) ∷ []
+
+-- the policy of a line with such a word: behind `random` stands the number with which the draws begin
+abbrev pub policy_by : (words : List (List ℕ)) (word : PolicyWord) → Result Policy LineRefusal
+policy_by ws lru = no_word_at ws 3 >>= (λ _. Ok Lru)
+policy_by ws fifo = no_word_at ws 3 >>= (λ _. Ok Fifo)
+policy_by ws random = number_at ws 3 >>= (λ start. no_word_at ws 4 >>= (λ _. Ok (Random start)))
 
 abbrev pub policy_met : (state : State) (words : List (List ℕ)) → Result State LineRefusal
-policy_met s ws = name_at (named policies) ws 2 >>= (λ p. no_word_at ws 3 >>= (λ _. Ok (with_header s Events (record s.trace.header { policy = p }))))
+policy_met s ws =
+    name_at (named policies) ws 2 >>= (λ word. policy_by ws word >>= (λ p. Ok (with_header s Events (record s.trace.header { policy = p }))))
 
 -- a `memory` line, or `caches`
 abbrev pub ranges_met : (state : State) (first : List ℕ) (words : List (List ℕ)) → Result State LineRefusal

@@ -10,13 +10,15 @@ use Rattle.trace_lang.specs.declared.places.LineError.{LineError}
 use Rattle.trace_lang.specs.declared.places.LineError.TheVariants.{NoMemory, Refused}
 use Rattle.trace_lang.specs.declared.names.Verb.{Verb as Word}
 use Rattle.trace_lang.specs.declared.names.Verb.TheVariants as word
+use Rattle.trace_lang.specs.declared.names.PolicyWord.{PolicyWord as NameOfPolicy}
+use Rattle.trace_lang.specs.declared.names.PolicyWord.TheVariants as policy
 use Rattle.trace_lang.specs.declared.reading.Head.{Head}
 use Rattle.trace_lang.specs.declared.reading.Reading.{Reading}
 use Rattle.trace_lang.specs.declared.refusals.LineRefusal.TheVariants.{NotText}
 use Rattle.trace_lang.specs.Words.{is_text, words_of}
 use Rattle.trace_lang.specs.Traces.{Header}
-use Rattle.trace_lang.specs.Events.{Verb, store, msr, settle, isb, tlbi, dsb, deliver, access}
-use Rattle.trace_lang.specs.Lines.{State}
+use Rattle.trace_lang.specs.Events.{Verb, store, msr, settle, isb, tlbi, dsb, deliver, access, prefetch}
+use Rattle.trace_lang.specs.Lines.{State, PolicyWord, lru, fifo, random}
 
 -- the parts of what stands behind a cut, if there was one
 abbrev pub parts_behind : (is_cut : ℕ → Bool) (rest : Option (List ℕ)) → List (List ℕ)
@@ -43,6 +45,13 @@ verb_of word.Tlbi = tlbi
 verb_of word.Dsb = dsb
 verb_of word.Deliver = deliver
 verb_of word.Access = access
+verb_of word.Prefetch = prefetch
+
+-- the word for a policy that the code's name stands for
+abbrev pub policy_word_of : (name : NameOfPolicy) → PolicyWord
+policy_word_of policy.Lru = lru
+policy_word_of policy.Fifo = fifo
+policy_word_of policy.Random = random
 
 abbrev pub header_of : (head : Head) → Header
 header_of h = record { cores = h.cores; ranges = h.ranges.items; size = h.size; policy = h.policy }

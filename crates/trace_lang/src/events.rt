@@ -1,7 +1,8 @@
 ghost use Rattle.std.specs.Prelude.{◌≡◌, map};
 ghost use Rattle.texts.specs.Results.{Gives};
 ghost use Rattle.trace_lang.specs.Traces.{may_issue};
-ghost use Rattle.trace_lang.specs.Events.{store, msr, tlbi, dsb, access, core_at, place_at, operand_at, pan_at, event_by, event_of};
+ghost use Rattle.trace_lang.specs.Events.{store, msr, tlbi, dsb, access, prefetch, core_at, place_at};
+ghost use Rattle.trace_lang.specs.Events.{operand_at, access_at, pan_at, event_by, event_of};
 ghost use Rattle.trace_lang.specs.Views.{header_of, line_refusal};
 
 use crate::LineRefusal;
@@ -102,6 +103,23 @@ fn dsb(head: &Head, core: u8, words: &[&[u8]]) -> Result<Event, LineError>
     Ok(Event::Dsb { core, kind })
 }
 
+/// An access that is made with PAN clear.
+fn access_at(words: &[&[u8]]) -> Result<Access, LineError>
+    ensures { Gives line_refusal (λ a. a) result (access_at (map (λ w. w.now) words.now)) }
+{
+    let word = word_at(words, 3)?;
+    let el = word_or(3, El::named(word))?;
+    let word = word_at(words, 4)?;
+    let kind = word_or(4, Kind::named(word))?;
+    let va = number_at(words, 5)?;
+    Ok(Access {
+        va,
+        el,
+        kind,
+        pan: false,
+    })
+}
+
 /// Whether the word `pan` stands behind an access.
 fn pan_at(words: &[&[u8]]) -> Result<bool, LineError>
     ensures { Gives line_refusal (λ p. p) result (pan_at (map (λ w. w.now) words.now)) }
@@ -118,14 +136,18 @@ fn pan_at(words: &[&[u8]]) -> Result<bool, LineError>
 fn access(head: &Head, core: u8, words: &[&[u8]]) -> Result<Event, LineError>
     ensures { Gives line_refusal (λ e. e) result (event_by (header_of head.now) (map (λ w. w.now) words.now) core access) }
 {
-    let word = word_at(words, 3)?;
-    let el = word_or(3, El::named(word))?;
-    let word = word_at(words, 4)?;
-    let kind = word_or(4, Kind::named(word))?;
-    let va = number_at(words, 5)?;
+    let asked = access_at(words)?;
     let pan = pan_at(words)?;
-    let access = Access { va, el, kind, pan };
+    let access = Access { pan, ..asked };
     Ok(Event::Access { core, access })
+}
+
+fn prefetch(head: &Head, core: u8, words: &[&[u8]]) -> Result<Event, LineError>
+    ensures { Gives line_refusal (λ e. e) result (event_by (header_of head.now) (map (λ w. w.now) words.now) core prefetch) }
+{
+    let access = access_at(words)?;
+    no_word_at(words, 6)?;
+    Ok(Event::Prefetch { core, access })
 }
 
 /// The event of a line.
@@ -141,6 +163,7 @@ pub fn event(head: &Head, words: &[&[u8]]) -> Result<Event, LineError>
         Verb::Tlbi => tlbi(head, core, words),
         Verb::Dsb => dsb(head, core, words),
         Verb::Access => access(head, core, words),
+        Verb::Prefetch => prefetch(head, core, words),
         Verb::Settle => {
             no_word_at(words, 3)?;
             Ok(Event::Settle { core })

@@ -4,7 +4,7 @@ ghost use Rattle.sysregs.specs.Names.{reg_text};
 ghost use Rattle.sysregs.specs.Ops.{form_of, has_operand};
 ghost use Rattle.texts.specs.Texts.{hex_text};
 ghost use Rattle.trace_lang.specs.Canonical.{line_of, origin_text, op_word, barrier_text, access_words, event_words, range_words, size_text, policy_words};
-ghost use Rattle.trace_lang.specs.Limits.{HasWords};
+ghost use Rattle.trace_lang.specs.Limits.{HasWords, HasStart};
 
 use crate::names::{barrier_name, origin_name, size_name};
 use crate::{Policy, Size};
@@ -189,7 +189,8 @@ pub fn caches_line(line: &mut Line<LINE>, size: Size)
 
 /// The line of the policy of the caches.
 pub fn policy_line(line: &mut Line<LINE>, policy: Policy)
-    ensures { line.new ≡ line_of (codes "policy" ∷ policy_words policy) }
+    ensures text { line.new ≡ line_of (codes "policy" ∷ policy_words policy) }
+    ensures start { HasStart policy }
 {
     begin(line, b"policy");
     match policy {

@@ -4,9 +4,9 @@ ghost use Rattle.sysregs.specs.Ops.{op_text, all_ops};
 ghost use Rattle.trace_lang.specs.Events.{verbs, reg_names, op_names, origins, barriers};
 ghost use Rattle.trace_lang.specs.Lines.{sizes, policies};
 ghost use Rattle.trace_lang.specs.Canonical.{origin_text, barrier_text, size_text};
-ghost use Rattle.trace_lang.specs.Views.{verb_of};
+ghost use Rattle.trace_lang.specs.Views.{verb_of, policy_word_of};
 
-use crate::{Policy, Size};
+use crate::Size;
 use sysregs::{Op, Reg};
 use trails::{Barrier, Origin};
 
@@ -21,6 +21,15 @@ pub enum Verb {
     Dsb,
     Deliver,
     Access,
+    Prefetch,
+}
+
+/// The words for a policy of the caches.
+#[derive(Clone, Copy)]
+pub enum PolicyWord {
+    Lru,
+    Fifo,
+    Random,
 }
 
 /// All registers.
@@ -75,6 +84,8 @@ pub fn verb_named(word: &[u8]) -> Option<Verb>
         Some(Verb::Dsb)
     } else if word == b"deliver".as_slice() {
         Some(Verb::Deliver)
+    } else if word == b"prefetch".as_slice() {
+        Some(Verb::Prefetch)
     } else {
         None
     }
@@ -167,17 +178,27 @@ pub fn size_named(word: &[u8]) -> Option<Size>
 {
     if word == b"none".as_slice() {
         Some(Size::NoRows)
+    } else if word == b"small".as_slice() {
+        Some(Size::Small)
+    } else if word == b"medium".as_slice() {
+        Some(Size::Medium)
+    } else if word == b"large".as_slice() {
+        Some(Size::Large)
     } else {
         None
     }
 }
 
-/// The policy of the caches that a word names.
-pub fn policy_named(word: &[u8]) -> Option<Policy>
-    ensures { result ≡ named policies word.now }
+/// The word for a policy of the caches.
+pub fn policy_named(word: &[u8]) -> Option<PolicyWord>
+    ensures { option_map policy_word_of result ≡ named policies word.now }
 {
-    if word == b"fifo".as_slice() {
-        Some(Policy::Fifo)
+    if word == b"lru".as_slice() {
+        Some(PolicyWord::Lru)
+    } else if word == b"fifo".as_slice() {
+        Some(PolicyWord::Fifo)
+    } else if word == b"random".as_slice() {
+        Some(PolicyWord::Random)
     } else {
         None
     }

@@ -3,7 +3,7 @@ ghost use Rattle.std.specs.List.{slice_split};
 ghost use Rattle.texts.specs.Results.{Gives};
 ghost use Rattle.trace_lang.specs.Words.{is_end};
 ghost use Rattle.trace_lang.specs.Lines.{no_lines, refused_in, lines_met, ended_in, most_text, trace_of};
-ghost use Rattle.trace_lang.specs.Limits.{KeepsLimits, IsBuilt, HasNoPrefetch};
+ghost use Rattle.trace_lang.specs.Limits.{KeepsLimits};
 ghost use Rattle.trace_lang.specs.Views.{state_of, trace_refusal};
 
 use crate::cuts::{cut_line, without_return};
@@ -43,8 +43,6 @@ fn read_lines(alloc: Global, bytes: &[u8]) -> Result<Reading, TraceError>
     requires { length bytes.now ≤ most_text }
     ensures read { Gives trace_refusal state_of result (lines_met no_lines 1 (slice_split is_end bytes.now)) }
     ensures limits { IfOk result (λ r. KeepsLimits (state_of r)) }
-    ensures built { IfOk result (λ r. IsBuilt (state_of r).trace.header) }
-    ensures known { IfOk result (λ r. HasNoPrefetch (state_of r).trace) }
 {
     let mut reading = Reading::new(alloc);
     let mut words = Vec::new(alloc);
@@ -91,9 +89,7 @@ fn ended(reading: Reading) -> Result<Trace, TraceError>
 /// then for its words from the left, then for a word too many, and last for what its words say together: a range that
 /// shares a byte with an earlier one, a register field that is not supported, an operation that EL1 may not issue.
 pub fn parse(alloc: Global, bytes: &[u8]) -> Result<Trace, TraceError>
-    ensures trace { Gives trace_refusal (λ t. t) result (trace_of bytes.now) }
-    ensures built { IfOk result (λ t. IsBuilt t.header) }
-    ensures known { IfOk result (λ t. HasNoPrefetch t) }
+    ensures { Gives trace_refusal (λ t. t) result (trace_of bytes.now) }
 {
     if bytes.len() > MOST_BYTES {
         return refused(TraceRefusal::TooLarge {

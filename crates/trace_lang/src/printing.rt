@@ -3,7 +3,7 @@ ghost use Rattle.std.specs.Prelude.{◌≡◌, ◌++◌, flat_map, All, IfOk, Ok
 ghost use Rattle.trace_lang.specs.Traces.{Parts, IsTrace};
 ghost use Rattle.trace_lang.specs.Lines.{trace_of};
 ghost use Rattle.trace_lang.specs.Canonical.{line_of, range_words, event_words, header_text, text_of};
-ghost use Rattle.trace_lang.specs.Limits.{IsBuilt, HasWords, HasNoPrefetch};
+ghost use Rattle.trace_lang.specs.Limits.{HasWords, HasStart};
 
 use crate::Trace;
 use crate::lines::{caches_line, cores_line, event_line, policy_line, range_line};
@@ -37,7 +37,8 @@ fn put_ranges(
 }
 
 fn put_header(text: &mut Vec<u8>, line: &mut Line<LINE>, trace: &Trace) -> Result<(), NoMemory>
-    ensures { IfOk result (λ _. text.new.items ≡ text.old.items ++ header_text trace.now.header) }
+    ensures text { IfOk result (λ _. text.new.items ≡ text.old.items ++ header_text trace.now.header) }
+    ensures start { IfOk result (λ _. HasStart trace.now.header.policy) }
 {
     cores_line(line, trace.cores());
     put(text, line.bytes())?;
@@ -60,11 +61,11 @@ fn put_events(text: &mut Vec<u8>, line: &mut Line<LINE>, events: &[Event]) -> Re
 }
 
 /// The canonical text of a trace: one space between words, numbers of cores in decimal and all others as `0x` and
-/// lower-case hexadecimal digits, and no line that is skipped (this project's own rule). `parse` reads it back, but for
-/// sizes of caches, policies and prefetches that no text may name today. NoMemory comes where memory is refused.
+/// lower-case hexadecimal digits, and no line that is skipped (this project's own rule). `parse` reads it back.
+/// NoMemory comes where memory is refused.
 pub fn print(alloc: Global, trace: &Trace) -> Result<Vec<u8>, NoMemory>
     ensures text { IfOk result (λ v. v.items ≡ text_of trace.now) }
-    ensures again { IsBuilt trace.now.header → HasNoPrefetch trace.now → IfOk result (λ v. trace_of v.items ≡ Ok trace.now) }
+    ensures again { IfOk result (λ v. trace_of v.items ≡ Ok trace.now) }
 {
     let mut text = Vec::new(alloc);
     let mut line = Line::<LINE>::new();
@@ -74,8 +75,7 @@ pub fn print(alloc: Global, trace: &Trace) -> Result<Vec<u8>, NoMemory>
     Ok(text)
 }
 
-/// The canonical text of a trace is read back as that trace, where its sizes, policies and events are such as a text may
-/// name today and its numbers are below 2 ^ 64.
+/// The canonical text of a trace is read back as that trace, where its numbers are below 2 ^ 64.
 pub fn parse_of_print()
-    ensures { (t : Parts) → IsTrace t → IsBuilt t.header → HasNoPrefetch t → All HasWords t.events → trace_of (text_of t) ≡ Ok t }
+    ensures { (t : Parts) → IsTrace t → HasStart t.header.policy → All HasWords t.events → trace_of (text_of t) ≡ Ok t }
 {}

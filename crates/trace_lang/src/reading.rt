@@ -4,14 +4,16 @@ ghost use Rattle.trace_lang.specs.Traces.{is_within, most_cores};
 ghost use Rattle.phys_mem.specs.Ranges.{share_byte};
 ghost use Rattle.trace_lang.specs.Words.{is_text};
 ghost use Rattle.trace_lang.specs.declared.refusals.LineRefusal.TheVariants.{NotText, LongLine};
-ghost use Rattle.trace_lang.specs.Lines.{no_lines, is_base, is_size, cores_met, range_met, caches_met, policy_met};
+ghost use Rattle.trace_lang.specs.Lines.{no_lines, is_base, is_size, cores_met, range_met, caches_met, policy_by, policy_met};
 ghost use Rattle.trace_lang.specs.Lines.{ranges_met, body_met, met, words_met, line_met};
-ghost use Rattle.trace_lang.specs.Views.{header_of, state_of, Steps};
+ghost use Rattle.texts.specs.Results.{Gives};
+ghost use Rattle.trace_lang.specs.Views.{header_of, state_of, policy_word_of, line_refusal, Steps};
 
 use crate::cuts::{is_plain, words};
 use crate::events::event;
+use crate::names::{self, PolicyWord};
 use crate::places::{LineError, in_range, no_word_at, number_at, refused, word_at, word_or};
-use crate::{LineRefusal, Phase, Policy, Size, names};
+use crate::{LineRefusal, Phase, Policy, Size};
 use phys_mem::ranges::{bytes_in, holds_word, is_aligned, share_byte};
 use std::alloc::Global;
 use trails::Event;
@@ -69,6 +71,27 @@ fn is_size(earlier: &[(u64, u64)], base: u64, size: u64) -> bool
         && size > 0
         && size <= END_OF_MEMORY - base
         && bytes_in(earlier).saturating_add(size) <= MOST_MEMORY
+}
+
+/// The policy of a line with such a word.
+fn policy_by(word: PolicyWord, words: &[&[u8]]) -> Result<Policy, LineError>
+    ensures { Gives line_refusal (λ p. p) result (policy_by (map (λ w. w.now) words.now) (policy_word_of word)) }
+{
+    match word {
+        PolicyWord::Lru => {
+            no_word_at(words, 3)?;
+            Ok(Policy::Lru)
+        }
+        PolicyWord::Fifo => {
+            no_word_at(words, 3)?;
+            Ok(Policy::Fifo)
+        }
+        PolicyWord::Random => {
+            let start = number_at(words, 3)?;
+            no_word_at(words, 4)?;
+            Ok(Policy::Random { start })
+        }
+    }
 }
 
 impl Head {
@@ -160,8 +183,8 @@ impl Reading {
         ensures { Steps (state_of self.new) result (policy_met (state_of self.old) (map (λ w. w.now) words.now)) }
     {
         let word = word_at(words, 2)?;
-        let policy = word_or(2, names::policy_named(word))?;
-        no_word_at(words, 3)?;
+        let word = word_or(2, names::policy_named(word))?;
+        let policy = policy_by(word, words)?;
         self.head.policy = policy;
         self.phase = Phase::Events;
         Ok(())

@@ -17,7 +17,7 @@ use bitwords::NoMemory;
 use served_walk::Service;
 use std::alloc::{AllocError, Global};
 use std::marker::Model;
-use tagged_tlb::{Chooser, Found, Kind, Row, Seen, Slot, Sought};
+use tagged_tlb::{Chooser, Found, Kind, LentRow, Seen, Slot, Sought};
 use tlbi_ops::Inval;
 use trace_lang::{Policy, Size};
 use trails::Item;
@@ -103,12 +103,12 @@ impl Caches {
 
     /// A row of a class below 64 is added where none would serve the same. Says whether a full set lost one. Without rows nothing
     /// changes.
-    pub fn add(&mut self, row: Row) -> bool
-        requires { row.region.class < 64 }
+    pub fn add(&mut self, row: &LentRow) -> bool
+        requires { row.now.region.class < 64 }
         ensures added { (h : Header) → (core : ℕ) → (l : Cache) → AreCachesOf h core l self.old
-            → AreCachesOf h core (added_to h core l row) self.new }
+            → AreCachesOf h core (added_to h core l row.now) self.new }
         ensures count { (h : Header) → (core : ℕ) → (l : Cache) → AreCachesOf h core l self.old →
-            (added_to h core l row).evictions ≡ l.evictions + (if result then 1 else 0) }
+            (added_to h core l row.now).evictions ≡ l.evictions + (if result then 1 else 0) }
         ensures alike { AreAlike self.old self.new }
     {
         by_size!(&mut self.held; kinds => kinds.add(row, &mut self.chooser); else false)

@@ -14,7 +14,7 @@ ghost use Rattle.walk_cache.specs.Services.{service_of, IsService, AreServices};
 use served_walk::Service;
 use std::alloc::{AllocError, Global};
 use std::marker::Model;
-use tagged_tlb::{Chooser, Found, Kind, Row, Seen, Slot, Sought, Tlb};
+use tagged_tlb::{Chooser, Found, Kind, LentRow, Seen, Slot, Sought, Tlb};
 use tlbi_ops::Inval;
 use trails::Item;
 
@@ -82,12 +82,12 @@ impl<
     }
 
     /// A row of a class below 64 is added where none would serve the same. Says whether a full set lost one.
-    pub fn add(&mut self, row: Row, by: &mut Chooser) -> bool
+    pub fn add(&mut self, row: &LentRow, by: &mut Chooser) -> bool
         requires room { HaveRoom LEAVES1 WAYS1 TABLES LEAVES2 WAYS }
-        requires class { row.region.class < 64 }
+        requires class { row.now.region.class < 64 }
         ensures added { (header : Header) → (core : ℕ) → (l : Cache) → HasShapes header.size LEAVES1 WAYS1 TABLES LEAVES2 WAYS →
             header.policy ≡ by.old.policy → IsAt core l.evictions by.old → AreTied header.size l.rows self.old →
-            IsAddedTo header core l row result by.new self.new }
+            IsAddedTo header core l row.now result by.new self.new }
         ensures policy { by.new.policy ≡ by.old.policy }
     {
         match row.kind {

@@ -2,6 +2,7 @@ use Rattle.std.proofs.Common.{List, ◌∷◌, [], ◌++◌, ◌<◌, length, ma
 use Rattle.std.specs.Prelude.{vec_len}
 use Rattle.std.specs.List.{remove}
 use Rattle.std.proofs.lemmas.List.{length-map}
+use Rattle.tagged_tlb.specs.declared.row.Row.{Row}
 use Rattle.tagged_tlb.specs.declared.head.Head.{Head}
 use Rattle.tagged_tlb.specs.Slots.{row_of, head_with}
 use Rattle.tagged_tlb.proofs.Heads.{moved, slot_below, full_here}
@@ -28,7 +29,7 @@ invariant_of-self g c =
       inv.4,
       rw (c.push_reserved.ensures.items, c.remove-old.ensures.items, c.head_of.ensures)
           (moved (vec_len c.self.inside.trails) hs c.self.inside.free.items inv.5 c.args.at c.remove-old.result within
-          (head_with c.args.row c.remove-old.result.slot) (ap (λ (v : Head). v.slot) c.remove-old.ensures.value)),
+          (head_with c.args.row.now c.remove-old.result.slot) (ap (λ (v : Head). v.slot) c.remove-old.ensures.value)),
     )
 
 pub returns : goal.returns
@@ -36,9 +37,9 @@ returns g c =
     let hs : List Head = c.self.inside.heads.items in
     let within : c.args.at < length hs = subst (λ k. c.args.at < k) (length-map hs (row_of c.self.inside.trails.items)) (subst (λ v. c.args.at < length v)
     (sym c.self.view_is) c.requires) in
-    rw (← c.self.view_is)
-    (ap (map (row_of (set c.self.inside.trails.items c.remove-old.result.slot c.args.row.trail)))
+    rw (← c.self.view_is, c.copy_items.ensures ∙ ap (λ (x : Row). x.trail) c.row.view_is)
+    (ap (map (row_of (set c.self.inside.trails.items c.remove-old.result.slot c.args.row.now.trail)))
     (c.push_reserved.ensures.items ∙ ap (λ v. v ++ c.head_of.result ∷ []) c.remove-old.ensures.items
     ∙ ap (λ v. remove hs c.args.at ++ v ∷ []) c.head_of.ensures)
     ∙ full_here (vec_len c.self.inside.trails) hs c.self.inside.free.items c.self.invariant.5 c.args.at c.remove-old.result within
-    c.self.inside.trails.items c.args.row (omega arith) c.remove-old.ensures.value)
+    c.self.inside.trails.items c.args.row.now (omega arith) c.remove-old.ensures.value)

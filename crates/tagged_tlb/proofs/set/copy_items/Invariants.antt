@@ -1,5 +1,5 @@
 use Rattle.std.proofs.Common.{◌≡◌, take}
-use Rattle.cpu_model.proofs.fill.trail_of.Given as goal
+use Rattle.tagged_tlb.proofs.set.copy_items.Given as goal
 
 abbrev pub invariant-loop-item : goal.invariant-loop-item
 invariant-loop-item l = l.trail ≡ take l.item-index l.items
