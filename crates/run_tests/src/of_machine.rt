@@ -135,3 +135,52 @@ fn a_runner_has_the_steps_of_the_log(rt: HostRuntime) -> Result<(), Fail> {
     assert!(rt; (machine.left(), runner.left()) == (0, 0));
     Ok(())
 }
+
+/// One core with small caches. Its block moves from 0x80000000 to 0xc0000000 without an invalidation, which comes late.
+const MOVED: &str = "cores 1
+memory 0x1000 0x1000
+caches small
+policy lru
+store 0 0x1008 0x80000441
+msr 0 TTBR0_EL1 0x1000
+msr 0 TCR_EL1 0x800019
+msr 0 MAIR_EL1 0xff
+msr 0 SCTLR_EL1 1
+isb 0
+prefetch 0 el1 read 0x40201abc
+store 0 0x1008 0xc0000441
+access 0 el1 read 0x40201abc
+tlbi 0 el1 VAE1 0x40201
+access 0 el1 read 0x40201abc
+dsb 0 nsh
+access 0 el1 read 0x40201abc
+end
+";
+
+/// Where each access goes, and whether its trail is old and stale.
+const BY_BLOCK: [(u64, bool, bool); 4] = [
+    (0x8020_1abc, false, false),
+    (0x8020_1abc, true, true),
+    (0x8020_1abc, true, true),
+    (0xc020_1abc, false, false),
+];
+
+#[test]
+fn an_old_block_serves_until_it_is_invalidated(rt: HostRuntime) -> Result<(), Fail> {
+    let alloc = rt.alloc();
+    let mut machine = Machine::opened(alloc, parse(alloc, MOVED.as_bytes())?)?;
+    for _turn in 0..machine.left() {
+        if machine.left() > 0 {
+            machine.step();
+        }
+    }
+    let mut wanted = BY_BLOCK.iter();
+    for step in machine.log() {
+        if let Some(answer) = &step.answer {
+            let told = place(&answer.outcome).map(|pa| (pa, answer.old, answer.stale));
+            assert!(rt; told == wanted.next().copied());
+        }
+    }
+    assert!(rt; wanted.next().is_none());
+    Ok(())
+}

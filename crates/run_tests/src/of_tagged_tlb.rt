@@ -4,10 +4,9 @@ use fault_codes::Stage;
 use std::alloc::AllocError;
 use sysregs::fields::config;
 use sysregs::{Op, Regs};
-use tagged_tlb::{Chooser, Found, Key, Kind, Made, Row, Sought, Tlb};
+use tagged_tlb::{Chooser, Found, Key, Kind, LentRow, Made, Sought, Tlb};
 use tlbi_ops::{Tag, decode};
 use trace_lang::Policy;
-use trails::Trail;
 use walk_spec::Region;
 
 /// Under registers that are all 0.
@@ -20,11 +19,11 @@ fn key() -> Key {
 }
 
 /// A stage 1 table's row for the page of a number.
-fn row(page: u64, order: u32) -> Row
+fn row(page: u64, order: u32) -> LentRow<'static>
     ensures { result.region.class ≡ 12 }
 {
-    Row {
-        trail: Trail::none(),
+    LentRow {
+        trail: &[],
         tag: Tag {
             start: page << 12,
             class: 12,
@@ -75,7 +74,7 @@ fn rows_come_serve_and_go(rt: HostRuntime) -> Result<(), AllocError> {
     let mut tlb = Tlb::<2, 2>::opened(rt.alloc())?;
     let mut by = Chooser::opened(Policy::Lru, 0);
     assert!(rt;
-        !tlb.add(row(0, 0), &mut by) && !tlb.add(row(2, 1), &mut by) && !tlb.add(row(2, 2), &mut by)
+        !tlb.add(&row(0, 0), &mut by) && !tlb.add(&row(2, 1), &mut by) && !tlb.add(&row(2, 2), &mut by)
     );
     assert!(rt;
         order_at(&tlb, 0xfff) == Some(0)
@@ -83,7 +82,7 @@ fn rows_come_serve_and_go(rt: HostRuntime) -> Result<(), AllocError> {
             && order_at(&tlb, 0x1000) == None
     );
     assert!(rt; serve(&mut tlb, 0) == Some(0) && serve(&mut tlb, 0x1000) == None);
-    assert!(rt; tlb.add(row(4, 3), &mut by));
+    assert!(rt; tlb.add(&row(4, 3), &mut by));
     assert!(rt;
         order_at(&tlb, 0) == Some(0)
             && order_at(&tlb, 0x2000) == None

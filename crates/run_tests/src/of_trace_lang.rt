@@ -7,7 +7,7 @@ use std::alloc::{AllocError, Global};
 use std::test::Fail;
 use sysregs::{Field, Op, Reg, Unsupported};
 use trace_lang::{
-    MOST_BYTES, Policy, Size, Trace, TraceError, TraceRefusal, parse, parse_of_print, print,
+    MOST_BYTES, Policy, Size, TraceError, TraceRefusal, parse, parse_of_print, print,
 };
 use trails::{Access, Barrier, Event, Origin};
 
@@ -49,7 +49,7 @@ fn told(alloc: Global, text: &[u8]) -> Result<usize, TraceRefusal> {
 }
 
 /// Texts, and the refusal of each.
-const BAD_HEADERS: [(&str, TraceRefusal); 37] = [
+const BAD_HEADERS: [(&str, TraceRefusal); 40] = [
     ("", NoHeader),
     ("# only\n\n", NoHeader),
     ("memory 0x0 0x1000\n", NoHeader),
@@ -109,15 +109,27 @@ const BAD_HEADERS: [(&str, TraceRefusal); 37] = [
         "cores 1\nmemory 0 8\nmemory 0 12 8\n",
         OutOfRange { line: 3, place: 3 },
     ),
-    ("cores 1\ncaches small\n", BadWord { line: 2, place: 2 }),
+    ("cores 1\ncaches Small\n", BadWord { line: 2, place: 2 }),
     ("cores 1\ncaches none none\n", BadWord { line: 2, place: 3 }),
     (
-        "cores 1\ncaches none\npolicy lru\n",
+        "cores 1\ncaches none\npolicy LRU\n",
         BadWord { line: 3, place: 2 },
     ),
     (
-        "cores 1\ncaches none\npolicy random 1\n",
-        BadWord { line: 3, place: 2 },
+        "cores 1\ncaches large\npolicy lru 1\n",
+        BadWord { line: 3, place: 3 },
+    ),
+    (
+        "cores 1\ncaches none\npolicy random\n",
+        BadWord { line: 3, place: 3 },
+    ),
+    (
+        "cores 1\ncaches none\npolicy random one\n",
+        BadNumber { line: 3, place: 3 },
+    ),
+    (
+        "cores 1\ncaches small\npolicy random 1 1\n",
+        BadWord { line: 3, place: 4 },
     ),
     ("cores 1\rmemory 0\n", NotText { line: 1 }),
     ("cores 1\n# \u{e9}\n", NotText { line: 2 }),
@@ -134,9 +146,14 @@ fn refuses_headers(rt: HostRuntime) {
 }
 
 /// Lines behind the header, and the refusal of each text.
-const BAD_EVENTS: [(&str, TraceRefusal); 38] = [
+const BAD_EVENTS: [(&str, TraceRefusal); 40] = [
     ("cores 2\nend\n", BadWord { line: 5, place: 1 }),
-    ("prefetch 0 el1 read 0\n", BadWord { line: 5, place: 1 }),
+    ("prefetch 2 el1 read 0\n", OutOfRange { line: 5, place: 2 }),
+    ("prefetch 0 el1 read\n", BadWord { line: 5, place: 5 }),
+    (
+        "prefetch 0 el1 read 0 pan\n",
+        BadWord { line: 5, place: 6 },
+    ),
     ("isb\n", BadWord { line: 5, place: 2 }),
     ("isb zero\n", BadNumber { line: 5, place: 2 }),
     ("isb 2\n", OutOfRange { line: 5, place: 2 }),
@@ -246,9 +263,10 @@ dsb 0 ish\n\
 dsb 0 sy\n\
 access 0 el0 fetch 8\n\
 access 0 el0 fetch 8 pan\n\
+prefetch 1 el1 write 16\n\
 end\n";
 
-const EVENTS_READ: [Event; 10] = [
+const EVENTS_READ: [Event; 11] = [
     Event::Msr {
         core: 1,
         reg: Reg::Ttbr0El1,
@@ -290,6 +308,15 @@ const EVENTS_READ: [Event; 10] = [
             el: El::El0,
             kind: Kind::Fetch,
             pan: true,
+        },
+    },
+    Event::Prefetch {
+        core: 1,
+        access: Access {
+            va: 16,
+            el: El::El1,
+            kind: Kind::Write,
+            pan: false,
         },
     },
 ];
@@ -436,23 +463,36 @@ access 1 el1 write 0x7 pan\nend\n",
     Ok(())
 }
 
+/// The words of each size and policy, and what they are.
+const CACHES: [(&str, Size, Policy); 4] = [
+    ("caches none\npolicy lru\n", Size::NoRows, Policy::Lru),
+    ("caches small\npolicy fifo\n", Size::Small, Policy::Fifo),
+    (
+        "caches medium\npolicy random 0xff\n",
+        Size::Medium,
+        Policy::Random { start: 255 },
+    ),
+    (
+        "caches large\npolicy random 0xffffffffffffffff\n",
+        Size::Large,
+        Policy::Random { start: u64::MAX },
+    ),
+];
+
 #[test]
-fn prints_what_no_text_may_name(rt: HostRuntime) -> Result<(), Fail> {
+fn names_sizes_and_policies(rt: HostRuntime) -> Result<(), Fail> {
     let alloc = rt.alloc();
-    let access = Access {
-        va: 0x40,
-        el: El::El1,
-        kind: Kind::Fetch,
-        pan: false,
-    };
-    let events = vec![in alloc; Event::Prefetch { core: 0, access }]?;
-    let policy = Policy::Random { start: 255 };
-    let trace = Trace::of(1, Vec::new(alloc), Size::Small, policy, events);
-    let Ok(text) = print(alloc, &trace) else {
-        return Err(Fail::new("no memory"));
-    };
-    let want = b"cores 1\ncaches small\npolicy random 0xff\nprefetch 0 el1 fetch 0x40\nend\n";
-    assert!(rt; text.as_slice() == want.as_slice());
+    for (words, size, policy) in CACHES.as_slice() {
+        let text = text_of(alloc, "cores 1\n", words, 1, "prefetch 0 el1 fetch 0x40\nend\n")?;
+        let Ok(trace) = parse(alloc, text.as_slice()) else {
+            return Err(Fail::new("refused"));
+        };
+        assert!(rt; trace.size() == *size && trace.policy() == *policy);
+        let Ok(again) = print(alloc, &trace) else {
+            return Err(Fail::new("no memory"));
+        };
+        assert!(rt; again.as_slice() == text.as_slice());
+    }
     Ok(())
 }
 

@@ -6,10 +6,9 @@ use served_walk::Service;
 use std::alloc::Global;
 use sysregs::fields::config;
 use sysregs::{Op, Regs};
-use tagged_tlb::{Found, Key, Kind, Made, Row, Sought};
+use tagged_tlb::{Found, Key, Kind, LentRow, Made, Sought};
 use tlbi_ops::{Tag, decode};
 use trace_lang::{Policy, Size};
-use trails::Trail;
 use walk_cache::Caches;
 use walk_spec::Region;
 
@@ -23,11 +22,11 @@ fn key() -> Key {
 }
 
 /// A stage 1 table's row for the page of a number, which is its order too.
-fn row(page: u32) -> Row
+fn row(page: u32) -> LentRow<'static>
     ensures { result.region.class ≡ 12 }
 {
-    Row {
-        trail: Trail::none(),
+    LentRow {
+        trail: &[],
         tag: Tag {
             start: u64::from(page) << 12,
             class: 12,
@@ -87,10 +86,10 @@ fn nine_pages(
 ) -> Result<(bool, Option<u32>, Option<u32>), NoMemory> {
     let mut caches = Caches::opened(alloc, 0, size, policy)?;
     for page in 0..8 {
-        caches.add(row(page));
+        caches.add(&row(page));
     }
     serve(&mut caches, 0);
-    let lost = caches.add(row(8));
+    let lost = caches.add(&row(8));
     let first = order_at(&caches, Kind::Table1, 0);
     let second = order_at(&caches, Kind::Table1, 1);
     Ok((lost, first, second))
@@ -115,7 +114,7 @@ fn rows_leave_by_size_and_policy(rt: HostRuntime) -> Result<(), NoMemory> {
 #[test]
 fn rows_are_of_their_kind_and_go(rt: HostRuntime) -> Result<(), NoMemory> {
     let mut caches = Caches::opened(rt.alloc(), 1, Size::Large, Policy::Lru)?;
-    assert!(rt; !caches.add(row(3)) && serve(&mut caches, 3) == Some(0));
+    assert!(rt; !caches.add(&row(3)) && serve(&mut caches, 3) == Some(0));
     assert!(rt;
         order_at(&caches, Kind::Table1, 3) == Some(3)
             && order_at(&caches, Kind::Leaf1, 3) == None
