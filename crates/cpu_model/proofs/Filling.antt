@@ -1,5 +1,6 @@
 -- Rows of a step that come one by one.
-use Rattle.std.proofs.Common.{◌≡◌, ℕ, ◌+◌, ◌≤◌, ◌<◌, Bool, cond, List, [], ◌∷◌, ◌++◌, length, fold, take, get_or, refl, sym, ap, ◌∙◌, subst, arith}
+use Rattle.std.proofs.Common.{◌≡◌, ℕ, ◌+◌, ◌≤◌, ◌<◌, Bool, cond, List, [], ◌∷◌, ◌++◌}
+use Rattle.std.proofs.Common.{length, fold, take, get_or, refl, sym, ap, ◌∙◌, subst, arith}
 use Rattle.std.specs.Prelude.{true, false}
 use Rattle.std.proofs.lemmas.Bool.{both_ways}
 use Rattle.std.proofs.lemmas.List.{length-map, length-take-le, take_more}
@@ -36,7 +37,10 @@ module _ (regs : Regs) (step : ℕ) (trail : List Item) where
 
   -- one more row of the step
   pub step_more : (xs : List NewRow) (n : NewRow)
-      → rows_of_step regs step trail (xs ++ n ∷ []) ≡ rows_of_step regs step trail xs ++ record (row_from K trail n) { made = made_in step (length xs) } ∷ []
+      → rows_of_step regs step trail (xs ++ n ∷ []) ≡ rows_of_step regs step trail xs ++ record (row_from K trail n) {
+        made =
+            made_in step (length xs);
+      } ∷ []
   step_more xs n =
       let e : 0 + length (rows_from K trail xs) ≡ length xs = (let m = length-map xs (row_from K trail) in omega (arith, m)) in
       ap (numbered 0) (rows_more K trail xs (n ∷ [])) ∙ numbered_more 0 (rows_from K trail xs) (row_from K trail n)

@@ -65,9 +65,11 @@ module _ (v : Visit) (a : Access) where
       cache = v.cache;
     }
 
-    clash_by : (halt : Halt) → reply.halt ≡ halt → ((end : Fed Need (End Landing)) → reply.halt ≡ came end → is_conflict (fed_outcome end) ≡ false)
+    clash_by : (halt : Halt) → reply.halt ≡ halt → ((end : Fed Need (End Landing)) → reply.halt ≡ came end
+        → is_conflict (fed_outcome end) ≡ false)
         → is_conflict o ≡ true → ShowsHalt reply.items halt first second o → at_conflict ≡ visited_by v a reply halt
-    clash_by (came end) e alone c s = (let f = alone end e in let g : is_conflict (fed_outcome end) ≡ true = subst (λ z. is_conflict z ≡ true) s.2 c in absurd cc)
+    clash_by (came end) e alone c s = (let f = alone end e in let g : is_conflict (fed_outcome end) ≡ true = subst (λ z. is_conflict z ≡ true) s.2 c in
+        absurd cc)
     clash_by (clash one two) e alone c s = rw (s.0, s.1, s.2) refl
 
     -- a conflict leaves the rows

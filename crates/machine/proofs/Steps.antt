@@ -99,7 +99,8 @@ pub record Did (t : Parts) (p : Held) (seats : List SeatState) (k : ℕ) (e : Ev
   pub lt : k < length t.events
   pub at : e ≡ get_or t.events k e
   pub memory : memory_of next ≡ stored (memory_of p) e
-  pub answer : (h : Header) → (cores : List Core) → AreSeatsOf h cores seats → CanAnswer k cores → a ≡ answer_to h (world_with k (memory_of p) cores) e
+  pub answer : (h : Header) → (cores : List Core) → AreSeatsOf h cores seats → CanAnswer k cores
+      → a ≡ answer_to h (world_with k (memory_of p) cores) e
   pub len : length after ≡ length seats
   pub cores : (h : Header) → (cores : List Core) → AreSeatsOf h cores seats → CanAnswer k cores → AreMoved h (world_with k (memory_of p) cores) e after
   pub text : (h : Header) → (cores : List Core) → AreSeatsOf h cores seats → CanAnswer k cores → HasTextInRun a
@@ -207,7 +208,8 @@ module _ (laws : Laws) (t : Parts) (p : Held) (seats : List SeatState) (log : Li
   goes = record { event = slice_get-get_or t.events (length log) e did.lt ∙ ap Some (sym did.at); allowed = allowed; kept = kept }
 
 -- the same where the body names the parts by other, equal terms
-pub goes_from : Laws → (t : Parts) (p : Held) (seats : List SeatState) (log : List Step) → IsTrace t → length seats ≡ t.header.cores → IsRun (state_of t log p seats)
+pub goes_from : Laws → (t : Parts) (p : Held) (seats : List SeatState) (log : List Step) → IsTrace t → length seats ≡ t.header.cores
+    → IsRun (state_of t log p seats)
     → (e : Event) (a : Option Answer) (next : Held) (after : List SeatState)
     → (k : ℕ) (t2 : Parts) (p2 : Held) (seats2 : List SeatState) → k ≡ length log → t2 ≡ t → p2 ≡ p → seats2 ≡ seats
     → Did t2 p2 seats2 k e a next after → Goes t log next after (record { event = e; answer = a })

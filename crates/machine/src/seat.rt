@@ -167,7 +167,8 @@ impl Seat {
             answer.new ≡ (visited (visit_of h (world_with moment (memory_of phys.now) cores) c v) access.now).answer }
         ensures core { (h : Header) → (cores : List Core) → (c : ℕ) → (v : Core) → IsSeatOf h c v self.old → CanServe moment v.cache.rows →
             IsSeatOf h c (accessed h (world_with moment (memory_of phys.now) cores) c v access.now) self.new }
-        ensures text { (h : Header) → (c : ℕ) → (v : Core) → IsSeatOf h c v self.old → CanServe moment v.cache.rows → HasTextInRun (Some answer.new) }
+        ensures text { (h : Header) → (c : ℕ) → (v : Core) → IsSeatOf h c v self.old → CanServe moment v.cache.rows
+            → HasTextInRun (Some answer.new) }
     {
         self.cpu.access(phys, moment, access, answer);
     }

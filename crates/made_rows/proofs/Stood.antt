@@ -1,5 +1,6 @@
 -- What rows and memory serve an access stands on its walk, up to the end to which the service came.
-use Rattle.std.proofs.Common.{◌≡◌, ℕ, ◌≤◌, Bool, true, false, not, cond, List, [], ◌∷◌, length, take, refl, sym, ap, ◌∙◌, subst, inl, inr}
+use Rattle.std.proofs.Common.{◌≡◌, ℕ, ◌≤◌, Bool, true, false, not, cond, List, [], ◌∷◌}
+use Rattle.std.proofs.Common.{length, take, refl, sym, ap, ◌∙◌, subst, inl, inr}
 use Rattle.std.specs.Prelude.{◌&&◌, ◌⊎◌, All, Option, Some, None}
 use Rattle.std.proofs.lemmas.Bool.{and_parts}
 use Rattle.std.proofs.lemmas.List.Elements.{All-nil, All-cons}
@@ -52,7 +53,8 @@ module _ {A : Type 0} (r : Regime) where
   on_ends (ask n k) [] e h = absurd cc
   on_ends (ask n k) (i ∷ items) e h = ap (λ b. cond b (on (fits r) (k i) items) bad) h.0 ∙ on_ends (k i) items e h.1
 
-  on_needs : (t : Ask Need Item A) (items : List Item) (n : Need) (k : Item → Ask Need Item A) → IsOn r t items (ask n k) → on (fits r) t items ≡ needs n
+  on_needs : (t : Ask Need Item A) (items : List Item) (n : Need) (k : Item → Ask Need Item A) → IsOn r t items (ask n k)
+      → on (fits r) t items ≡ needs n
   on_needs (done b) [] n k h = absurd cc
   on_needs (done b) (i ∷ items) n k h = absurd h
   on_needs (ask m j) [] n k h = (let q : m ≡ n = cc in ap needs q)

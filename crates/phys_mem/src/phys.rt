@@ -94,7 +94,11 @@ impl Phys {
         ensures { result ≡ memory_of self.now pa }
     {
         let index = index_at(self.ranges.as_slice(), pa)?;
-        Some(if is_aligned(pa) { self.words.get(index) } else { 0 })
+        Some(if is_aligned(pa) {
+            self.words.get(index)
+        } else {
+            0
+        })
     }
 
     /// Changes the word at a place in bytes, and answers whether there is one.

@@ -74,7 +74,9 @@ fn rows_come_serve_and_go(rt: HostRuntime) -> Result<(), AllocError> {
     let mut tlb = Tlb::<2, 2>::opened(rt.alloc())?;
     let mut by = Chooser::opened(Policy::Lru, 0);
     assert!(rt;
-        !tlb.add(&row(0, 0), &mut by) && !tlb.add(&row(2, 1), &mut by) && !tlb.add(&row(2, 2), &mut by)
+        !tlb.add(&row(0, 0), &mut by)
+            && !tlb.add(&row(2, 1), &mut by)
+            && !tlb.add(&row(2, 2), &mut by)
     );
     assert!(rt;
         order_at(&tlb, 0xfff) == Some(0)

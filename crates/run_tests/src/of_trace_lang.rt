@@ -150,10 +150,7 @@ const BAD_EVENTS: [(&str, TraceRefusal); 40] = [
     ("cores 2\nend\n", BadWord { line: 5, place: 1 }),
     ("prefetch 2 el1 read 0\n", OutOfRange { line: 5, place: 2 }),
     ("prefetch 0 el1 read\n", BadWord { line: 5, place: 5 }),
-    (
-        "prefetch 0 el1 read 0 pan\n",
-        BadWord { line: 5, place: 6 },
-    ),
+    ("prefetch 0 el1 read 0 pan\n", BadWord { line: 5, place: 6 }),
     ("isb\n", BadWord { line: 5, place: 2 }),
     ("isb zero\n", BadNumber { line: 5, place: 2 }),
     ("isb 2\n", OutOfRange { line: 5, place: 2 }),
@@ -483,7 +480,13 @@ const CACHES: [(&str, Size, Policy); 4] = [
 fn names_sizes_and_policies(rt: HostRuntime) -> Result<(), Fail> {
     let alloc = rt.alloc();
     for (words, size, policy) in CACHES.as_slice() {
-        let text = text_of(alloc, "cores 1\n", words, 1, "prefetch 0 el1 fetch 0x40\nend\n")?;
+        let text = text_of(
+            alloc,
+            "cores 1\n",
+            words,
+            1,
+            "prefetch 0 el1 fetch 0x40\nend\n",
+        )?;
         let Ok(trace) = parse(alloc, text.as_slice()) else {
             return Err(Fail::new("refused"));
         };

@@ -195,9 +195,11 @@ access_back h c a l =
     ∙ go (pan_at ws) a.pan (λ pan. Ok (AccessOf c (record a { pan = pan })))
     (pan_back a.pan (codes "access") (decimal c) (el_text a.el) (kind_text a.kind) (hex_text a.va))
 
-prefetch_back : (h : Header) (c : ℕ) (a : Access) → a.va < 2 ^ 64 → a.pan ≡ false → event_by h (event_words (Prefetch c a)) c prefetch ≡ Ok (Prefetch c a)
+prefetch_back : (h : Header) (c : ℕ) (a : Access) → a.va < 2 ^ 64 → a.pan ≡ false → event_by h (event_words (Prefetch c a)) c prefetch
+    ≡ Ok (Prefetch c a)
 prefetch_back h c a l p =
-    let ws : Bool → List (List ℕ) = λ pan. codes "prefetch" ∷ decimal c ∷ el_text a.el ∷ kind_text a.kind ∷ hex_text a.va ∷ cond pan (codes "pan" ∷ []) [] in
+    let ws : Bool → List (List ℕ) = λ pan. codes "prefetch" ∷ decimal c ∷ el_text a.el ∷ kind_text a.kind ∷ hex_text a.va ∷
+    cond pan (codes "pan" ∷ []) [] in
     subst (λ pan. event_by h (ws pan) c prefetch ≡ Ok (Prefetch c (record a { pan = pan }))) (sym p)
     (go (access_at (ws false)) (record a { pan = false }) (λ x. no_word_at (ws false) 6 >>= (λ _. Ok (Prefetch c x)))
     (access_at_back (codes "prefetch") (decimal c) [] a l))

@@ -28,7 +28,11 @@ goes c =
     let e : Event = get_or c.events.result.now s.done (Store 0 0 0) in
     let lt = is_left _ _ s.done c.self.view_is c.requires c.self.invariant.3 in
     let g : Goes s.trace (log_at s.trace s.done) d.new.phys d.new.seats (record { event = e; answer = d.new.slot.answer }) =
-    goes_from record { allowed = c.runs_are_allowed.ensures; serve = c.rows_can_serve.ensures; small = c.rows_are_small.ensures } s.trace s.phys s.seats.items (log_at s.trace s.done) c.events.ensures.limits c.self.invariant.1
+    goes_from record {
+      allowed = c.runs_are_allowed.ensures;
+      serve = c.rows_can_serve.ensures;
+      small = c.rows_are_small.ensures;
+    } s.trace s.phys s.seats.items (log_at s.trace s.done) c.events.ensures.limits c.self.invariant.1
     c.self.invariant.0
     e d.new.slot.answer d.new.phys d.new.seats s.done s.trace s.phys c.as_mut_slice-seats.result.now
     c.self.invariant.3 refl refl c.as_mut_slice-seats.ensures.value
