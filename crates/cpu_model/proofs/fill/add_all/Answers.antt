@@ -11,9 +11,9 @@ loop-order-preserved c =
     let step = c.args.source.now.step in
     let trail = c.args.source.now.trail.now in
     let rows = c.args.rows.now in
-    let d = c.row_of.result in
+    let d = c.row_of-row.result in
     let front = rows_of_step regs step trail (take l.order rows) in
-    let more = one_turn regs step trail rows l.order _ d c.loop-order-test.true c.row_of.ensures in
+    let more = one_turn regs step trail rows l.order _ d c.loop-order-test.true c.row_of-row.ensures in
     let held : Fills c.args.caches.now (front ++ d ∷ []) (l.evicted + cond c.add.result 1 0) c.add.new.self =
     held_more c.args.caches.now l.caches c.add.new.self front d l.evicted c.add.result l.invariant.0
     record { added = c.add.ensures.added; count = c.add.ensures.count } in (
