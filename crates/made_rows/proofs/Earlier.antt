@@ -8,7 +8,7 @@ use Rattle.sysregs.specs.Registers.{config_of}
 use Rattle.trails.specs.declared.item.Item.{Item}
 use Rattle.trails.specs.declared.outcome.Access.{Access}
 use Rattle.walk_spec.specs.Ask.{Fed, ended, lacks}
-use Rattle.walk_spec.specs.Needs.{Regime, Need}
+use Rattle.walk_spec.specs.Needs.{Need}
 use Rattle.walk_spec.specs.Steps.{End, stops, reaches}
 use Rattle.walk_spec.specs.Stage1.{untagged}
 use Rattle.walk_spec.specs.BothStages.{Landing}
@@ -16,7 +16,7 @@ use Rattle.translate.specs.Replayed.{stands_whole}
 use Rattle.tagged_tlb.specs.declared.row.Row.{Row}
 use Rattle.machine_spec.specs.Marks.{Mark, is_first, is_leaf1}
 use Rattle.machine_spec.specs.Made.{Maker, is_read_now, rows_by, rows_of, chain_with, last_first, leaf_row, leaf_rows, combined_rows}
-use Rattle.made_rows.specs.Met.{met, mark_for, open_ipa, next_goal, address_by}
+use Rattle.made_rows.specs.Met.{met, open_ipa, next_goal, address_by}
 use Rattle.made_rows.specs.NewRows.{MadeFor, maker_for, regime_for, met_in, StandsTo, AreMade}
 use Rattle.made_rows.proofs.PassingAll.{word_item}
 use Rattle.made_rows.proofs.Combining.{all_made}
