@@ -5,6 +5,11 @@ use Rattle.machine_spec.specs.Summary.{Summary, summary}
 use Rattle.report_text.specs.Report.{steps_text, report_text}
 use Rattle.report_text.specs.Waits.{Handed, Started}
 
+-- what was counted, of how many steps
+pub record TallyState : Type 0 where
+  pub counted : Summary
+  pub steps : ℕ
+
 -- what waits of its text, what was counted, and how many steps it has
 pub record ReportState : Type 0 where
   pub waits : List ℕ

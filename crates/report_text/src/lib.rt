@@ -4,6 +4,8 @@
 mod counts;
 mod lines;
 mod page;
+mod tally;
 mod writing;
 
+pub use tally::Tally;
 pub use writing::Report;

@@ -6,8 +6,8 @@ ghost use Rattle.report_text.specs.Report.{report_text};
 ghost use Rattle.trails.specs.Printed.{HasTextInRun};
 ghost use Rattle.report_text.specs.Reports.{IsReportOf, GoesOn};
 
-use crate::counts::Counts;
 use crate::page::{PAGE, put_step, put_summary};
+use crate::tally::Tally;
 use explain_text::{Sink, WriteFailed};
 use std::marker::Model;
 use texts::Line;
@@ -18,22 +18,20 @@ use trails::StepSlot;
 #[derive(Drop)]
 pub struct Report {
     page: Line<PAGE>,
-    counts: Counts,
-    steps: u64,
+    tally: Tally,
 }
 
 impl Model for Report {
-    ghost use Rattle.std.specs.Prelude.{◌+◌, ◌*◌, ◌^◌, ◌-◌, ◌≤◌, length};
+    ghost use Rattle.std.specs.Prelude.{◌+◌, ◌≤◌, length};
     ghost use Rattle.texts.specs.declared.line.TheConstants.{LINE};
     ghost use Rattle.report_text.specs.declared.page.TheConstants.{PAGE};
-    ghost use Rattle.report_text.specs.Bounds.{Within};
     ghost use Rattle.report_text.specs.Reports.{ReportState};
 
     ghost Value = { ReportState };
 
-    ghost view = { λ s. record { waits = s.page; counted = s.counts; steps = s.steps } };
+    ghost view = { λ s. record { waits = s.page; counted = s.tally.counted; steps = s.tally.steps } };
 
-    ghost invariant = { λ s. (length s.page + LINE ≤ PAGE) × Within (3 * s.steps) ((2 ^ 32 - 1) * s.steps) s.counts };
+    ghost invariant = { λ s. length s.page + LINE ≤ PAGE };
 }
 
 impl Report {
@@ -43,8 +41,7 @@ impl Report {
     {
         Report {
             page: Line::new(),
-            counts: Counts::none(),
-            steps: 0,
+            tally: Tally::new(),
         }
     }
 
@@ -57,9 +54,8 @@ impl Report {
         ensures steps { self.new.steps ≡ self.old.steps + 1 }
         ensures cause { HasCause (O.faults out.old) (O.faults out.new) result }
     {
-        let number = self.steps;
-        self.counts.step(step);
-        self.steps += 1;
+        let number = self.tally.steps();
+        self.tally.step(step);
         put_step(&mut self.page, out, number, step)
     }
 
@@ -69,6 +65,6 @@ impl Report {
             Wrote before (O.written out.new) result (report_text log) }
         ensures cause { HasCause (O.faults out.old) (O.faults out.new) result }
     {
-        put_summary(&mut self.page, out, &self.counts)
+        put_summary(&mut self.page, out, self.tally.counts())
     }
 }

@@ -11,10 +11,11 @@ use Rattle.machine_spec.specs.Machine.{World, opened, after_event, step_of, run_
 use Rattle.machine_laws.specs.Promise.{RunsKeepTheirPromise}
 use Rattle.machine.specs.Runs.{MachineState}
 use Rattle.machine.proofs.Steps.{all_of_cores}
-use Rattle.report_text.specs.Report.{report_text}
+use Rattle.machine_spec.specs.Summary.{summary}
+use Rattle.report_text.specs.Report.{report_text, summary_text}
 use Rattle.report_text.specs.Waits.{Started}
 use Rattle.report_text.specs.Reports.{ReportState, IsReportOf, GoesOn}
-use Rattle.run_answer.specs.Run.{IsReport}
+use Rattle.run_answer.specs.Run.{IsReport, IsSummary, summary_line}
 
 module _ (t : Parts) (limits : IsTrace t) {E : Type 0} where
   -- what a machine answers before its first event
@@ -23,6 +24,15 @@ module _ (t : Parts) (limits : IsTrace t) {E : Type 0} where
   ready_report laws (Ok m) e =
       record { limits = limits; is = ap (λ (u : Parts). report_text (run_of u.header u.events)) e; promise = laws t.header t.events (all_of_cores t limits) }
   ready_report laws (Err x) e = tt
+
+  -- the same for the last line alone
+  pub ready_summary : RunsKeepTheirPromise → (r : Result MachineState E) → IfOk r (λ m. m.trace ≡ t) → IfOk r (λ m. IsSummary t (summary_line m))
+  ready_summary laws (Ok m) e = record {
+    limits = limits;
+    is = ap (λ (u : Parts). summary_text (summary (run_of u.header u.events))) e;
+    promise = laws t.header t.events (all_of_cores t limits);
+  }
+  ready_summary laws (Err x) e = tt
 
   pub ready_printable : (r : Result MachineState E) → IfOk r (λ m. m.trace ≡ t) → IfOk r (λ m. m.log ≡ [])
       → IfOk r (λ m. (m.log ≡ []) × (length m.trace.events ≤ 2 ^ 32))

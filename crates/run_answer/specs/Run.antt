@@ -7,7 +7,9 @@ use Rattle.trace_lang.specs.Lines.{trace_of}
 use Rattle.machine_spec.specs.Machine.{run_of}
 use Rattle.machine_laws.specs.Promise.{KeepsPromise}
 use Rattle.machine.specs.Runs.{MachineState}
-use Rattle.report_text.specs.Report.{report_text}
+use Rattle.machine_spec.specs.Summary.{summary}
+use Rattle.report_text.specs.Report.{report_text, summary_text}
+use Rattle.drill.specs.Drill.{drill_of}
 use Rattle.statuses.specs.declared.status.Status.{Status}
 use Rattle.statuses.specs.declared.status.Status.TheVariants.{ReadFault, NoMemory}
 
@@ -48,3 +50,17 @@ run_text machine = report_text (run_of machine.trace.header machine.trace.events
 -- a machine is before its first event, and its steps are counted in 32 bits
 abbrev pub IsReady : MachineState → Type 0
 IsReady machine = (machine.log ≡ []) × (length machine.trace.events ≤ 2 ^ 32)
+
+-- the last line of the report of the run of a machine's trace
+abbrev pub summary_line : MachineState → List ℕ
+summary_line machine = summary_text (summary (run_of machine.trace.header machine.trace.events))
+
+-- The last line of the report of the run of a trace, which keeps the promise. The trace alone determines it.
+pub record IsSummary (trace : Parts) (text : List ℕ) : Type 0 where
+  pub limits : IsTrace trace
+  pub is : text ≡ summary_text (summary (run_of trace.header trace.events))
+  pub promise : KeepsPromise trace.header (run_of trace.header trace.events)
+
+-- that of the drill whose draws begin at a number
+abbrev pub IsDrillText : (start : ℕ) (text : List ℕ) → Type 0
+IsDrillText start text = IsSummary (drill_of start) text

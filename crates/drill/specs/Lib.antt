@@ -1,0 +1,2 @@
+pub use Rattle.trace_lang.specs.Traces
+pub mod Drill
