@@ -12,7 +12,7 @@ cp "$program" "$work/vmsa" && chmod 755 "$work/vmsa" && cp "$image" "$work/image
 export LC_ALL=C
 passed=0
 failed=0
-usage=$'usage: vmsa raw IMAGE TCR TTBR0 VA\nusage: vmsa explain REGS DUMP VA EL KIND [pan]\nusage: vmsa run TRACE\n'
+usage=$'usage: vmsa raw IMAGE TCR TTBR0 VA\nusage: vmsa explain REGS DUMP VA EL KIND [pan]\nusage: vmsa run TRACE\nusage: vmsa drill N\n'
 read_fault=$'vmsa: read fault\n'
 
 told() { # NAME IS_RIGHT

@@ -6,7 +6,7 @@ use Rattle.sysregs.specs.declared.regs.Regs.{Regs}
 use Rattle.table_reads.proofs.Weaker.{rose_weaker}
 use Rattle.dump_file.specs.Held.{Holding, Untold, Absent, Bytes, Reading, IsMissingBy}
 use Rattle.dump_file.specs.Counted.{NoneFalls}
-use Rattle.commands.specs.Asked.{Asked, Raw, Explain, Run, ExplainWords}
+use Rattle.commands.specs.Asked.{Asked, Raw, Explain, Run, Drill, ExplainWords}
 use Rattle.answers.specs.Explain.{AreRegisters, IsTextOver}
 use Rattle.answers.proofs.Passing.{registers_pass}
 use Rattle.statuses.specs.Stops.{Named, IsRefusedBy, Stops}
@@ -27,6 +27,7 @@ memory_due r None = inr refl
 memory_due r (Some (Raw a)) = by_words r (words_refusal (Raw a)) _ _
 memory_due r (Some (Explain a)) = inl tt
 memory_due r (Some (Run a)) = inl tt
+memory_due r (Some (Drill a)) = refl
 
 missing_weaker : (h : Holding) (m n o : ℕ) → m ≤ n → IsMissingBy h n o → IsMissingBy h m o
 missing_weaker Untold m n o l k = rose_weaker m n o o l (omega arith) k

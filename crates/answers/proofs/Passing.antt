@@ -3,7 +3,7 @@ use Rattle.std.proofs.Common.{ℕ, List, [], ◌∷◌, refl, ap}
 use Rattle.dump_file.specs.Held.{Holding, Untold, Absent, Bytes}
 use Rattle.sysregs.specs.declared.regs.Regs.{Regs as Registers}
 use Rattle.trails.specs.declared.outcome.Access.{Access}
-use Rattle.commands.specs.Asked.{Asked, Raw, Explain, Run, RawWords}
+use Rattle.commands.specs.Asked.{Asked, Raw, Explain, Run, Drill, RawWords}
 use Rattle.answers.specs.Raw.{IsRawText}
 use Rattle.answers.specs.Explain.{AreRegisters, IsTextOver}
 use Rattle.trace_lang.specs.Traces.{Parts}
@@ -42,3 +42,4 @@ pub text_passes : (holds : List ℕ → Holding) (a : Asked) (text : List ℕ) �
 text_passes holds (Raw a) text t = (image_passes (holds a.image) a text t, tt)
 text_passes holds (Explain a) text t = (registers_pass (holds a.registers) t.0 t.1, (dump_passes (holds a.dump) t.0 a.access text t.2, tt))
 text_passes holds (Run a) text t = (trace_passes (holds a.trace) t.0 t.1, tt)
+text_passes holds (Drill a) text t = tt

@@ -3,13 +3,13 @@ use Rattle.std.specs.Prelude.{ℕ, ◌≡◌, ◌⊎◌, List, [], ◌∷◌, Op
 use Rattle.sysregs.specs.declared.regs.Reg.TheVariants.{TcrEl1}
 use Rattle.sysregs.specs.Refused.{refused_field}
 use Rattle.dump_file.specs.Held.{Holding, Reading}
-use Rattle.commands.specs.Asked.{Asked, Raw, Explain, Run}
+use Rattle.commands.specs.Asked.{Asked, Raw, Explain, Run, Drill}
 use Rattle.statuses.specs.declared.status.Why.{Why}
 use Rattle.statuses.specs.declared.status.Why.TheVariants.{Word}
 use Rattle.statuses.specs.declared.status.Status.{Status}
 use Rattle.statuses.specs.declared.status.Status.TheVariants.{Usage, Refused, NoMemory}
 use Rattle.statuses.specs.Stops.{Named, AsImage, AsRegisters, AsDump, AsTrace, PassesBy, Stops}
-use Rattle.run_answer.specs.Run.{IsRunText}
+use Rattle.run_answer.specs.Run.{IsRunText, IsDrillText}
 use Rattle.answers.specs.Raw.{IsRawText}
 use Rattle.answers.specs.Explain.{IsExplainText}
 
@@ -20,22 +20,25 @@ abbrev pub words_refusal : Asked → Option Why
 words_refusal (Raw a) = option_map (λ field. Word (record { reg = TcrEl1; field = field })) (refused_field TcrEl1 a.tcr)
 words_refusal (Explain a) = None
 words_refusal (Run a) = None
+words_refusal (Drill a) = None
 
 -- the files of a command, in the order in which they are read
 abbrev pub files_of : Asked → List Named
 files_of (Raw a) = record { form = AsImage; name = a.image } ∷ []
 files_of (Explain a) = record { form = AsRegisters; name = a.registers } ∷ record { form = AsDump; name = a.dump } ∷ []
 files_of (Run a) = record { form = AsTrace; name = a.trace } ∷ []
+files_of (Drill a) = []
 
 -- the text that a command gives over its files
 abbrev pub IsTextOf : (holds : List ℕ → Holding) → Asked → (text : List ℕ) → Type 0
 IsTextOf holds (Raw a) text = IsRawText (holds a.image) a text
 IsTextOf holds (Explain a) text = IsExplainText (holds a.registers) (holds a.dump) a.access text
 IsTextOf holds (Run a) text = IsRunText (holds a.trace) text
+IsTextOf holds (Drill a) text = IsDrillText a.start text
 
--- one of the files may stop the command so, and all before it pass
+-- one of the files may stop the command so, and all before it pass; where there is none, want of memory alone may
 abbrev pub StopsIn : Reading → List Named → Status → Type 0
-StopsIn r [] status = ⊥
+StopsIn r [] status = status ≡ NoMemory
 StopsIn r (f ∷ fs) status = Stops r f status ⊎ (PassesBy (r.holds f.name) f.form × StopsIn r fs status)
 
 -- What is due, before anything is written: a text, or a refusal.

@@ -7,7 +7,7 @@ ghost use Rattle.answers.specs.Due.{answer_text, HasAnswerText};
 
 use explain_text::{Sink, WriteFailed, explain, put_absent, put_fault, put_items};
 use machine::Runner;
-use run_answer::play;
+use run_answer::{play, sum_up};
 use sysregs::Regs;
 use texts::{LINE, Line};
 use trails::{Access, Outcome, Trail};
@@ -35,6 +35,10 @@ pub enum Answer {
     },
     /// A trace that is run while its report is written: the machine before the first event.
     Run {
+        machine: Runner,
+    },
+    /// A drill, of which the last line is written: the machine before the first event.
+    Drill {
         machine: Runner,
     },
 }
@@ -77,7 +81,7 @@ fn raw_lines<O: Sink>(out: &mut O, va: u64, walked: &Walked) -> Result<(), Write
     out.put(line.bytes())
 }
 
-/// Writes the text of an answer at once, or that of a run in pages while it runs.
+/// Writes the text of an answer at once, that of a run in pages while it runs, and that of a drill behind its run.
 pub fn put_answer<O: Sink>(out: &mut O, answer: Answer) -> Result<(), WriteFailed>
     requires { HasAnswerText answer }
     ensures text { Wrote (O.written out.old) (O.written out.new) result (answer_text answer) }
@@ -91,5 +95,6 @@ pub fn put_answer<O: Sink>(out: &mut O, answer: Answer) -> Result<(), WriteFaile
             walked,
         } => explain(out, &regs, &access, &walked.outcome, &walked.trail),
         Answer::Run { mut machine } => play(out, &mut machine),
+        Answer::Drill { mut machine } => sum_up(out, &mut machine),
     }
 }

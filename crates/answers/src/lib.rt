@@ -2,6 +2,7 @@
 #![tactic(auto)]
 
 mod answer;
+pub mod drill;
 mod dump_words;
 pub mod explain;
 mod image;

@@ -10,10 +10,10 @@ use Rattle.clap.specs.Faults.{fault_of, is_simple_and_free, turn_fault, walk_fau
 use Rattle.clap.specs.declared.error.kind.ErrorKind.{ErrorKind}
 use Rattle.clap.specs.declared.error.kind.ErrorKind.TheVariants.{MissingRequiredArgument, UnknownArgument}
 use Rattle.clap.proofs.OnLiterals.{clap_on_literals}
-use Rattle.commands.specs.Asked.{RawWords, ExplainWords, RunWords}
-use Rattle.commands.specs.Command.{is_plain, raw_asked, explain_asked, run_asked, access_with}
+use Rattle.commands.specs.Asked.{RawWords, ExplainWords, RunWords, DrillWords}
+use Rattle.commands.specs.Command.{is_plain, raw_asked, explain_asked, run_asked, drill_asked, access_with}
 use Rattle.permissions.specs.AccessNames.{el_of, kind_of}
-use Rattle.commands.specs.Clap.{raw_app, explain_app, run_app, run_by, number_by, raw_by, explain_by, pan_by}
+use Rattle.commands.specs.Clap.{raw_app, explain_app, run_app, run_by, drill_app, drill_by, number_by, raw_by, explain_by, pan_by}
 
 pub raw_simple : is_simple raw_app ≡ true
 unfolding clap_on_literals
@@ -38,6 +38,14 @@ run_simple = refl
 pub run_free : is_simple_and_free run_app ≡ true
 unfolding clap_on_literals
 run_free = refl
+
+pub drill_simple : is_simple drill_app ≡ true
+unfolding clap_on_literals
+drill_simple = refl
+
+pub drill_free : is_simple_and_free drill_app ≡ true
+unfolding clap_on_literals
+drill_free = refl
 
 -- plain words, taken apart
 pub data Plain : List Text → Type 0 where
@@ -83,6 +91,9 @@ explain_by_texts (registers ∷ dump ∷ va ∷ el ∷ kind ∷ pan ∷ []) =
     explain_by registers dump (access_with (number_by va) (option_and_then el_of el) (option_and_then kind_of kind) (pan_by pan))
 explain_by_texts _ = None
 
+abbrev pub drill_names : List Text
+drill_names = codes "N" ∷ []
+
 abbrev pub run_by_texts : List (Option Text) → Option RunWords
 run_by_texts (trace ∷ []) = run_by trace
 run_by_texts _ = None
@@ -93,6 +104,13 @@ raw_in rows = raw_by_texts (texts_of raw_names rows)
 
 abbrev pub explain_in : List Row → Option ExplainWords
 explain_in rows = explain_by_texts (texts_of explain_names rows)
+
+abbrev pub drill_by_texts : List (Option Text) → Option DrillWords
+drill_by_texts (start ∷ []) = drill_by (number_by start)
+drill_by_texts _ = None
+
+abbrev pub drill_in : List Row → Option DrillWords
+drill_in rows = drill_by_texts (texts_of drill_names rows)
 
 abbrev pub run_in : List Row → Option RunWords
 run_in rows = run_by_texts (texts_of run_names rows)
@@ -322,3 +340,40 @@ pub run_refused : (words : List Text) → Plain words → (fault_of run_app word
 run_refused _ none f = refl
 run_refused _ (one x1 t1 _ h1 none) f = absurd (f (run_has_1 x1 t1 h1))
 run_refused _ (one x1 t1 _ h1 (one x2 t2 _ h2 p)) f = refl
+
+-- `drill`
+
+drill_has_0 : fault_of drill_app ([]) ≡ MissingRequiredArgument ∷ []
+unfolding clap_on_literals
+drill_has_0 = refl
+
+drill_has_1 : (x1 : ℕ) (t1 : List ℕ)
+    → eqb x1 45 ≡ false →
+    fault_of drill_app ((x1 ∷ t1) ∷ []) ≡ []
+unfolding clap_on_literals
+drill_has_1 x1 t1 h1 = rw h1 (rw h1 refl)
+
+drill_reads_1 : (x1 : ℕ) (t1 : List ℕ)
+    → eqb x1 45 ≡ false →
+    texts_of drill_names (matches_of drill_app ((x1 ∷ t1) ∷ [])) ≡ Some (x1 ∷ t1) ∷ []
+unfolding clap_on_literals
+drill_reads_1 x1 t1 h1 = rw h1 (rw h1 refl)
+
+drill_meets_more : (x1 x2 : ℕ) (t1 t2 : List ℕ)
+    → eqb x1 45 ≡ false → eqb x2 45 ≡ false →
+    first_fault drill_app ((x1 ∷ t1) ∷ (x2 ∷ t2) ∷ []) ≡ UnknownArgument ∷ []
+unfolding clap_on_literals
+drill_meets_more x1 x2 t1 t2 h1 h2 = simp h1 (simp h2)
+
+-- where there is no fault, the matches are what the words say
+pub drill_read : (words : List Text) → Plain words → fault_of drill_app words ≡ [] → drill_in (matches_of drill_app words) ≡ drill_asked words
+drill_read _ none e = absurd (a_fault MissingRequiredArgument [] (drill_has_0) e)
+drill_read _ (one x1 t1 _ h1 none) e = ap drill_by_texts (drill_reads_1 x1 t1 h1)
+drill_read _ (one x1 t1 _ h1 (one x2 t2 _ h2 p)) e =
+    absurd (a_fault UnknownArgument [] (fault_first drill_app ((x1 ∷ t1) ∷ (x2 ∷ t2) ∷ []) _ UnknownArgument refl (drill_meets_more x1 x2 t1 t2 h1 h2)) e)
+
+-- where there is a fault, the words are not those of `drill`
+pub drill_refused : (words : List Text) → Plain words → (fault_of drill_app words ≡ [] → ⊥) → drill_asked words ≡ None
+drill_refused _ none f = refl
+drill_refused _ (one x1 t1 _ h1 none) f = absurd (f (drill_has_1 x1 t1 h1))
+drill_refused _ (one x1 t1 _ h1 (one x2 t2 _ h2 p)) f = refl

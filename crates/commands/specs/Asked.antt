@@ -4,8 +4,9 @@ use Rattle.trails.specs.declared.outcome.Access.{Access}
 use Rattle.commands.specs.declared.raw.RawArgs.{RawArgs}
 use Rattle.commands.specs.declared.explain.ExplainArgs.{ExplainArgs}
 use Rattle.commands.specs.declared.run.RunArgs.{RunArgs}
+use Rattle.commands.specs.declared.drill.DrillArgs.{DrillArgs}
 use Rattle.commands.specs.declared.command.Command.{Command}
-use Rattle.commands.specs.declared.command.Command.TheVariants.{Raw as RawCommand, Explain as ExplainCommand, Run as RunCommand}
+use Rattle.commands.specs.declared.command.Command.TheVariants.{Raw as RawCommand, Explain as ExplainCommand, Run as RunCommand, Drill as DrillCommand}
 
 -- an EL1 read over an image is asked for: the image's name, the two registers and the virtual address
 pub record RawWords : Type 0 where
@@ -24,11 +25,16 @@ pub record ExplainWords : Type 0 where
 pub record RunWords : Type 0 where
   pub trace : List ℕ
 
+-- a drill is asked for: the number with which its draws begin
+pub record DrillWords : Type 0 where
+  pub start : ℕ
+
 -- what is asked for, command by command
 pub data Asked : Type 0 where
   Raw : RawWords → Asked
   Explain : ExplainWords → Asked
   Run : RunWords → Asked
+  Drill : DrillWords → Asked
 
 -- what the code's arguments say
 abbrev pub raw_words_of : RawArgs → RawWords
@@ -40,8 +46,12 @@ explain_words_of args = record { registers = args.registers.now; dump = args.dum
 abbrev pub run_words_of : RunArgs → RunWords
 run_words_of args = record { trace = args.trace.now }
 
+abbrev pub drill_words_of : DrillArgs → DrillWords
+drill_words_of args = record { start = args.start }
+
 -- what the code's command says
 abbrev pub asked_of : Command → Asked
 asked_of (RawCommand args) = Raw (raw_words_of args)
 asked_of (ExplainCommand args) = Explain (explain_words_of args)
 asked_of (RunCommand args) = Run (run_words_of args)
+asked_of (DrillCommand args) = Drill (drill_words_of args)

@@ -1,5 +1,5 @@
 -- Each command as `clap` sees it: positional arguments, of which the last may be left out where it says so.
-use Rattle.std.specs.Prelude.{ℕ, List, [], ◌≡◌, ◌≢◌, Option, Some, None, Bool, true, false, codes, option_and_then}
+use Rattle.std.specs.Prelude.{ℕ, List, [], ◌≡◌, ◌≢◌, Option, Some, None, Bool, true, false, codes, option_and_then, option_map}
 use Rattle.clap.specs.Walk.{Rule, Row, Text, first_of, rows_of}
 use Rattle.clap.specs.Simple.{App, new_app, new_rule, with_rule, on_top, matches_of}
 use Rattle.clap.specs.Faults.{fault_of}
@@ -8,7 +8,7 @@ use Rattle.clap.specs.declared.parser.matches.ArgMatches.{ArgMatches}
 use Rattle.trails.specs.declared.outcome.Access.{Access}
 use Rattle.texts.specs.Numbers.{number_of}
 use Rattle.permissions.specs.AccessNames.{el_of, kind_of}
-use Rattle.commands.specs.Asked.{RawWords, ExplainWords, RunWords}
+use Rattle.commands.specs.Asked.{RawWords, ExplainWords, RunWords, DrillWords}
 use Rattle.commands.specs.Command.{raw_with, pan_of, access_with, explain_with}
 
 -- an argument that has to be there
@@ -34,6 +34,9 @@ explain_app = with_access (with_rule (with_rule (bare (codes "explain")) (needed
 
 abbrev pub run_app : App
 run_app = with_rule (bare (codes "run")) (needed (codes "TRACE"))
+
+abbrev pub drill_app : App
+drill_app = with_rule (bare (codes "drill")) (needed (codes "N"))
 
 -- what a command makes of words: nothing where it finds a fault in them, else its matches
 abbrev pub IsMatched : (app : App) (words : List Text) (matches : Option ArgMatches) → Type 0
@@ -70,3 +73,7 @@ explain_by None dump access = None
 abbrev pub run_by : (trace : Option Text) → Option RunWords
 run_by (Some trace) = Some (record { trace = trace })
 run_by None = None
+
+-- `drill` by its number
+abbrev pub drill_by : (start : Option ℕ) → Option DrillWords
+drill_by start = option_map (λ n. record { start = n }) start

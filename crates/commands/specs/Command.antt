@@ -8,7 +8,7 @@ use Rattle.permissions.specs.declared.bits.Kind.{Kind}
 use Rattle.permissions.specs.AccessNames.{el_of, kind_of}
 use Rattle.trails.specs.declared.outcome.Access.{Access}
 use Rattle.texts.specs.Numbers.{number_of}
-use Rattle.commands.specs.Asked.{RawWords, ExplainWords, RunWords, Asked, Raw, Explain, Run}
+use Rattle.commands.specs.Asked.{RawWords, ExplainWords, RunWords, DrillWords, Asked, Raw, Explain, Run, Drill}
 
 -- not empty, and no `-` in front
 abbrev pub is_plain : (word : List ℕ) → Bool
@@ -50,13 +50,19 @@ abbrev pub run_asked : (words : List (List ℕ)) → Option RunWords
 run_asked (trace ∷ []) = Some (record { trace = trace })
 run_asked _ = None
 
+-- the word behind `drill`: N
+abbrev pub drill_asked : (words : List (List ℕ)) → Option DrillWords
+drill_asked (start ∷ []) = option_map (λ n. record { start = n }) (number_of start)
+drill_asked _ = None
+
 -- the first word names the command
 abbrev pub named : (words : List (List ℕ)) → Option Asked
 named [] = None
 named (name ∷ rest) =
     if bytes_eq name (codes "raw") then option_map Raw (raw_asked rest)
     else (if bytes_eq name (codes "explain") then option_map Explain (explain_asked rest)
-    else (if bytes_eq name (codes "run") then option_map Run (run_asked rest) else None))
+    else (if bytes_eq name (codes "run") then option_map Run (run_asked rest)
+    else (if bytes_eq name (codes "drill") then option_map Drill (drill_asked rest) else None)))
 
 -- a command and its arguments, all words plain
 abbrev pub command_of : (words : List (List ℕ)) → Option Asked

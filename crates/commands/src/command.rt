@@ -3,6 +3,7 @@ ghost use Rattle.std.specs.List.{list_all};
 ghost use Rattle.commands.specs.Asked.{asked_of};
 ghost use Rattle.commands.specs.Command.{command_of, is_plain, named};
 
+use crate::drill::{DrillArgs, drill};
 use crate::explain::{ExplainArgs, explain};
 use crate::raw::{RawArgs, raw};
 use crate::run::{RunArgs, run};
@@ -15,6 +16,7 @@ pub enum Command<'a> {
     Raw(RawArgs<'a>),
     Explain(ExplainArgs<'a>),
     Run(RunArgs<'a>),
+    Drill(DrillArgs),
 }
 
 fn plain(word: &str) -> bool
@@ -48,13 +50,18 @@ fn named_command(alloc: Global, words: &[String]) -> Result<Option<Command<'_>>,
         Ok(explain(alloc, rest)?.map(Command::Explain))
     } else if name.as_str() == "run" {
         Ok(run(alloc, rest)?.map(Command::Run))
+    } else if name.as_str() == "drill" {
+        match drill(alloc, rest)? {
+            Some(args) => Ok(Some(Command::Drill(args))),
+            None => Ok(None),
+        }
     } else {
         Ok(None)
     }
 }
 
 /// What the words after the program's name ask for: `raw IMAGE TCR TTBR0 VA`,
-/// `explain REGS DUMP VA EL KIND [pan]` or `run TRACE`. None where they are no command. An empty word, or one that begins with `-`, stands in none.
+/// `explain REGS DUMP VA EL KIND [pan]`, `run TRACE` or `drill N`. None where they are no command. An empty word, or one that begins with `-`, stands in none.
 pub fn read_command(alloc: Global, words: &[String]) -> Result<Option<Command<'_>>, NoMemory>
     ensures { IfOk result (λ command. option_map asked_of command ≡ command_of (map string_bytes words.now)) }
 {

@@ -9,7 +9,7 @@ use Rattle.machine_laws.specs.Promise.{KeepsPromise}
 use Rattle.machine.specs.Runs.{MachineState}
 use Rattle.machine_spec.specs.Summary.{summary}
 use Rattle.report_text.specs.Report.{report_text, summary_text}
-use Rattle.drill.specs.Drill.{drill_of}
+use Rattle.drill_trace.specs.Drill.{drill_of}
 use Rattle.statuses.specs.declared.status.Status.{Status}
 use Rattle.statuses.specs.declared.status.Status.TheVariants.{ReadFault, NoMemory}
 

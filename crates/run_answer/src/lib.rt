@@ -1,8 +1,8 @@
 //! A trace that is read from a file and run while its report is written.
 #![tactic(auto)]
 
-mod drill;
+mod drilled;
 mod run;
 
-pub use drill::{drill, sum_up};
+pub use drilled::{drill, sum_up};
 pub use run::{play, ready, trace};

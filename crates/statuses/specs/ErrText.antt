@@ -85,7 +85,7 @@ abbrev pub usage_text : List ℕ
 usage_text =
     joined_text
     (codes "usage: vmsa raw IMAGE TCR TTBR0 VA\n" ∷ codes "usage: vmsa explain REGS DUMP VA EL KIND [pan]\n" ∷
-    codes "usage: vmsa run TRACE\n" ∷ [])
+    codes "usage: vmsa run TRACE\n" ∷ codes "usage: vmsa drill N\n" ∷ [])
 
 -- the lines of a status, for standard error
 abbrev pub err_text : Status → List ℕ

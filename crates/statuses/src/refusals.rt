@@ -194,7 +194,8 @@ fn refused_line<E: Sink>(err: &mut E, why: &Why) -> Result<(), WriteFailed>
 
 /// How the program is called: a line for each command.
 const USAGE: &[u8] =
-    b"usage: vmsa raw IMAGE TCR TTBR0 VA\nusage: vmsa explain REGS DUMP VA EL KIND [pan]\nusage: vmsa run TRACE\n";
+    b"usage: vmsa raw IMAGE TCR TTBR0 VA\nusage: vmsa explain REGS DUMP VA EL KIND [pan]\nusage: vmsa run TRACE\n\
+      usage: vmsa drill N\n";
 
 /// The lines of a status. Done and WriteFault have none.
 pub fn error_line<E: Sink>(err: &mut E, status: &Status) -> Result<(), WriteFailed>

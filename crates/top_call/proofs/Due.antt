@@ -51,7 +51,7 @@ module _ (r : Reading) where
 
   -- files that surely pass stop nothing
   pass_in : (fs : List Named) (status : Status) → AllPass r fs → StopsIn r fs status → status ≡ NoMemory
-  pass_in [] status p t = absurd t
+  pass_in [] status p t = t
   pass_in (f ∷ fs) status p (inl t) = passes_stops f status p.0 p.1 t
   pass_in (f ∷ fs) status p (inr t) = pass_in fs status p.2 t.1
 
@@ -127,16 +127,16 @@ module _ (r : Reading) where
   text_ends a None want text e s t = surely_pass (files_of a) want s (text_passes r.holds a text t)
 
   -- neither Done nor WriteFault nor Usage ends a command
-  ends_not : (x : Status) → ((f : Named) → Stops r f x → ⊥) → (fs : List Named) → StopsIn r fs x → ⊥
-  ends_not x g [] t = t
-  ends_not x g (f ∷ fs) (inl t) = g f t
-  ends_not x g (f ∷ fs) (inr t) = ends_not x g fs t.1
+  ends_not : (x : Status) → x ≢ NoMemory → ((f : Named) → Stops r f x → ⊥) → (fs : List Named) → StopsIn r fs x → ⊥
+  ends_not x m g [] t = m t
+  ends_not x m g (f ∷ fs) (inl t) = g f t
+  ends_not x m g (f ∷ fs) (inr t) = ends_not x m g fs t.1
 
   ends_by : (x : Status) (o : Option Why) (fs : List Named) → ((why : Why) → x ≢ Refused why) → x ≢ NoMemory → ((f : Named) → Stops r f x → ⊥)
       → MayEndBy r o fs x → ⊥
   ends_by x (Some why) fs n m g (inl e) = n why e
   ends_by x (Some why) fs n m g (inr e) = m e
-  ends_by x None fs n m g t = ends_not x g fs t
+  ends_by x None fs n m g t = ends_not x m g fs t
 
   never_done : (asked : Option Asked) → IsDue r asked (Err Done) → ⊥
   never_done None (inl e) = cc

@@ -7,6 +7,7 @@ ghost use Rattle.top_call.specs.Clauses.{Tells};
 ghost use Rattle.top_call.specs.Clauses.{UsageWhere, RefusedWhere, NoFileWhere, ReadFaultWhere, WriteFaultWhere, DoneWhere, IsQuiet, IsComplete};
 ghost use Rattle.answers.specs.Due.{due_of, HasAnswerText};
 
+use answers::drill::drill;
 use answers::explain::explain;
 use answers::raw::raw;
 use answers::run::run;
@@ -28,6 +29,7 @@ fn due<F: Files>(alloc: Global, words: &[String], files: &mut F) -> Result<Answe
         Ok(Some(Command::Raw(asked))) => raw(alloc, &asked, files),
         Ok(Some(Command::Explain(asked))) => explain(alloc, &asked, files),
         Ok(Some(Command::Run(asked))) => run(alloc, &asked, files),
+        Ok(Some(Command::Drill(asked))) => drill(alloc, &asked),
     }
 }
 

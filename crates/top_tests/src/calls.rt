@@ -119,7 +119,8 @@ fn tells_of_writes_that_fail(rt: HostRuntime) -> Result<(), Fail> {
 }
 
 const USAGE: &[u8] = b"usage: vmsa raw IMAGE TCR TTBR0 VA\n\
-    usage: vmsa explain REGS DUMP VA EL KIND [pan]\nusage: vmsa run TRACE\n";
+    usage: vmsa explain REGS DUMP VA EL KIND [pan]\nusage: vmsa run TRACE\n\
+    usage: vmsa drill N\n";
 
 /// Words, their status and its line, over a trace `r`.
 struct Refusal(&'static str, u8, &'static [u8]);

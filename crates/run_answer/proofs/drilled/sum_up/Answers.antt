@@ -1,10 +1,10 @@
-use Rattle.std.proofs.Common.{◌≡◌, ◌≤◌, length, ap, ◌∙◌, subst, arith}
+use Rattle.std.proofs.Common.{◌≤◌, length, ap, ◌∙◌, subst, arith}
 use Rattle.std.proofs.lemmas.List.{take_all}
 use Rattle.explain_text.specs.Written.{Wrote}
 use Rattle.machine_spec.specs.Machine.{run_of}
 use Rattle.machine_spec.specs.Summary.{summary}
 use Rattle.report_text.specs.Report.{summary_text}
-use Rattle.run_answer.proofs.drill.sum_up.Goals as goal
+use Rattle.run_answer.proofs.drilled.sum_up.Goals as goal
 
 pub returns-clause-text : goal.returns-clause-text
 returns-clause-text g c =

@@ -1,7 +1,7 @@
 use Rattle.std.proofs.Common.{◌≡◌, ◌+◌, ◌++◌, map}
 use Rattle.std.specs.Prelude.{vec_len, vec_capacity}
-use Rattle.drill.specs.Drill.{level2_at, upto}
-use Rattle.drill.proofs.drill.put_level2.Given as goal
+use Rattle.drill_trace.specs.Drill.{level2_at, upto}
+use Rattle.drill_trace.proofs.drill.put_level2.Given as goal
 
 abbrev pub invariant-loop-i : goal.invariant-loop-i
 invariant-loop-i l =

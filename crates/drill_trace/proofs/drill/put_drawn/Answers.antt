@@ -1,7 +1,7 @@
 use Rattle.std.proofs.Common.{◌∙◌, arith}
-use Rattle.drill.specs.Drill.{drawn_events}
-use Rattle.drill.proofs.Lists.{drawn_more, all_drawn}
-use Rattle.drill.proofs.drill.put_drawn.Goals as goal
+use Rattle.drill_trace.specs.Drill.{drawn_events}
+use Rattle.drill_trace.proofs.Lists.{drawn_more, all_drawn}
+use Rattle.drill_trace.proofs.drill.put_drawn.Goals as goal
 
 pub loop-event-preserved : goal.loop-event-preserved
 loop-event-preserved c =

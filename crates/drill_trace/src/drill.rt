@@ -1,8 +1,8 @@
 ghost use Rattle.std.specs.Prelude.{◌≡◌, ◌+◌, ◌*◌, ◌/◌, ◌%◌, ◌<◌, ◌≤◌, ◌^◌, ◌++◌, map, IfOk, vec_len, vec_capacity};
 ghost use Rattle.trails.specs.declared.event.Event.TheVariants.{Store};
-ghost use Rattle.drill.specs.declared.drill.TheConstants.{DRAWN};
-ghost use Rattle.drill.specs.Drill.{word_place, page_place, top, level2_at, leaf_at, register_by, register_at, upto, setup};
-ghost use Rattle.drill.specs.Drill.{next, drawn, read_of, event_by, event_after, behind_event, events_from, drawn_events, drill_of};
+ghost use Rattle.drill_trace.specs.declared.drill.TheConstants.{DRAWN};
+ghost use Rattle.drill_trace.specs.Drill.{word_place, page_place, top, level2_at, leaf_at, register_by, register_at, upto, setup};
+ghost use Rattle.drill_trace.specs.Drill.{next, drawn, read_of, event_by, event_after, behind_event, events_from, drawn_events, drill_of};
 
 use bitwords::NoMemory;
 use permissions::{El, Kind};
@@ -203,7 +203,7 @@ fn put_drawn(events: &mut Vec<Event>, start: u64)
 
 /// The trace of the drill whose draws begin at a number: four cores with small caches access 64 pages, and meanwhile their
 /// descriptors change, with invalidations or without. It has 20,086 events.
-pub fn drill_trace(alloc: Global, start: u64) -> Result<Trace, NoMemory>
+pub fn made_trace(alloc: Global, start: u64) -> Result<Trace, NoMemory>
     ensures { IfOk result (λ t. t ≡ drill_of start) }
 {
     let Ok(mut events) = Vec::with_capacity(alloc, SETUP + DRAWN) else {

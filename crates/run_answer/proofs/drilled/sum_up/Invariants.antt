@@ -1,7 +1,7 @@
 use Rattle.std.proofs.Common.{◌≡◌, length, take}
 use Rattle.machine_spec.specs.Machine.{run_of}
 use Rattle.machine_spec.specs.Summary.{summary}
-use Rattle.run_answer.proofs.drill.sum_up.Given as goal
+use Rattle.run_answer.proofs.drilled.sum_up.Given as goal
 
 -- so many steps were done of the trace that was handed in, and they are counted
 abbrev pub invariant-loop-k : goal.invariant-loop-k

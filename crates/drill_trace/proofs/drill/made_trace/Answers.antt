@@ -3,10 +3,10 @@ use Rattle.trails.specs.declared.event.Event.TheVariants.{Store}
 use Rattle.trace_lang.specs.declared.header.Size.TheVariants.{Small}
 use Rattle.trace_lang.specs.declared.header.Policy.TheVariants.{Fifo}
 use Rattle.trace_lang.specs.Traces.{IsTrace, parts_of}
-use Rattle.drill.specs.Drill.{level2_at, leaf_at, register_at, upto, setup, events_from, drawn_events}
-use Rattle.drill.proofs.Lists.{joined}
-use Rattle.drill.proofs.Fits.{drill_fits}
-use Rattle.drill.proofs.drill.drill_trace.Goals as goal
+use Rattle.drill_trace.specs.Drill.{level2_at, leaf_at, register_at, upto, setup, events_from, drawn_events}
+use Rattle.drill_trace.proofs.Lists.{joined}
+use Rattle.drill_trace.proofs.Fits.{drill_fits}
+use Rattle.drill_trace.proofs.drill.made_trace.Goals as goal
 
 pub of-requires : goal.of-requires
 of-requires c =

@@ -1,7 +1,7 @@
 use Rattle.std.proofs.Common.{◌≡◌, ◌+◌, ◌-◌, ◌++◌}
 use Rattle.std.specs.Prelude.{vec_len, vec_capacity}
-use Rattle.drill.specs.Drill.{events_from, drawn_events}
-use Rattle.drill.proofs.drill.put_drawn.Given as goal
+use Rattle.drill_trace.specs.Drill.{events_from, drawn_events}
+use Rattle.drill_trace.proofs.drill.put_drawn.Given as goal
 
 abbrev pub invariant-loop-event : goal.invariant-loop-event
 invariant-loop-event l =

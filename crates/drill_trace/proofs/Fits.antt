@@ -13,8 +13,8 @@ use Rattle.phys_mem.specs.Memory.{is_aligned}
 use Rattle.trace_lang.specs.declared.header.Size.TheVariants.{Small}
 use Rattle.trace_lang.specs.declared.header.Policy.TheVariants.{Fifo}
 use Rattle.trace_lang.specs.Traces.{Header, IsTrace, EventFits, RangesFitBehind, is_within}
-use Rattle.drill.specs.Drill.{word_place, setup, next, drawn, event_by, event_after, behind_event, events_from, drawn_events, drill_of}
-use Rattle.drill.proofs.Lists.{count_drawn}
+use Rattle.drill_trace.specs.Drill.{word_place, setup, next, drawn, event_by, event_after, behind_event, events_from, drawn_events, drill_of}
+use Rattle.drill_trace.proofs.Lists.{count_drawn}
 
 abbrev ranges : List (ℕ × ℕ)
 ranges = (0, 0x200000) ∷ []

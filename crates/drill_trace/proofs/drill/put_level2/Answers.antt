@@ -1,7 +1,7 @@
 use Rattle.std.proofs.Common.{◌∙◌, arith}
-use Rattle.drill.specs.Drill.{level2_at}
-use Rattle.drill.proofs.Lists.{grown}
-use Rattle.drill.proofs.drill.put_level2.Goals as goal
+use Rattle.drill_trace.specs.Drill.{level2_at}
+use Rattle.drill_trace.proofs.Lists.{grown}
+use Rattle.drill_trace.proofs.drill.put_level2.Goals as goal
 
 pub loop-i-preserved : goal.loop-i-preserved
 loop-i-preserved c =

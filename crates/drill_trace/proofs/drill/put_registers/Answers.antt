@@ -1,7 +1,7 @@
 use Rattle.std.proofs.Common.{◌∙◌, arith}
-use Rattle.drill.specs.Drill.{register_at}
-use Rattle.drill.proofs.Lists.{grown}
-use Rattle.drill.proofs.drill.put_registers.Goals as goal
+use Rattle.drill_trace.specs.Drill.{register_at}
+use Rattle.drill_trace.proofs.Lists.{grown}
+use Rattle.drill_trace.proofs.drill.put_registers.Goals as goal
 
 pub loop-k-preserved : goal.loop-k-preserved
 loop-k-preserved c =

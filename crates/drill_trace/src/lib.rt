@@ -3,4 +3,4 @@
 
 mod drill;
 
-pub use drill::drill_trace;
+pub use drill::made_trace;

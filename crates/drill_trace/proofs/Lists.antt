@@ -4,7 +4,7 @@ use Rattle.std.proofs.Common.{append_assoc, append-nil, arith}
 use Rattle.std.proofs.lemmas.List.{take_more}
 use Rattle.std.proofs.lemmas.List.FromFn.{length-map-range_with_len, get_or-map-range_with_len, take-map-range_with_len}
 use Rattle.trails.specs.declared.event.Event.{Event}
-use Rattle.drill.specs.Drill.{upto, event_after, behind_event, events_from}
+use Rattle.drill_trace.specs.Drill.{upto, event_after, behind_event, events_from}
 
 -- a list that grows by what a function gives of each number
 pub grown : (f : ℕ → Event) (n k : ℕ) (old now new : List Event) (e : Event) → k < n → now ≡ old ++ map f (upto k) → e ≡ f k → new ≡ now ++ e ∷ []

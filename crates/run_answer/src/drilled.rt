@@ -5,7 +5,7 @@ ghost use Rattle.explain_text.specs.Written.{Wrote};
 ghost use Rattle.run_answer.specs.Run.{IsDrillText, IsReady, summary_line};
 
 use bitwords::NoMemory;
-use drill::drill_trace;
+use drill_trace::made_trace;
 use explain_text::{Sink, WriteFailed};
 use machine::Runner;
 use machine_laws::runs_keep_their_promise;
@@ -19,7 +19,7 @@ pub fn drill(alloc: Global, start: u64) -> Result<Runner, NoMemory>
     ensures printable { IfOk result (λ m. IsReady m) }
 {
     runs_keep_their_promise();
-    Runner::opened(alloc, drill_trace(alloc, start)?)
+    Runner::opened(alloc, made_trace(alloc, start)?)
 }
 
 /// Runs a machine to the end of its trace, and writes the last line of its report.
