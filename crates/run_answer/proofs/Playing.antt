@@ -27,6 +27,7 @@ module _ (t : Parts) (limits : IsTrace t) {E : Type 0} where
 
   -- the same for the last line alone
   pub ready_summary : RunsKeepTheirPromise → (r : Result MachineState E) → IfOk r (λ m. m.trace ≡ t) → IfOk r (λ m. IsSummary t (summary_line m))
+  unfolding summary_line
   ready_summary laws (Ok m) e = record {
     limits = limits;
     is = ap (λ (u : Parts). summary_text (summary (run_of u.header u.events))) e;

@@ -52,7 +52,7 @@ abbrev pub IsReady : MachineState → Type 0
 IsReady machine = (machine.log ≡ []) × (length machine.trace.events ≤ 2 ^ 32)
 
 -- the last line of the report of the run of a machine's trace
-abbrev pub summary_line : MachineState → List ℕ
+unfoldable pub summary_line : MachineState → List ℕ
 summary_line machine = summary_text (summary (run_of machine.trace.header machine.trace.events))
 
 -- The last line of the report of the run of a trace, which keeps the promise. The trace alone determines it.

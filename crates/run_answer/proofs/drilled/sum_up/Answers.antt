@@ -4,9 +4,11 @@ use Rattle.explain_text.specs.Written.{Wrote}
 use Rattle.machine_spec.specs.Machine.{run_of}
 use Rattle.machine_spec.specs.Summary.{summary}
 use Rattle.report_text.specs.Report.{summary_text}
+use Rattle.run_answer.specs.Run.{summary_line}
 use Rattle.run_answer.proofs.drilled.sum_up.Goals as goal
 
 pub returns-clause-text : goal.returns-clause-text
+unfolding summary_line
 returns-clause-text g c =
     let i = c.loop-k.invariant in
     let t = c.args.machine.now.trace in
