@@ -10,3 +10,4 @@ pub mod Stood
 pub mod Passing
 pub mod PassingAll
 pub mod Combining
+pub mod Earlier

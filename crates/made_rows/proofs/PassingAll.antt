@@ -21,7 +21,7 @@ use Rattle.made_rows.specs.NewRows.{MadeFor, maker_for, regime_for, row_from, ro
 use Rattle.made_rows.specs.NewRows.{AreKnown, HasLeaf, mark_in, met_in, Passed, PassedAll}
 
 -- the item of a mark
-word_item : (r : Regime) (s : Stage) (x : ℕ) (i : Item) (w : What) → (mark_of_word r s x i w).item ≡ i
+pub word_item : (r : Regime) (s : Stage) (x : ℕ) (i : Item) (w : What) → (mark_of_word r s x i w).item ≡ i
 unfolding mark
 word_item r s x i Base = refl
 word_item r s x i Word = refl

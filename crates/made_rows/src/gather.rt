@@ -1,6 +1,7 @@
 //! All rows that a step makes, in the order of its trail.
-ghost use Rattle.std.specs.Prelude.{◌≡◌, ℕ, ◌+◌, ◌/◌, ◌<◌, ◌≤◌, ◌^◌, List, Option, true, [], All};
+ghost use Rattle.std.specs.Prelude.{◌≡◌, ◌==◌, ℕ, ◌+◌, ◌/◌, ◌<◌, ◌≤◌, ◌^◌, List, Option, true, [], All};
 ghost use Rattle.std.specs.Prelude.{length, Some, None, IfSome, if◌then◌else◌, vec_len, vec_capacity};
+ghost use Rattle.std.specs.List.{list_any};
 ghost use Rattle.fault_codes.specs.declared.fault.Stage.TheVariants.{S1, S2};
 ghost use Rattle.sysregs.specs.Registers.{config_of};
 ghost use Rattle.trails.specs.Lengths.{most_items};
@@ -225,8 +226,15 @@ pub struct Walked<'a> {
     pub is_mapped: bool,
 }
 
+/// Whether an item was read in a step.
+fn has_new(trail: &[Item], step: u32) -> bool
+    ensures { result ≡ list_any (λ i. i.moment == step) trail.now }
+{
+    trail.iter().any(|item| item.moment == step)
+}
+
 /// The rows that a step makes whose access was walked under registers in force: into an empty list with room for them, in the
-/// order in which they are made. The trail stands on the walk of the access.
+/// order in which they are made. The trail stands on the walk of the access. Where no item was read in this step, there are none.
 pub fn rows_made(force: &InForce, walked: &Walked, step: u32, rows: &mut Vec<NewRow>)
     requires most { length walked.now.trail.now ≤ most_items }
     requires empty { rows.old.items ≡ [] }
@@ -237,6 +245,9 @@ pub fn rows_made(force: &InForce, walked: &Walked, step: u32, rows: &mut Vec<New
     ensures most { vec_len rows.new ≤ length walked.now.trail.now + 1 }
     ensures capacity { vec_capacity rows.new ≡ vec_capacity rows.old }
 {
+    if !has_new(walked.trail, step) {
+        return;
+    }
     let making = Making::of(force, walked.access, step);
     let stand = pass_all(&making, walked.trail, rows);
     if !walked.is_mapped {

@@ -7,6 +7,10 @@ use Rattle.walk_spec.specs.Stage1.{untagged}
 use Rattle.machine_spec.specs.Made.{leaf_rows}
 use Rattle.made_rows.specs.Pieces.{after1, after2, IsPiece}
 use Rattle.made_rows.specs.NewRows.{MadeFor, maker_for, regime_for, one_from, AreKnown, HasLeaf, met_in, PassedAll, AreMade}
+use Rattle.std.specs.Prelude.{All, IfSome}
+use Rattle.std.proofs.lemmas.List.Elements.{All-push}
+use Rattle.made_rows.specs.NewRows.{IsSmall}
+use Rattle.made_rows.proofs.Earlier.{none_made}
 use Rattle.made_rows.proofs.PassingAll.{listed}
 use Rattle.made_rows.proofs.Combining.{trail_known, all_made, none_mapped, one_mapped}
 use Rattle.made_rows.proofs.gather.rows_made.Goals as goal
@@ -64,3 +68,14 @@ returns-in_default-clause-made c =
     (λ l q. c.leaf_row.ensures.row _ _ class trail l q refl) p.leaf piece) in
     subst (AreMade regs c.args.step a trail end) (ap (λ o. rows ++ listed o) c.in_default.is ∙ append-nil rows)
     (all_made regs c.args.step a trail end h rows (listed c.leaf_row.result) p.rows_are one)
+
+pub returns-then-not-has_new-clause-made : goal.returns-then-not-has_new-clause-made
+returns-then-not-has_new-clause-made c = λ end h m.
+    subst (AreMade c.args.force.now c.args.step c.args.walked.now.access.now c.args.walked.now.trail.now end) (sym c.requires.empty)
+    (none_made c.args.force.now c.args.step c.args.walked.now.access.now c.args.walked.now.trail.now end h
+    (sym c.has_new.ensures ∙ c.if-not-has_new.true))
+
+pub returns-in-Some-clause-small : goal.returns-in-Some-clause-small
+returns-in-Some-clause-small c =
+    subst (All IsSmall) (sym c.push_reserved.ensures.items) (All-push IsSmall c.pass_all-stand.new.rows.items c.in-Some.row c.pass_all-stand.ensures.small
+    (subst (λ o. IfSome o IsSmall) c.in-Some.is (c.leaf_row.ensures.small c.pass_all-stand.ensures.leaf)))

@@ -34,7 +34,8 @@ returns-in-Leaf2-clause-added g c =
     let old : SetsByKind = record { leaf1 = s.leaf1; table1 = s.table1; leaf2 = s.leaf2; table2 = s.table2 } in
     let got = c.add-in-Leaf2 in
     rw (← c.self.view_is)
-    (λ h core l fits same at f. comes Leaf2 g.row.LEAVES2 g.row.WAYS h fits.leaf2 core l c.args.row.now (own ∙ c.in-Leaf2.is) old (record old { leaf2 = got.new.self })
+    (λ h core l fits same at f. comes Leaf2 g.row.LEAVES2 g.row.WAYS h fits.leaf2 core l c.args.row.now (own
+    ∙ c.in-Leaf2.is) old (record old { leaf2 = got.new.self })
     (rest_leaf2 old got.new.self) f got.result got.new.by (λ shapes tied. got.ensures.added h core l same shapes at tied))
 
 pub returns-in-Table2-clause-added : goal.returns-in-Table2-clause-added
