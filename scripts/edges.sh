@@ -396,5 +396,50 @@ else
     echo 'edges: no prlimit, so want of memory for a run was not tried'
 fi
 
+# The drill, against a run of its trace, which is made here once more.
+drill_trace() { # N
+    local x=$1 i j c page event
+    printf 'cores 4\nmemory 0x0 0x200000\ncaches small\npolicy fifo\nstore 0 0x1000 0x2003\nstore 0 0x2008 0x3003\n'
+    for i in {0..3}; do printf 'store 0 %d %d\n' $((0x3000 + 8 * i)) $((0x4003 + 0x1000 * i)); done
+    for i in {0..3}; do
+        for j in {0..15}; do
+            printf 'store 0 %d %d\n' $((0x4000 + 0x1000 * i + 8 * j)) $((0x100000 + 0x1000 * (16 * i + j) + (j % 2 ? 0xc03 : 0x403)))
+        done
+    done
+    for c in {0..3}; do
+        printf 'msr %d TCR_EL1 0x10\nmsr %d TTBR0_EL1 %d\nmsr %d SCTLR_EL1 0x1\nisb %d\n' $c $c $((0x1000 + ((c + 1) << 48))) $c $c
+    done
+    draw() { x=$((x * 6364136223846793005 + 1442695040888963407)); drawn=$(((x >> 33 & 0x7fffffff) % $1)); }
+    for event in {1..20000}; do
+        draw 16; local turn=$drawn
+        draw 4; c=$drawn
+        draw 4; i=$drawn
+        draw 16; j=$drawn
+        page=$((0x40000000 + 0x200000 * i + 0x1000 * j))
+        case $turn in
+        10) echo "prefetch $c el1 read $page" ;;
+        11) echo "store $c $((0x4000 + 0x1000 * i + 8 * j)) $((0x100000 + 0x1000 * (16 * j + i) + 0x403))" ;;
+        12) echo "tlbi $c el1 VAAE1IS $((page / 4096))" ;;
+        13) echo "dsb $c ish" ;;
+        14) echo "deliver $c" ;;
+        15) echo "tlbi $c el1 VMALLE1" ;;
+        *) echo "access $c el1 read $page" ;;
+        esac
+    done
+    echo end
+}
+for start in 0 1 0x1 18446744073709551615; do
+    drill_trace $start >trace
+    ./vmsa run trace >out 2>err
+    told "the trace of drill $start" "$([ $? = 0 ] && [ ! -s err ] && [ "$(wc -l <trace)" = 20091 ] && echo yes)"
+    runs "drill $start" 0 "$(tail -n 1 out)"$'\n' '' drill $start
+done
+runs 'a drill without a number' 2 '' "$usage" drill
+runs 'a drill of a number too large' 2 '' "$usage" drill 18446744073709551616
+runs 'a drill of two words' 2 '' "$usage" drill 1 1
+: >out; : >err
+./vmsa drill 1 >/dev/full 2>err
+compare 'a drill and standard output is full' $? 6 '' ''
+
 echo "edges: $passed passed, $failed failed"
 [ "$failed" = 0 ]
