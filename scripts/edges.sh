@@ -368,7 +368,8 @@ printf '%s# %0199d\nend\n' "$header" 0 >trace && told_trace 'a line of 201 bytes
 { printf '%s' "$header"; yes 'isb 0' | head -n 50001; echo end; } >trace && told_trace '50,001 events' 'line 50005: too many'
 { printf '%s%s%s' "$header" "$stores" "$on"; yes 'access 0 el1 read 0x40201abc' | head -n 49992; echo end; } >trace
 ./vmsa run trace >out 2>err
-told 'a report of 50,000 events' "$([ $? = 0 ] && [ ! -s err ] && [ "$(wc -l <out)" = 349945 ] && [ "$(tail -n 1 out)" = "$(summary 49992 49992 0)" ] && echo yes)"
+told 'a report of 50,000 events' \
+    "$([ $? = 0 ] && [ ! -s err ] && [ "$(wc -l <out)" = 349945 ] && [ "$(tail -n 1 out)" = "$(summary 49992 49992 0)" ] && echo yes)"
 cp out whole
 : >err
 ./vmsa run trace 2>err | cat >out

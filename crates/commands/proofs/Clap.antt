@@ -370,7 +370,8 @@ pub drill_read : (words : List Text) → Plain words → fault_of drill_app word
 drill_read _ none e = absurd (a_fault MissingRequiredArgument [] (drill_has_0) e)
 drill_read _ (one x1 t1 _ h1 none) e = ap drill_by_texts (drill_reads_1 x1 t1 h1)
 drill_read _ (one x1 t1 _ h1 (one x2 t2 _ h2 p)) e =
-    absurd (a_fault UnknownArgument [] (fault_first drill_app ((x1 ∷ t1) ∷ (x2 ∷ t2) ∷ []) _ UnknownArgument refl (drill_meets_more x1 x2 t1 t2 h1 h2)) e)
+    absurd (a_fault UnknownArgument [] (fault_first drill_app ((x1 ∷ t1) ∷ (x2 ∷ t2) ∷
+    []) _ UnknownArgument refl (drill_meets_more x1 x2 t1 t2 h1 h2)) e)
 
 -- where there is a fault, the words are not those of `drill`
 pub drill_refused : (words : List Text) → Plain words → (fault_of drill_app words ≡ [] → ⊥) → drill_asked words ≡ None

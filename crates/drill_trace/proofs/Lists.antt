@@ -1,5 +1,6 @@
 -- Events that come one by one.
-use Rattle.std.proofs.Common.{◌≡◌, ℕ, zero, suc, ◌+◌, ◌-◌, ◌<◌, ◌≤◌, List, [], ◌∷◌, ◌++◌, length, map, get_or, refl, sym, ap, ◌∙◌}
+use Rattle.std.proofs.Common.{◌≡◌, ℕ, zero, suc, ◌+◌, ◌-◌, ◌<◌, ◌≤◌, List, []}
+use Rattle.std.proofs.Common.{◌∷◌, ◌++◌, length, map, get_or, refl, sym, ap, ◌∙◌}
 use Rattle.std.proofs.Common.{append_assoc, append-nil, arith}
 use Rattle.std.proofs.lemmas.List.{take_more}
 use Rattle.std.proofs.lemmas.List.FromFn.{length-map-range_with_len, get_or-map-range_with_len, take-map-range_with_len}
@@ -7,7 +8,8 @@ use Rattle.trails.specs.declared.event.Event.{Event}
 use Rattle.drill_trace.specs.Drill.{upto, event_after, behind_event, events_from}
 
 -- a list that grows by what a function gives of each number
-pub grown : (f : ℕ → Event) (n k : ℕ) (old now new : List Event) (e : Event) → k < n → now ≡ old ++ map f (upto k) → e ≡ f k → new ≡ now ++ e ∷ []
+pub grown : (f : ℕ → Event) (n k : ℕ) (old now new : List Event) (e : Event) → k < n → now ≡ old ++ map f (upto k) → e ≡ f k
+    → new ≡ now ++ e ∷ []
     → new ≡ old ++ map f (upto (k + 1))
 grown f n k old now new e lt is one more =
     let whole = map f (upto n) in
@@ -48,7 +50,8 @@ count_drawn zero x = refl
 count_drawn (suc n) x = (let e = count_drawn n (behind_event x) in omega (arith, e))
 
 -- what was put one behind the other
-pub joined : {X : Type 0} (first : List X) (x y : X) (a b c d now put2 put3 put4 put5 put6 : List X) → first ≡ [] → now ≡ first ++ x ∷ [] → put2 ≡ now ++ y ∷ []
+pub joined : {X : Type 0} (first : List X) (x y : X) (a b c d now put2 put3 put4 put5 put6 : List X) → first ≡ [] → now ≡ first ++ x ∷ []
+    → put2 ≡ now ++ y ∷ []
     → put3 ≡ put2 ++ a → put4 ≡ put3 ++ b → put5 ≡ put4 ++ c → put6 ≡ put5 ++ d → put6 ≡ ((x ∷ y ∷ []) ++ (a ++ (b ++ c))) ++ d
 joined first x y a b c d now put2 put3 put4 put5 put6 e f g i j k l =
     let two : put2 ≡ x ∷ y ∷ [] = g ∙ ap (λ z. z ++ y ∷ []) (f ∙ ap (λ z. z ++ x ∷ []) e) in

@@ -1,5 +1,6 @@
 -- The trace of the drill: four cores whose tables change while they access memory through them (this project's own rule).
-use Rattle.std.specs.Prelude.{ℕ, zero, suc, ◌+◌, ◌*◌, ◌/◌, ◌%◌, ◌^◌, ◌==◌, nat_lt, true, false, if◌then◌else◌, List, [], ◌∷◌, ◌++◌, map}
+use Rattle.std.specs.Prelude.{ℕ, zero, suc, ◌+◌, ◌*◌, ◌/◌, ◌%◌, ◌^◌, ◌==◌, nat_lt, true}
+use Rattle.std.specs.Prelude.{false, if◌then◌else◌, List, [], ◌∷◌, ◌++◌, map}
 use Rattle.std.specs.List.{range_with_len}
 use Rattle.sysregs.specs.declared.regs.Reg.TheVariants.{TcrEl1, Ttbr0El1, SctlrEl1}
 use Rattle.sysregs.specs.declared.regs.Op.TheVariants.{Vaae1, Vmalle1}

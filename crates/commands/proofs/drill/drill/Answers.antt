@@ -16,4 +16,5 @@ returns-in-Some c =
     let words : List (List ℕ) = map string_bytes c.args.words.now in
     let taken : IsMatched drill_app words (Some c.in-Some.m) = subst (λ (a : App). IsMatched a words (Some c.in-Some.m)) c.in-Ok.ensures
     (subst (IsMatched (app_of c.in-Ok.command) words) c.in-Some.is c.in_ok-matched.ensures) in
-    c.drill_from.ensures ∙ rw (c.number_in.ensures ∙ ap number_by c.text_of.ensures) refl ∙ ap drill_in taken.1 ∙ drill_read words (plain_words words c.requires) taken.0
+    c.drill_from.ensures ∙ rw (c.number_in.ensures ∙ ap number_by c.text_of.ensures) refl ∙ ap drill_in taken.1
+    ∙ drill_read words (plain_words words c.requires) taken.0
