@@ -397,6 +397,40 @@ else
     echo 'edges: no prlimit, so want of memory for a run was not tried'
 fi
 
+# Limits of a run: an inbox and a queue have room for 64, and the oldest goes where one more comes.
+read=$'access 0 el1 read 0x40201abc\n'
+ends_with() { # NAME LINES: the run of the file trace ends with these lines
+    timeout 20 ./vmsa run trace >out 2>err
+    told "$1" "$([ $? = 0 ] && [ ! -s err ] && [ "$(tail -n "$(wc -l <<<"$2")" out)" = "$2" ] && echo yes)"
+}
+full_inbox() { # MESSAGES: a page whose descriptor goes, its invalidation, and so many others
+    printf '%s%s%s%sstore 0 0x4008 0x0\ntlbi 0 el1 VAE1 0x40201\n' "${header/none/small}" "$stores" "$on" "$read"
+    yes 'tlbi 0 el1 VAE1 0x1' | head -n "$1"
+    printf '%send\n' "$read"
+}
+full_inbox 63 >trace
+ends_with 'an inbox of 64' 'mapped 0x5abc el0 --x el1 rwx device-nGnRnE osh
+summary accesses 2 prefetches 0 mapped 2 faulted 0 conflicts 0 old 1 stale 1 evicted 0'
+full_inbox 64 >trace
+ends_with 'a full inbox' 's1 word level 3 at 0x4008 value 0x0 moment 75
+fault stage 1 level 3 translation fsc 0x07
+summary accesses 2 prefetches 0 mapped 1 faulted 1 conflicts 0 old 0 stale 0 evicted 0'
+full_queue() { # WRITES: a write of a base that waits, and so many others
+    printf '%s%s%smsr 0 TTBR0_EL1 0x6000\n' "$header" "$stores" "$on"
+    yes 'msr 0 MAIR_EL1 0x0' | head -n "$1"
+    printf '%send\n' "$read"
+}
+full_queue 63 >trace
+ends_with 'a queue of 64' 'mapped 0x5abc el0 --x el1 rwx device-nGnRnE osh
+summary accesses 1 prefetches 0 mapped 1 faulted 0 conflicts 0 old 0 stale 0 evicted 0'
+full_queue 64 >trace
+ends_with 'a full queue' 's1 base level 0 at 0x6000 moment 73
+s1 word level 0 at 0x6000 value 0x0 moment 73
+fault stage 1 level 0 translation fsc 0x04
+summary accesses 1 prefetches 0 mapped 0 faulted 1 conflicts 0 old 0 stale 0 evicted 0'
+{ printf 'cores 8\nmemory 0x0 0x1000\ncaches large\npolicy lru\n'; yes 'tlbi 0 el2 ALLE1IS' | head -n 50000; echo end; } >trace
+ends_with '400,000 messages' "$(summary 0 0 0)"
+
 # The drill, against a run of its trace, which is made here once more.
 drill_trace() { # N
     local x=$1 i j c page event

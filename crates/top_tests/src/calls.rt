@@ -50,6 +50,29 @@ const RUN_TEXT: &[u8] = b"event 9 core 0 access 0x40201abc el1 read asid 0x0 vmi
     fault stage 1 level 0 translation fsc 0x04\n\
     summary accesses 2 prefetches 0 mapped 1 faulted 1 conflicts 0 old 0 stale 0 evicted 0\n";
 
+const OLD: &str = "run d";
+/// A row serves a page whose descriptor is no more.
+const OLD_TRACE: &[u8] = b"cores 1\nmemory 0x0 0x10000\ncaches small\npolicy fifo\n\
+    store 0 0x1000 0x2003\nstore 0 0x2008 0x3003\nstore 0 0x3008 0x4003\nstore 0 0x4008 0x5403\n\
+    msr 0 TCR_EL1 0x10\nmsr 0 TTBR0_EL1 0x1000\nmsr 0 SCTLR_EL1 0x1\nisb 0\n\
+    access 0 el1 read 0x40201abc\nstore 0 0x4008 0x0\naccess 0 el1 read 0x40201abc\nend\n";
+
+const OLD_TEXT: &[u8] = b"event 8 core 0 access 0x40201abc el1 read asid 0x0 vmid 0x0\n\
+    s1 base level 0 at 0x1000 moment 8\n\
+    s1 word level 0 at 0x1000 value 0x2003 moment 8\n\
+    s1 word level 1 at 0x2008 value 0x3003 moment 8\n\
+    s1 word level 2 at 0x3008 value 0x4003 moment 8\n\
+    s1 word level 3 at 0x4008 value 0x5403 moment 8\n\
+    mapped 0x5abc el0 --x el1 rwx device-nGnRnE osh\n\
+    event 10 core 0 access 0x40201abc el1 read asid 0x0 vmid 0x0\n\
+    s1 base level 0 at 0x1000 moment 8\n\
+    s1 word level 0 at 0x1000 value 0x2003 moment 8\n\
+    s1 word level 1 at 0x2008 value 0x3003 moment 8\n\
+    s1 word level 2 at 0x3008 value 0x4003 moment 8\n\
+    s1 word level 3 at 0x4008 value 0x5403 moment 8\n\
+    mapped 0x5abc el0 --x el1 rwx device-nGnRnE osh\n\
+    summary accesses 2 prefetches 0 mapped 2 faulted 0 conflicts 0 old 1 stale 1 evicted 0\n";
+
 /// The files of a command.
 fn files(alloc: Global, command: &str) -> Result<Vec<MemoryFile>, AllocError> {
     if command == EXPLAIN {
@@ -58,16 +81,20 @@ fn files(alloc: Global, command: &str) -> Result<Vec<MemoryFile>, AllocError> {
     if command == RUN {
         return one(alloc, "r", TRACE);
     }
+    if command == OLD {
+        return one(alloc, "d", OLD_TRACE);
+    }
     one(alloc, "r", memory(alloc, 0x5000, &TABLES)?.as_slice())
 }
 
 /// A command, its text, and how many calls of files it makes.
 struct Case(&'static str, &'static [u8], u64);
 
-const CASES: [Case; 3] = [
+const CASES: [Case; 4] = [
     Case(RAW, RAW_TEXT, 5),
     Case(EXPLAIN, EXPLAIN_TEXT, 10),
     Case(RUN, RUN_TEXT, 3),
+    Case(OLD, OLD_TEXT, 3),
 ];
 
 #[test]
