@@ -4,18 +4,25 @@ use Rattle.std.proofs.Common.{◌&&◌, List, [], ◌∷◌, ◌++◌, take, len
 use Rattle.std.proofs.Common.{map, replicate, refl, ap, sym, ◌∙◌, subst, arith, inl, inr}
 use Rattle.std.specs.Prelude.{◌==◌, ◌*◌, ◌%◌, ◌^◌, filter, bit_or}
 use Rattle.std.specs.List.{remove}
-use Rattle.std.specs.Int.{bit_at}
+use Rattle.std.specs.Int.{bit_at, trailing_zeros}
 use Rattle.std.proofs.lemmas.Bool.{cases_eq, eq-eqb, eqb-true, and_parts, both_ways}
 use Rattle.std.specs.Int.Count.{count_leading_zeros}
 use Rattle.std.proofs.Math.Pow.{pow-lt}
 use Rattle.std.proofs.lemmas.Nat.{leading_length}
-use Rattle.std.proofs.lemmas.Nat.Bits.{bit_at_set_same, bit_at_set_other, bit_at-zero, bit_at_above}
+use Rattle.std.proofs.lemmas.Nat.Bits.{bit_at_set_same, bit_at_set_other, bit_at-zero, bit_at_above, bit_at-trailing_zeros}
 use Rattle.std.proofs.Common.{w64}
 use Rattle.std.proofs.lemmas.List.{get_or-set_same, get_or-set_other}
 use Rattle.tagged_tlb.specs.declared.row.Row.{Row}
 use Rattle.tagged_tlb.specs.declared.row.Sought.{Sought}
 use Rattle.tagged_tlb.specs.Slots.{hit, is_keyed_row, IsFilled}
 use Rattle.tagged_tlb.specs.Classes.{is_marked, AllMarked, AreMarked, AreEmpty}
+
+-- BITS
+
+-- no class is marked below the lowest bit that is set
+pub start_below : (m : ℕ) → m < 2 ^ 64 → (k : ℕ) → k < trailing_zeros w64 m → is_marked m k ≡ false
+start_below zero fits k h = ap (λ b. b == 1) (bit_at-zero k)
+start_below (suc m) fits k h = ap (λ b. b == 1) ((bit_at-trailing_zeros w64 (suc m) (omega arith) fits).2 k h)
 
 -- LISTS
 

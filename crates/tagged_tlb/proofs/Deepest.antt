@@ -218,6 +218,15 @@ none_of_class d sets k n q live told f c some marks marked no_mark h =
     (λ v. q.at / 2 ^ c % n < v) (sym f.count) lt) marked) in
     one_up (is_sought k q) c live h (sym (class_rows d sets k n q live told f c lt) ∙ empty)
 
+-- no row has a class below the first that may be there
+pub none_of_first : (d : Row) (sets : List (List Row)) (k : Kind) (n : ℕ) (q : Sought) (live : List Row) (told : AreToldApart live) (f : IsTied k n live sets)
+    → 0 < n → (marks : ℕ) → AreMarked marks sets → (c : ℕ) → ((j : ℕ) → j < c → is_marked marks j ≡ false) → NoneBelow (is_sought k q) c live
+none_of_first d sets k n q live told f some marks marked zero bare = from_zero (is_sought k q) live
+none_of_first d sets k n q live told f some marks marked (suc c) bare =
+    let e : c + 1 ≡ suc c = omega arith in
+    subst (λ v. NoneBelow (is_sought k q) v live) e (none_of_class d sets k n q live told f c some marks marked (bare c (omega arith))
+    (none_of_first d sets k n q live told f some marks marked c (λ j h. bare j (omega (arith, h)))))
+
 -- no row has a class from one on
 pub none_of_classes : (d : Row) (sets : List (List Row)) (k : Kind) (n : ℕ) (q : Sought) (live : List Row) (told : AreToldApart live)
     (f : IsTied k n live sets) → 0 < n

@@ -309,6 +309,15 @@ module _ (d : Row) (sets : List (List Row)) where
     pub first_class : IsBest Nothing (by_making (filter (below 0) live))
     first_class = record { seen = tt; are = sym (ap (λ v. take 2 (by_making v)) (none live)) }
 
+    -- nor below the first that may be there
+    pub no_first : (c marks : ℕ) → 0 < n → AreMarked marks sets → ((k : ℕ) → k < c → is_marked marks k ≡ false)
+        → IsBest Nothing (by_making (filter (below c) live))
+    no_first zero marks some marked no_marks = first_class
+    no_first (suc c) marks some marked no_marks =
+        let e : c + 1 ≡ suc c = omega arith in
+        subst (λ v. IsBest Nothing (by_making (filter (below v) live))) e
+        (no_class c marks Nothing some marked (no_marks c (omega arith)) (no_first c marks some marked (λ k h. no_marks k (omega (arith, h)))))
+
     -- all classes are below 64
     all_by : (r : Row) (b : Bool) → r.region.class < 64 → (b && nat_lt r.region.class 64) ≡ b
     all_by r true h = lt_yes r.region.class 64 h

@@ -54,6 +54,14 @@ fn is_marked(classes: u64, class: u32) -> bool
     (classes >> class) & 1 == 1
 }
 
+/// Where the classes begin of which a row may be there.
+fn start_of(classes: u64) -> u32
+    ensures most { result ≤ 64 }
+    ensures below { (class : ℕ) → class < result → Classes.is_marked classes class ≡ false }
+{
+    classes.trailing_zeros()
+}
+
 /// Where the classes end of which a row may be there.
 fn end_of(classes: u64) -> u32
     ensures most { result ≤ 64 }
@@ -93,7 +101,7 @@ fn search<const SETS: usize, const WAYS: usize>(
         IsTied kind SETS live sets.now → found_rows d sets.now result ≡ take 2 (matching (is_sought kind sought) live) }
 {
     let mut found = Found::Nothing;
-    for class in 0..end_of(classes) {
+    for class in start_of(classes)..end_of(classes) {
         if is_marked(classes, class) {
             let start = sought.at >> class;
             let set = (start % SETS as u64) as usize;
@@ -118,7 +126,7 @@ fn search_deepest<const SETS: usize, const WAYS: usize>(
     ensures least { (d : declared_row.Row) → (kind : declared_kind.Kind) → (live : List declared_row.Row) → AreToldApart live → AreSmall live →
         IsTied kind SETS live sets.now → option_map (seen_row d sets.now) result ≡ deepest (is_sought kind sought) live }
 {
-    for class in 0..end_of(classes) {
+    for class in start_of(classes)..end_of(classes) {
         if is_marked(classes, class) {
             let start = sought.at >> class;
             let set = (start % SETS as u64) as usize;
