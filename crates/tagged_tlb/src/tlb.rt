@@ -89,7 +89,7 @@ fn kill_each<const WAYS: usize>(sets: &mut [Set<WAYS>], inval: &Inval) -> bool
 fn search<const SETS: usize, const WAYS: usize>(
     sets: &[Set<WAYS>],
     classes: u64,
-    sought: Sought,
+    sought: &Sought,
 ) -> Found
     requires some { 0 < SETS }
     requires sets { length sets.now ≡ SETS }
@@ -98,14 +98,14 @@ fn search<const SETS: usize, const WAYS: usize>(
     ensures stand { (d : declared_row.Row) → (kind : declared_kind.Kind) → (live : List declared_row.Row) → AreToldApart live →
         IsTied kind SETS live sets.now → AllSeen (λ s. Stands kind SETS s.slot.set s.made live (seen_row d sets.now s)) result }
     ensures best { (d : declared_row.Row) → (kind : declared_kind.Kind) → (live : List declared_row.Row) → AreToldApart live → AreSmall live →
-        IsTied kind SETS live sets.now → found_rows d sets.now result ≡ take 2 (matching (is_sought kind sought) live) }
+        IsTied kind SETS live sets.now → found_rows d sets.now result ≡ take 2 (matching (is_sought kind sought.now) live) }
 {
     let mut found = Found::Nothing;
     for class in start_of(classes)..end_of(classes) {
         if is_marked(classes, class) {
             let start = sought.at >> class;
             let set = (start % SETS as u64) as usize;
-            found = sets[set].look(set, &sought, class, start, found);
+            found = sets[set].look(set, sought, class, start, found);
         }
     }
     found
@@ -115,7 +115,7 @@ fn search<const SETS: usize, const WAYS: usize>(
 fn search_deepest<const SETS: usize, const WAYS: usize>(
     sets: &[Set<WAYS>],
     classes: u64,
-    sought: Sought,
+    sought: &Sought,
 ) -> Option<Seen>
     requires some { 0 < SETS }
     requires sets { length sets.now ≡ SETS }
@@ -124,13 +124,13 @@ fn search_deepest<const SETS: usize, const WAYS: usize>(
     ensures stands { (d : declared_row.Row) → (kind : declared_kind.Kind) → (live : List declared_row.Row) → IsTied kind SETS live sets.now →
         IfSome result (λ s. Stands kind SETS s.slot.set s.made live (seen_row d sets.now s)) }
     ensures least { (d : declared_row.Row) → (kind : declared_kind.Kind) → (live : List declared_row.Row) → AreToldApart live → AreSmall live →
-        IsTied kind SETS live sets.now → option_map (seen_row d sets.now) result ≡ deepest (is_sought kind sought) live }
+        IsTied kind SETS live sets.now → option_map (seen_row d sets.now) result ≡ deepest (is_sought kind sought.now) live }
 {
     for class in start_of(classes)..end_of(classes) {
         if is_marked(classes, class) {
             let start = sought.at >> class;
             let set = (start % SETS as u64) as usize;
-            match sets[set].first_way(&sought, class, start) {
+            match sets[set].first_way(sought, class, start) {
                 Some(way) => {
                     let made = sets[set].made(way);
                     let slot = Slot { set, way };
@@ -244,7 +244,7 @@ impl<const SETS: usize, const WAYS: usize> Tlb<SETS, WAYS> {
         ensures best { (d : declared_row.Row) → (kind : declared_kind.Kind) → (live : List declared_row.Row) → AreToldApart live → AreSmall live →
             IsTied kind SETS live self.now → found_rows d self.now result ≡ take 2 (matching (is_sought kind sought.now) live) }
     {
-        search::<SETS, WAYS>(self.sets.as_slice(), self.classes, *sought)
+        search::<SETS, WAYS>(self.sets.as_slice(), self.classes, sought)
     }
 
     /// The row of the smallest region that matches.
@@ -256,7 +256,7 @@ impl<const SETS: usize, const WAYS: usize> Tlb<SETS, WAYS> {
         ensures least { (d : declared_row.Row) → (kind : declared_kind.Kind) → (live : List declared_row.Row) → AreToldApart live → AreSmall live →
             IsTied kind SETS live self.now → option_map (seen_row d self.now) result ≡ deepest (is_sought kind sought.now) live }
     {
-        search_deepest::<SETS, WAYS>(self.sets.as_slice(), self.classes, *sought)
+        search_deepest::<SETS, WAYS>(self.sets.as_slice(), self.classes, sought)
     }
 
     /// The trail of the row at a place of a set.
