@@ -220,7 +220,8 @@ none_of_class d sets k n q live told f c some marks marked no_mark h =
 
 -- no row has a class below the first that may be there
 pub none_of_first : (d : Row) (sets : List (List Row)) (k : Kind) (n : ℕ) (q : Sought) (live : List Row) (told : AreToldApart live) (f : IsTied k n live sets)
-    → 0 < n → (marks : ℕ) → AreMarked marks sets → (c : ℕ) → ((j : ℕ) → j < c → is_marked marks j ≡ false) → NoneBelow (is_sought k q) c live
+    → 0 < n → (marks : ℕ) → AreMarked marks sets → (c : ℕ) → ((j : ℕ) → j < c → is_marked marks j ≡ false)
+    → NoneBelow (is_sought k q) c live
 none_of_first d sets k n q live told f some marks marked zero bare = from_zero (is_sought k q) live
 none_of_first d sets k n q live told f some marks marked (suc c) bare =
     let e : c + 1 ≡ suc c = omega arith in

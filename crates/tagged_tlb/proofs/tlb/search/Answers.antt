@@ -9,8 +9,9 @@ use Rattle.tagged_tlb.proofs.tlb.search.Goals.{then-is_marked, else-is_marked}
 
 pub loop-class-init : goal.loop-class-init
 loop-class-init g c = (
-  (λ d kind live told f. no_first d c.args.sets.now kind g.row.SETS c.args.sought.now live told f c.start_of-class.result c.args.classes c.requires.some c.requires.marked
-      c.start_of-class.ensures.below),
+  (λ d kind live told f.
+      no_first d c.args.sets.now kind g.row.SETS c.args.sought.now live told f c.start_of-class.result c.args.classes c.requires.some
+      c.requires.marked c.start_of-class.ensures.below),
   tt,
   c.start_of-class.ensures.most,
 )
@@ -45,7 +46,8 @@ returns-clause-best g c = λ d kind live told small f.
     let more = pow_mono past in
     let above : c.args.classes < 2 ^ c.loop-class.class = omega (arith, c.end_of-class-end.ensures.above, more) in
     last_class d c.args.sets.now kind g.row.SETS c.args.sought.now live told f c.loop-class.found small
-    (no_classes d c.args.sets.now kind g.row.SETS c.args.sought.now live told f (64 - c.loop-class.class) c.loop-class.class c.args.classes c.loop-class.found gap
+    (no_classes d c.args.sets.now kind g.row.SETS c.args.sought.now live told f
+    (64 - c.loop-class.class) c.loop-class.class c.args.classes c.loop-class.found gap
     c.requires.some c.requires.marked above (c.loop-class.invariant.0 d kind live told f))
 
 pub returns-clause-stand : goal.returns-clause-stand

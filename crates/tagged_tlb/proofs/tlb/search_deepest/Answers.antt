@@ -12,7 +12,8 @@ use Rattle.tagged_tlb.proofs.tlb.search_deepest.Goals.{then-is_marked+in-None, e
 
 pub loop-class-init : goal.loop-class-init
 loop-class-init g c = (
-  λ kind live told f. none_of_first (some_row c.args.sought.now.key kind) c.args.sets.now kind g.row.SETS c.args.sought.now live told f c.requires.some c.args.classes
+  λ kind live told f.
+      none_of_first (some_row c.args.sought.now.key kind) c.args.sets.now kind g.row.SETS c.args.sought.now live told f c.requires.some c.args.classes
       c.requires.marked c.start_of-class.result c.start_of-class.ensures.below,
   c.start_of-class.ensures.most,
 )
