@@ -1,6 +1,7 @@
 #!/usr/bin/env python3
 """bench.py TRACE PROGRAM.. [--times N]   the cost of N runs (5) of `PROGRAM run TRACE`
-bench.py table A B [--times N]         a Markdown table of both programs' cost on many traces of traces.py
+bench.py table A B [--times N] [--rows] a Markdown table of both programs' cost on many traces of traces.py: without rows, of
+                                       many lengths, or with --rows of 50,000 events on 8 cores, of each size and policy
 
 Programs take turns, and their output goes to /dev/null. Of one trace: median, mean and least of user+sys, medians of user,
 of sys and of wall time, page faults, and peak memory; for a program named twin also of `run --quiet TRACE`. In the table:
@@ -17,6 +18,7 @@ import time
 
 NULL = [(os.POSIX_SPAWN_OPEN, 1, "/dev/null", os.O_WRONLY, 0)]
 HEADS = ["user+sys A, ms", "B", "A / B", "M instructions A", "B", "A / B", "page faults A", "B", "peak A, MB", "B"]
+POLICIES = ["lru", "fifo", "random 0x1"]
 MEMORY = {64: "64 KB", 4 << 10: "4 MB", 64 << 10: "64 MB"}
 
 
@@ -90,35 +92,51 @@ def row(asked, times):
     return pair("%.2f", *times_of_both) + pair("%.1f", *map(instructions, asked)) + faults + peaks
 
 
-def write_trace(path, stages, events, cores, memory):
+def by_length():
+    """The traces without rows: the cells that name each, and what traces.py is asked for."""
+    for stages, events, cores, memory in itertools.product((1, 2), (1000, 10000, 50000), (1, 2, 8), MEMORY):
+        asked = ["big", str(events), str(cores), "4", "--memory", str(memory)]
+        asked += ["--stage2"] * (stages - 1) + ["--pages", "16"] * (memory == 64)     # 64 KB have room for few tables
+        yield ["%d" % stages, "{:,}".format(events), "%d" % cores, MEMORY[memory]], asked
+
+
+def by_size():
+    """The same of the traces with rows."""
+    for stages, (size, policy) in itertools.product((1, 2), itertools.product(("small", "medium", "large"), POLICIES)):
+        asked = ["big", "50000", "8", "4", "--caches", size, "--policy", policy] + ["--stage2"] * (stages - 1)
+        yield ["%d" % stages, size, policy], asked
+
+
+def write_trace(path, asked):
     maker = os.path.join(os.path.dirname(os.path.abspath(__file__)), "traces.py")
-    asked = ["big", str(events), str(cores), "4", "--memory", str(memory)]
-    asked += ["--stage2"] * (stages - 1) + ["--pages", "16"] * (memory == 64)     # 64 KB have room for few tables
     with open(path, "wb") as file:
         subprocess.run([sys.executable, maker] + asked, stdout=file, check=True)
 
 
-def table(a, b, times):
+def table(a, b, times, rows):
     print("A is %s, B is %s; medians of %d turns.\n" % (os.path.basename(a), os.path.basename(b), times))
-    print("| " + " | ".join(["stages", "events", "cores", "memory"] + HEADS) + " |")
-    print("|---" * (4 + len(HEADS)) + "|")
+    names = ["stages", "caches", "policy"] if rows else ["stages", "events", "cores", "memory"]
+    print("| " + " | ".join(names + HEADS) + " |")
+    print("|---" * (len(names) + len(HEADS)) + "|")
     with tempfile.TemporaryDirectory() as folder:
         path = os.path.join(folder, "t")
-        for stages, events, cores, memory in itertools.product((1, 2), (1000, 10000, 50000), (1, 2, 8), MEMORY):
-            write_trace(path, stages, events, cores, memory)
-            cells = ["%d" % stages, "{:,}".format(events), "%d" % cores, MEMORY[memory]]
+        for cells, asked in by_size() if rows else by_length():
+            write_trace(path, asked)
             print("| " + " | ".join(cells + row([[a, "run", path], [b, "run", path]], times)) + " |", flush=True)
 
 
 def main():
     words = sys.argv[1:]
     times = 5
+    rows = "--rows" in words
+    if rows:
+        words.remove("--rows")
     if "--times" in words:
         at = words.index("--times")
         times = int(words[at + 1])
         del words[at:at + 2]
     if len(words) == 3 and words[0] == "table":
-        table(words[1], words[2], times)
+        table(words[1], words[2], times, rows)
     elif len(words) >= 2 and words[0] != "table":
         asked = list(commands(words[1:], words[0]))
         for command, costs in zip(asked, in_turns(asked, times)):
