@@ -47,8 +47,8 @@ pub struct Answer<'a> {
     pub asid: u16,
     pub vmid: u16,
     pub trail: &'a Trail,
-    /// The other trail of a conflict.
-    pub second: &'a Trail,
+    /// What it met, with the other trail of a conflict.
+    pub met: &'a Met,
     pub outcome: Outcome,
     pub marks: Marks,
 }
@@ -64,14 +64,17 @@ pub struct Marks {
 
 /// A core: its registers, the writes that wait, and its inbox of invalidations, each with the
 /// oldest first; and its rows, None where it keeps none.
-struct Core {
+pub struct Core {
     regs: Regs,
     context: Context,
-    rows: Option<Rows>,
+    pub rows: Option<Rows>,
     /// Whether `context` is that of the registers in force.
     is_current: bool,
     queue: VecDeque<(Reg, u64)>,
     inbox: VecDeque<Invalidation>,
+    /// How often one more came while so many waited.
+    pub full_queues: u64,
+    pub full_inboxes: u64,
 }
 
 impl Core {
@@ -85,6 +88,8 @@ impl Core {
             is_current: true,
             queue: VecDeque::with_capacity(MOST_WAITING),
             inbox: VecDeque::with_capacity(MOST_WAITING),
+            full_queues: 0,
+            full_inboxes: 0,
         }
     }
 
@@ -101,6 +106,7 @@ impl Core {
     /// A register write waits behind the others.
     fn msr(&mut self, reg: Reg, value: u64) {
         if self.queue.len() == MOST_WAITING {
+            self.full_queues += 1;
             self.settle();
         }
         self.queue.push_back((reg, value));
@@ -122,6 +128,7 @@ impl Core {
     /// An invalidation comes in.
     fn post(&mut self, invalidation: Invalidation) {
         if self.inbox.len() == MOST_WAITING {
+            self.full_inboxes += 1;
             self.deliver();
         }
         self.inbox.push_back(invalidation);
@@ -150,9 +157,9 @@ impl Core {
 }
 
 /// The cores and the memory, and what each access uses again.
-struct Machine {
+pub struct Machine {
     memory: Memory,
-    cores: Vec<Core>,
+    pub cores: Vec<Core>,
     trail: Trail,
     met: Met,
 }
@@ -216,8 +223,7 @@ impl Machine {
             Some(_) => by_rows(actor, moment, access, memory, trail, met),
         };
         let Key { asid, vmid, .. } = actor.context.key;
-        let second = &met.second;
-        Answer { moment, core, access, is_prefetch, asid, vmid, trail, second, outcome, marks }
+        Answer { moment, core, access, is_prefetch, asid, vmid, trail, met, outcome, marks }
     }
 
     /// A TLBI reaches its own core, or all of them.
@@ -274,13 +280,13 @@ fn by_rows(
     (outcome, Marks { old, stale, evicted })
 }
 
-/// Runs a trace and tells each answer as soon as it is there.
-pub fn run<E>(trace: &Trace, mut tell: impl FnMut(&Answer) -> Result<(), E>) -> Result<(), E> {
+/// Runs a trace and tells each answer as soon as it is there. Answers the machine at the end.
+pub fn run<E>(trace: &Trace, mut tell: impl FnMut(&Answer) -> Result<(), E>) -> Result<Machine, E> {
     let mut machine = Machine::new(trace);
     for (moment, event) in (0..).zip(&trace.events) {
         if let Some(answer) = machine.step(moment, event) {
             tell(&answer)?;
         }
     }
-    Ok(())
+    Ok(machine)
 }

@@ -1,4 +1,5 @@
 //! `twin run [--quiet] TRACE`: does what `vmsa run TRACE` does, in plain Rust.
+//! `twin counts TRACE`: runs the trace too, and tells only how often it reached what.
 
 mod attrs;
 mod machine;
@@ -7,12 +8,14 @@ mod parse;
 mod regs;
 mod report;
 mod rows;
+mod tally;
 mod text;
 mod tlbi;
 mod walk;
 
 use crate::parse::{Reader, Refusal, Trace, MOST_BYTES};
 use crate::report::{Counts, Report};
+use crate::tally::Tally;
 use std::fs::File;
 use std::io::{self, ErrorKind, Write};
 use std::os::unix::fs::FileExt;
@@ -48,8 +51,15 @@ impl Failure {
     }
 }
 
-/// The words of the command line: the trace's name, and whether the report is left out.
-fn command() -> Option<(String, bool)> {
+/// What is told of a run.
+enum Told {
+    Report,
+    Mapped,
+    Counts,
+}
+
+/// The words of the command line: the trace's name, and what is told.
+fn command() -> Option<(String, Told)> {
     let words = std::env::args_os().skip(1);
     let mut words: Vec<String> =
         words.map(|word| word.into_string().ok()).collect::<Option<_>>()?;
@@ -57,12 +67,16 @@ fn command() -> Option<(String, bool)> {
     if quiet {
         words.remove(1);
     }
-    match words.as_slice() {
-        [run, name] if run == "run" && !name.is_empty() && !name.starts_with('-') => {
-            Some((words.swap_remove(1), quiet))
-        }
-        _ => None,
-    }
+    let [command, name] = words.as_slice() else {
+        return None;
+    };
+    let told = match command.as_str() {
+        "run" if quiet => Told::Mapped,
+        "run" => Told::Report,
+        "counts" if !quiet => Told::Counts,
+        _ => return None,
+    };
+    (!name.is_empty() && !name.starts_with('-')).then(|| (name.clone(), told))
 }
 
 /// The bytes of a trace file, read once to its size. One that tells no size may have as many as
@@ -120,11 +134,32 @@ fn count(trace: &Trace) -> io::Result<()> {
     writeln!(io::stdout(), "{}", counts.mapped)
 }
 
+/// Runs a trace and writes how often it reached what; one that is refused reached nothing.
+fn tally(trace: Result<Trace, Failure>) -> Result<(), Failure> {
+    let mut tally = Tally::new();
+    match trace {
+        Ok(trace) => {
+            let machine = machine::run(&trace, |answer| -> io::Result<()> {
+                tally.answer(answer);
+                Ok(())
+            });
+            tally.machine(&trace, &machine.map_err(|_| Failure::Write)?);
+        }
+        Err(Failure::Refused(_)) => tally.refused(),
+        Err(failure) => return Err(failure),
+    }
+    tally.write(io::stdout().lock()).map_err(|_| Failure::Write)
+}
+
 /// Runs the trace that the command line names.
 fn run() -> Result<(), Failure> {
-    let (name, quiet) = command().ok_or(Failure::Usage)?;
-    let trace = trace(&name)?;
-    let written = if quiet { count(&trace) } else { report(&trace) };
+    let (name, told) = command().ok_or(Failure::Usage)?;
+    let trace = trace(&name);
+    let written = match told {
+        Told::Report => report(&trace?),
+        Told::Mapped => count(&trace?),
+        Told::Counts => return tally(trace),
+    };
     written.map_err(|_| Failure::Write)
 }
 

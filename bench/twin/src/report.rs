@@ -122,7 +122,7 @@ impl Text<'_> {
         match &answer.outcome {
             Ok(mapping) => self.mapped(mapping),
             Err(fault) if fault.class == Class::Conflict => {
-                self.conflict(answer.second.items(), *fault);
+                self.conflict(answer.met.second.items(), *fault);
             }
             Err(fault) => self.fault(*fault),
         }

@@ -86,6 +86,8 @@ pub struct Met {
     served: Vec<Service>,
     made: Vec<NewRow>,
     pub second: Trail,
+    /// The kind of the rows of the last conflict.
+    pub conflict: RowKind,
 }
 
 /// The rows that match an address: of several the two that were made first.
@@ -108,7 +110,8 @@ const MOST_SERVED: usize = 6;
 
 impl RowKind {
     /// All kinds, in the order of their numbers.
-    const ALL: [RowKind; 4] = [RowKind::Leaf1, RowKind::Table1, RowKind::Leaf2, RowKind::Table2];
+    pub const ALL: [RowKind; 4] =
+        [RowKind::Leaf1, RowKind::Table1, RowKind::Leaf2, RowKind::Table2];
 
     /// Whether it is of stage 1.
     pub fn is_stage1(self) -> bool {
@@ -150,6 +153,7 @@ impl Met {
             served: Vec::with_capacity(MOST_SERVED),
             made: Vec::with_capacity(MOST_MADE),
             second: Trail::new(),
+            conflict: RowKind::Leaf1,
         }
     }
 
@@ -168,6 +172,11 @@ impl Met {
     /// Notes a row that is to be made.
     pub fn make(&mut self, row: NewRow) {
         self.made.push(row);
+    }
+
+    /// The kinds of the rows that served.
+    pub fn services(&self) -> impl Iterator<Item = RowKind> + '_ {
+        self.served.iter().map(|service| service.kind)
     }
 
     /// Whether a row served.
@@ -208,6 +217,11 @@ impl Row {
             slot: NO_SLOT,
             len: 0,
         }
+    }
+
+    /// What it is of.
+    pub fn kind(&self) -> RowKind {
+        self.kind
     }
 
     /// Whether it is of this region and matches a key.
@@ -295,6 +309,14 @@ impl Chooser {
     }
 }
 
+/// How many rows of a kind came, had to leave a full set, and were removed by invalidations.
+#[derive(Clone, Copy, Default)]
+pub struct Changes {
+    pub came: u64,
+    pub evicted: u64,
+    pub removed: u64,
+}
+
 /// The rows of a kind. Those of a set stand in the order of rank, and behind them places without a
 /// row, which keep their slots.
 struct Cache {
@@ -308,6 +330,7 @@ struct Cache {
     counts: [u16; 64],
     classes: u64,
     pieces: usize,
+    changes: Changes,
 }
 
 impl Cache {
@@ -322,6 +345,7 @@ impl Cache {
             counts: [0; 64],
             classes: 0,
             pieces: 0,
+            changes: Changes::default(),
         }
     }
 
@@ -430,8 +454,10 @@ impl Cache {
         let is_full = self.lens[set] as usize == self.ways;
         if is_full {
             self.remove(set, chooser.victim(self.ways));
+            self.changes.evicted += 1;
         }
         self.push(set, row, items);
+        self.changes.came += 1;
         is_full
     }
 
@@ -440,6 +466,7 @@ impl Cache {
         for way in (0..self.lens[set] as usize).rev() {
             if self.rows[set * self.ways + way].is_covered(invalidation) {
                 self.remove(set, way);
+                self.changes.removed += 1;
             }
         }
     }
@@ -487,6 +514,11 @@ impl Rows {
     /// The items of a row.
     pub fn items(&self, row: &Row) -> &[Item] {
         self.caches[row.kind as usize].items(row)
+    }
+
+    /// What became of the rows of each kind until now.
+    pub fn changes(&self) -> impl Iterator<Item = (RowKind, Changes)> + '_ {
+        self.caches.iter().map(|cache| (cache.kind, cache.changes))
     }
 
     /// The step of an access ends: under `lru` the rows that served go last, and then rows are

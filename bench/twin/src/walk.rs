@@ -351,6 +351,7 @@ impl<'a, const ROWS: bool> Walk<'a, ROWS> {
 
     /// Two rows match: the trail ends with the one, and the second trail with the other.
     fn conflict(&mut self, rows: &Rows, one: &Row, two: &Row) -> Fault {
+        self.met.conflict = one.kind();
         self.met.second.extend(self.trail.items());
         self.met.second.extend(rows.items(two));
         self.trail.extend(rows.items(one));
